@@ -1,0 +1,6 @@
+pub mod Numbers
+pub mod Refill
+pub mod Stop
+pub mod Traps
+pub mod Words
+pub mod formers

@@ -1,0 +1,28 @@
+//! What every other crate stands on: lists, boxes, names and bytes that contracts see as what they
+//! hold, the refusal of a text, and the kinds of integers.
+#![tactic(auto)]
+
+mod boxed;
+mod kinds;
+mod list;
+mod name;
+mod numbers;
+mod refusal;
+mod stack;
+#[cfg(test)]
+mod tests;
+mod trap;
+mod words;
+
+pub use boxed::Boxed;
+pub use kinds::{ArithOp, Base, IntKind, Suffix, constant_kind, promote, usual};
+pub use list::{List, MOST};
+pub use name::Name;
+pub use numbers::{arith, convert};
+pub use refusal::{Memory, ReadStop, Refusal};
+pub use stack::Stack;
+pub use trap::Trap;
+pub use words::{is_digit, is_keyword, is_known, is_letter, is_word, is_word_byte};
+
+/// Bytes that contracts see as the list of their values.
+pub type Bytes = List<u8>;
