@@ -1,0 +1,49 @@
+-- What the memory ports hold.
+use Rattle.std.specs.Prelude.{ℕ, List, refl}
+use Rattle.std.specs.FinMap as map
+use Rattle.std.specs.Coded.{Coded, code_by, coded×, coded_list, coded_ℕ}
+use Rattle.rg_ports.specs.Calls.{Calls, calls_code}
+use Rattle.rg_ports.specs.Files.{Files}
+
+pub record MemorySource : Type 0 where
+  -- the bytes left
+  pub rest : List ℕ
+  pub calls : Calls
+  -- the number of failed calls
+  pub faults : ℕ
+
+pub record MemorySink : Type 0 where
+  -- the bytes written
+  pub written : List ℕ
+  -- how many further bytes there is room for
+  pub room : ℕ
+  pub calls : Calls
+  -- the number of failed calls
+  pub faults : ℕ
+
+pub record MemoryShelf : Type 0 where
+  pub files : Files
+  -- of reads and writes together
+  pub calls : Calls
+  -- the number of failed reads
+  pub read_faults : ℕ
+  -- the number of failed writes
+  pub write_faults : ℕ
+
+abbrev pub source_code : Coded MemorySource
+source_code = code_by (List ℕ × (Calls × ℕ))
+    (coded× (coded_list coded_ℕ) (coded× calls_code coded_ℕ))
+    (λ s. (s.rest, (s.calls, s.faults)))
+    (λ p. record { rest = p.0; calls = p.1.0; faults = p.1.1 }) (λ _. refl)
+
+abbrev pub sink_code : Coded MemorySink
+sink_code = code_by (List ℕ × (ℕ × (Calls × ℕ)))
+    (coded× (coded_list coded_ℕ) (coded× coded_ℕ (coded× calls_code coded_ℕ)))
+    (λ s. (s.written, (s.room, (s.calls, s.faults))))
+    (λ p. record { written = p.0; room = p.1.0; calls = p.1.1.0; faults = p.1.1.1 }) (λ _. refl)
+
+abbrev pub shelf_code : Coded MemoryShelf
+shelf_code = code_by (Files × (Calls × (ℕ × ℕ)))
+    (coded× (map.code (coded_list coded_ℕ) (coded_list coded_ℕ)) (coded× calls_code (coded× coded_ℕ coded_ℕ)))
+    (λ s. (s.files, (s.calls, (s.read_faults, s.write_faults))))
+    (λ p. record { files = p.0; calls = p.1.0; read_faults = p.1.1.0; write_faults = p.1.1.1 }) (λ _. refl)
