@@ -1,0 +1,13 @@
+pub mod PathLemmas
+pub mod TreeLaws
+pub mod ExpressionLaws
+pub mod ExchangeLemmas
+pub mod RuleLaws
+mod Tried
+pub mod ChangeLemmas
+pub mod MoveLemmas
+pub mod CrossLemmas
+pub mod RuleChanges
+pub mod KeptLemmas
+pub mod ExitsKept
+pub mod WellMoved
