@@ -1,0 +1,12 @@
+pub mod Bounds
+pub mod Fronts
+pub mod Growth
+pub mod Later
+pub mod MarkLemmas
+pub mod NumberLemmas
+pub mod Order
+pub mod PieceLemmas
+pub mod Reading
+pub mod ScanLemmas
+pub mod Theorem
+pub mod Whole

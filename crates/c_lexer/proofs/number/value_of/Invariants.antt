@@ -1,0 +1,7 @@
+use Rattle.std.proofs.Common.{◌≡◌, drop}
+use Rattle.c_lexer.specs.Numbers as numbers
+use Rattle.c_lexer.proofs.number.value_of.Given as goal
+
+-- the value so far, with the digits that are left, is that of all
+abbrev pub invariant-loop-digit : goal.invariant-loop-digit
+invariant-loop-digit l = numbers.value_from (numbers.radix l.base) l.value (drop l.digit-index l.digits) ≡ numbers.value_from (numbers.radix l.base) 0 l.digits

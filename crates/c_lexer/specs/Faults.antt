@@ -1,0 +1,43 @@
+-- The first lexical fault of a text, and its place.
+use Rattle.std.specs.Prelude.{◌≡◌, ◌+◌, ℕ, Bool, true, false, cond, not, ◌&&◌, ◌||◌, ◌==◌, List, [], ◌∷◌, take, count_by}
+use Rattle.std.specs.List.{suffix_len}
+use Rattle.c_types.specs.declared.refusal.Refusal.{Refusal}
+use Rattle.c_types.specs.Words.{is_digit}
+use Rattle.c_lexer.specs.Bytes.{is_newline}
+use Rattle.c_lexer.specs.Pieces.{Piece, spelled, text, Fits, Longest, Good, first_behind_all, behind_all}
+
+-- lines and columns are counted from 1, lines by newlines and columns by bytes
+abbrev pub line_of : List ℕ → ℕ
+line_of before = 1 + count_by is_newline before
+
+abbrev pub column_of : List ℕ → ℕ
+column_of before = 1 + suffix_len (λ b. not (is_newline b)) before
+
+abbrev pub refusal_of : ℕ → List ℕ → ℕ → Refusal
+refusal_of reason t at = record { reason = reason; line = line_of (take at t); column = column_of (take at t); at = at }
+
+abbrev pub begins_star : List ℕ → Bool
+begins_star [] = false
+begins_star (b ∷ _) = b == 42
+
+-- why no piece begins with this byte, in front of these
+abbrev pub reason_of : Bool → ℕ → List ℕ → ℕ
+reason_of first b r =
+    cond (b == 47 && begins_star r) 3
+    (cond (b == 39 || b == 34) 4
+    (cond (is_digit b) 5
+    (cond (b == 35 && first) 6 2)))
+
+-- no piece begins these bytes
+abbrev pub HasNoPiece : Bool → List ℕ → Type 0
+HasNoPiece first t = (p : Piece) (r : List ℕ) → t ≡ spelled p r → Fits first p → Longest p r → ⊥
+
+-- pieces reach up to a byte at which none begins
+pub record IsFirstFault (t : List ℕ) (fault : Refusal) : Type 0 where
+  pub pieces : List Piece
+  pub byte : ℕ
+  pub rest : List ℕ
+  pub spells : t ≡ text pieces (byte ∷ rest)
+  pub good : Good true pieces (byte ∷ rest)
+  pub stuck : HasNoPiece (first_behind_all true pieces) (byte ∷ rest)
+  pub refusal : fault ≡ refusal_of (reason_of (first_behind_all true pieces) byte rest) t (behind_all pieces 0)

@@ -1,0 +1,162 @@
+-- What each byte does to the state of reading.
+use Rattle.std.specs.Prelude.{◌+◌, ◌*◌, ◌≤◌, ℕ, Bool, true, false, cond, ◌&&◌, ◌||◌, ◌==◌, nat_le, List, [], ◌∷◌, ◌++◌, Option, Some, None, is_some, slice_range}
+use Rattle.c_lexer.specs.declared.mark.Mark.{Mark}
+use Rattle.c_lexer.specs.declared.mark.Mark.TheVariants.{Ellipsis}
+use Rattle.c_lexer.specs.declared.token.TokenKind.{TokenKind}
+use Rattle.c_lexer.specs.declared.token.TokenKind.TheVariants as k
+use Rattle.c_lexer.specs.declared.token.Token.{Token}
+use Rattle.c_lexer.specs.declared.token.Span.{Span}
+use Rattle.c_lexer.specs.declared.state.State.{State}
+use Rattle.c_lexer.specs.declared.state.State.TheVariants.{Between, InWord, InNumber, InMark, Dots, CharOpened, CharEscape, CharHeld, InText, TextEscape, InDirective, InComment, InLine}
+use Rattle.c_lexer.specs.declared.state.Escape.{Escape}
+use Rattle.c_lexer.specs.declared.state.Escape.TheVariants.{Backslash, OneOctal, TwoOctal, HexadecimalStart, InHexadecimal}
+use Rattle.c_lexer.specs.declared.state.Progress.{Progress}
+use Rattle.c_lexer.specs.declared.state.Progress.TheVariants.{More, Whole, Over, Wrong}
+use Rattle.c_lexer.specs.declared.state.Ended.{Ended}
+use Rattle.c_lexer.specs.declared.state.Ended.TheVariants as ends
+use Rattle.c_lexer.specs.declared.state.Taken.{Taken}
+use Rattle.c_lexer.specs.declared.state.Taken.TheVariants.{Go, Fault}
+use Rattle.c_types.specs.Words.{is_letter, is_digit, is_word_byte}
+use Rattle.c_lexer.specs.Bytes.{is_space, is_newline, is_octal_digit, is_hexadecimal_digit, is_power, is_run_byte, is_simple_escape, is_character_byte, digit_value}
+use Rattle.c_lexer.specs.Numbers.{integer_of}
+use Rattle.c_lexer.specs.Characters.{three_digits}
+use Rattle.c_lexer.specs.Marks.{mark_at, longer, is_slash, is_dot}
+use Rattle.c_lexer.specs.Pieces.{token, span, word_kind, is_include}
+
+abbrev pub of_mark : Option Mark → Ended → ℕ → Taken
+of_mark (Some m) ended at = Go (InMark at m) ended
+of_mark None ended at = Fault 2 at
+
+-- a byte that begins something, behind what it ended
+abbrev pub begin : Bool → Ended → ℕ → ℕ → Taken
+begin first ended b at =
+    cond (is_space b) (Go (Between (is_newline b || first)) ended)
+    (cond (is_letter b) (Go (InWord at) ended)
+    (cond (is_digit b) (Go (InNumber at false) ended)
+    (cond (b == 39) (Go (CharOpened at) ended)
+    (cond (b == 34) (Go (InText at) ended)
+    (cond (b == 35) (cond first (Go (InDirective at (at + 1)) ended) (Fault 2 at))
+    (of_mark (mark_at b) ended at))))))
+
+abbrev pub found : TokenKind → ℕ → ℕ → Ended
+found kind start end = ends.Token (token kind start end)
+
+abbrev pub mark : ℕ → ℕ → Token
+mark start end = token k.Mark start end
+
+abbrev pub word : List ℕ → ℕ → ℕ → Ended
+word t start end = found (word_kind (slice_range t start end)) start end
+
+abbrev pub after_mark : ℕ → Option Mark → ℕ → ℕ → Taken
+after_mark start (Some n) b at = Go (InMark start n) ends.Nothing
+after_mark start None b at = begin false (found k.Mark start at) b at
+
+abbrev pub in_mark : ℕ → Mark → ℕ → ℕ → Taken
+in_mark start m b at =
+    cond (is_slash m && b == 42) (Go (InComment start false) ends.Nothing)
+    (cond (is_slash m && b == 47) (Go (InLine start (at + 1)) ends.Nothing)
+    (cond (is_dot m && b == 46) (Go (Dots start) ends.Nothing)
+    (after_mark start (longer m b) b at)))
+
+-- what a byte does to an escape: it goes on, is whole with the byte, was whole before it, or is none
+abbrev pub escape_step : Escape → ℕ → Progress
+escape_step Backslash b = cond (is_simple_escape b) Whole (cond (is_octal_digit b) (More (OneOctal b)) (cond (b == 120) (More HexadecimalStart) Wrong))
+escape_step (OneOctal a) b = cond (is_octal_digit b) (More (TwoOctal a b)) Over
+escape_step (TwoOctal a b) c = cond (is_octal_digit c) (cond (nat_le (three_digits a b c) 255) Whole Wrong) Over
+escape_step HexadecimalStart b = cond (is_hexadecimal_digit b) (More (InHexadecimal (digit_value b))) Wrong
+escape_step (InHexadecimal v) b = cond (is_hexadecimal_digit b) (cond (nat_le (v * 16 + digit_value b) 255) (More (InHexadecimal (v * 16 + digit_value b))) Wrong) Over
+
+abbrev pub char_held : ℕ → ℕ → ℕ → Taken
+char_held start b at = cond (b == 39) (Go (Between false) (found k.Char start (at + 1))) (Fault 4 start)
+
+abbrev pub char_escape : ℕ → Progress → ℕ → ℕ → Taken
+char_escape start (More e) b at = Go (CharEscape start e) ends.Nothing
+char_escape start Whole b at = Go (CharHeld start) ends.Nothing
+char_escape start Over b at = char_held start b at
+char_escape start Wrong b at = Fault 4 start
+
+abbrev pub in_text : ℕ → ℕ → ℕ → Taken
+in_text start b at =
+    cond (b == 34) (Go (Between false) (found k.Text start (at + 1)))
+    (cond (b == 92) (Go (TextEscape start Backslash) ends.Nothing)
+    (cond (b == 10) (Fault 4 start) (Go (InText start) ends.Nothing)))
+
+abbrev pub text_escape : ℕ → Progress → ℕ → ℕ → Taken
+text_escape start (More e) b at = Go (TextEscape start e) ends.Nothing
+text_escape start Whole b at = Go (InText start) ends.Nothing
+text_escape start Over b at = in_text start b at
+text_escape start Wrong b at = Fault 4 start
+
+-- where a line ends that goes on with this byte, without the carriage returns at its end
+abbrev pub line_end : ℕ → ℕ → ℕ → ℕ
+line_end end b at = cond (b == 13) end (at + 1)
+
+abbrev pub step : List ℕ → State → ℕ → ℕ → Taken
+step t (Between first) b at = begin first ends.Nothing b at
+step t (InWord start) b at = cond (is_word_byte b) (Go (InWord start) ends.Nothing) (begin false (word t start at) b at)
+step t (InNumber start power) b at =
+    cond (is_run_byte power b) (Go (InNumber start (is_power b)) ends.Nothing)
+    (cond (is_some (integer_of (slice_range t start at))) (begin false (found k.Number start at) b at) (Fault 5 start))
+step t (InMark start m) b at = in_mark start m b at
+step t (Dots start) b at = cond (b == 46) (Go (InMark start Ellipsis) ends.Nothing) (begin false (ends.Dots (mark start (start + 1)) (mark (start + 1) at)) b at)
+step t (CharOpened start) b at =
+    cond (b == 92) (Go (CharEscape start Backslash) ends.Nothing)
+    (cond (is_character_byte b) (Go (CharHeld start) ends.Nothing) (Fault 4 start))
+step t (CharEscape start e) b at = char_escape start (escape_step e b) b at
+step t (CharHeld start) b at = char_held start b at
+step t (InText start) b at = in_text start b at
+step t (TextEscape start e) b at = text_escape start (escape_step e b) b at
+step t (InDirective start end) b at =
+    cond (b == 10) (cond (is_include (slice_range t (start + 1) at)) (Go (Between true) (found k.Directive start end)) (Fault 6 start))
+    (Go (InDirective start (line_end end b at)) ends.Nothing)
+step t (InComment start star) b at =
+    cond (star && b == 47) (Go (Between false) (ends.Comment (span start (at + 1)))) (Go (InComment start (b == 42)) ends.Nothing)
+step t (InLine start end) b at = cond (b == 10) (Go (Between true) (ends.Comment (span start end))) (Go (InLine start (line_end end b at)) ends.Nothing)
+
+-- the least place at which a state can stand: behind the first byte of a directive or of two dots, else from its first byte on
+abbrev pub least : State → ℕ
+least (Between first) = 0
+least (InWord start) = start
+least (InNumber start power) = start
+least (InMark start m) = start
+least (Dots start) = start + 1
+least (CharOpened start) = start
+least (CharEscape start e) = start
+least (CharHeld start) = start
+least (InText start) = start
+least (TextEscape start e) = start
+least (InDirective start end) = start + 1
+least (InComment start star) = start
+least (InLine start end) = start
+
+-- a step keeps the state at or before the byte behind it, and no fault lies behind its byte
+abbrev pub KeepsOrder : ℕ → Taken → Type 0
+KeepsOrder at (Go s ended) = least s ≤ at + 1
+KeepsOrder at (Fault reason place) = place ≤ at
+
+-- the end of the text ends what a newline would end, and no comment
+abbrev pub finish : List ℕ → State → ℕ → Taken
+finish t (InComment start star) at = Fault 3 start
+finish t s at = step t s 10 at
+
+abbrev pub add_token : Ended → List Token → List Token
+add_token (ends.Token found) out = out ++ found ∷ []
+add_token (ends.Dots first second) out = (out ++ first ∷ []) ++ second ∷ []
+add_token _ out = out
+
+abbrev pub add_comment : Ended → List Span → List Span
+add_comment (ends.Comment found) out = out ++ found ∷ []
+add_comment _ out = out
+
+-- what reading gives: all of it, or a reason and a place
+pub data Lexed (X : Type 0) : Type 0 where
+  Read : List X → Lexed X
+  Faulty : ℕ → ℕ → Lexed X
+
+abbrev pub go_on : {X : Type 0} → (Ended → List X → List X) → Taken → List X → (State → List X → Lexed X) → Lexed X
+go_on add (Go s ended) out f = f s (add ended out)
+go_on add (Fault reason place) out f = Faulty reason place
+
+abbrev pub run : {X : Type 0} → (Ended → List X → List X) → List ℕ → State → ℕ → List X → List ℕ → Lexed X
+run add t s at out [] = go_on add (finish t s at) out (λ z more. Read more)
+run add t s at out (b ∷ bs) = go_on add (step t s b at) out (λ z more. run add t z (at + 1) more bs)

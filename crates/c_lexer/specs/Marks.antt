@@ -1,0 +1,106 @@
+-- The marks, and how a mark grows by a byte.
+use Rattle.std.specs.Prelude.{ℕ, Bool, true, false, cond, ◌==◌, List, Option, Some, None, codes}
+use Rattle.c_lexer.specs.declared.mark.Mark.{Mark}
+use Rattle.c_lexer.specs.declared.mark.Mark.TheVariants.{OpenBracket, CloseBracket, OpenParenthesis, CloseParenthesis, OpenBrace, CloseBrace, Dot, Arrow, PlusPlus, MinusMinus, Ampersand, Star, Plus, Minus, Tilde, Exclamation, Slash, Percent, ShiftLeft, ShiftRight, Less, Greater, LessEquals, GreaterEquals, EqualsEquals, ExclamationEquals, Caret, Bar, AmpersandAmpersand, BarBar, Question, Colon, Semicolon, Ellipsis, Equals, StarEquals, SlashEquals, PercentEquals, PlusEquals, MinusEquals, ShiftLeftEquals, ShiftRightEquals, AmpersandEquals, CaretEquals, BarEquals, Comma}
+
+abbrev pub mark_text : Mark → List ℕ
+mark_text OpenBracket = codes "["
+mark_text CloseBracket = codes "]"
+mark_text OpenParenthesis = codes "("
+mark_text CloseParenthesis = codes ")"
+mark_text OpenBrace = codes "{"
+mark_text CloseBrace = codes "}"
+mark_text Dot = codes "."
+mark_text Arrow = codes "->"
+mark_text PlusPlus = codes "++"
+mark_text MinusMinus = codes "--"
+mark_text Ampersand = codes "&"
+mark_text Star = codes "*"
+mark_text Plus = codes "+"
+mark_text Minus = codes "-"
+mark_text Tilde = codes "~"
+mark_text Exclamation = codes "!"
+mark_text Slash = codes "/"
+mark_text Percent = codes "%"
+mark_text ShiftLeft = codes "<<"
+mark_text ShiftRight = codes ">>"
+mark_text Less = codes "<"
+mark_text Greater = codes ">"
+mark_text LessEquals = codes "<="
+mark_text GreaterEquals = codes ">="
+mark_text EqualsEquals = codes "=="
+mark_text ExclamationEquals = codes "!="
+mark_text Caret = codes "^"
+mark_text Bar = codes "|"
+mark_text AmpersandAmpersand = codes "&&"
+mark_text BarBar = codes "||"
+mark_text Question = codes "?"
+mark_text Colon = codes ":"
+mark_text Semicolon = codes ";"
+mark_text Ellipsis = codes "..."
+mark_text Equals = codes "="
+mark_text StarEquals = codes "*="
+mark_text SlashEquals = codes "/="
+mark_text PercentEquals = codes "%="
+mark_text PlusEquals = codes "+="
+mark_text MinusEquals = codes "-="
+mark_text ShiftLeftEquals = codes "<<="
+mark_text ShiftRightEquals = codes ">>="
+mark_text AmpersandEquals = codes "&="
+mark_text CaretEquals = codes "^="
+mark_text BarEquals = codes "|="
+mark_text Comma = codes ","
+
+-- the mark that is this byte alone
+abbrev pub mark_at : ℕ → Option Mark
+mark_at b =
+    cond (b == 91) (Some OpenBracket) (
+    cond (b == 93) (Some CloseBracket) (
+    cond (b == 40) (Some OpenParenthesis) (
+    cond (b == 41) (Some CloseParenthesis) (
+    cond (b == 123) (Some OpenBrace) (
+    cond (b == 125) (Some CloseBrace) (
+    cond (b == 46) (Some Dot) (
+    cond (b == 38) (Some Ampersand) (
+    cond (b == 42) (Some Star) (
+    cond (b == 43) (Some Plus) (
+    cond (b == 45) (Some Minus) (
+    cond (b == 126) (Some Tilde) (
+    cond (b == 33) (Some Exclamation) (
+    cond (b == 47) (Some Slash) (
+    cond (b == 37) (Some Percent) (
+    cond (b == 60) (Some Less) (
+    cond (b == 62) (Some Greater) (
+    cond (b == 94) (Some Caret) (
+    cond (b == 124) (Some Bar) (
+    cond (b == 63) (Some Question) (
+    cond (b == 58) (Some Colon) (
+    cond (b == 59) (Some Semicolon) (
+    cond (b == 61) (Some Equals) (
+    cond (b == 44) (Some Comma) None)))))))))))))))))))))))
+
+-- the mark with this byte behind it; `...` is no mark and a byte, as `..` is none
+abbrev pub longer : Mark → ℕ → Option Mark
+longer Ampersand b = cond (b == 38) (Some AmpersandAmpersand) (cond (b == 61) (Some AmpersandEquals) None)
+longer Star b = cond (b == 61) (Some StarEquals) None
+longer Plus b = cond (b == 43) (Some PlusPlus) (cond (b == 61) (Some PlusEquals) None)
+longer Minus b = cond (b == 62) (Some Arrow) (cond (b == 45) (Some MinusMinus) (cond (b == 61) (Some MinusEquals) None))
+longer Exclamation b = cond (b == 61) (Some ExclamationEquals) None
+longer Slash b = cond (b == 61) (Some SlashEquals) None
+longer Percent b = cond (b == 61) (Some PercentEquals) None
+longer ShiftLeft b = cond (b == 61) (Some ShiftLeftEquals) None
+longer ShiftRight b = cond (b == 61) (Some ShiftRightEquals) None
+longer Less b = cond (b == 60) (Some ShiftLeft) (cond (b == 61) (Some LessEquals) None)
+longer Greater b = cond (b == 62) (Some ShiftRight) (cond (b == 61) (Some GreaterEquals) None)
+longer Caret b = cond (b == 61) (Some CaretEquals) None
+longer Bar b = cond (b == 124) (Some BarBar) (cond (b == 61) (Some BarEquals) None)
+longer Equals b = cond (b == 61) (Some EqualsEquals) None
+longer _ b = None
+
+abbrev pub is_slash : Mark → Bool
+is_slash Slash = true
+is_slash _ = false
+
+abbrev pub is_dot : Mark → Bool
+is_dot Dot = true
+is_dot _ = false

@@ -1,0 +1,164 @@
+-- A text as a list of pieces: white space, comments and tokens, each the longest at its byte.
+use Rattle.std.specs.Prelude.{◌≡◌, ◌<◌, ◌≤◌, ◌+◌, ℕ, Bool, true, false, cond, not, ◌&&◌, ◌||◌, ◌==◌, List, [], ◌∷◌, ◌++◌, length, drop, codes, slice_index, nat_eq, is_some}
+use Rattle.std.specs.List.{list_all, prefix_len, starts_with}
+use Rattle.c_lexer.specs.declared.mark.Mark.{Mark}
+use Rattle.c_lexer.specs.declared.mark.Mark.TheVariants.{Slash}
+use Rattle.c_lexer.specs.declared.token.TokenKind.{TokenKind}
+use Rattle.c_lexer.specs.declared.token.TokenKind.TheVariants as k
+use Rattle.c_lexer.specs.declared.token.Token.{Token}
+use Rattle.c_lexer.specs.declared.token.Span.{Span}
+use Rattle.c_types.specs.Words.{is_word, is_word_byte, is_keyword}
+use Rattle.c_lexer.specs.Bytes.{is_space, is_blank, is_newline, is_run_byte, is_text_byte, is_character_byte, NotFirst}
+use Rattle.c_lexer.specs.Numbers.{is_run, ends_with_power, integer_of}
+use Rattle.c_lexer.specs.Characters.{Character, written, written_all, IsCharacter, AreCharacters}
+use Rattle.c_lexer.specs.Marks.{mark_text}
+
+pub data Piece : Type 0 where
+  Space : ℕ → Piece
+  -- a name or a keyword
+  Word : List ℕ → Piece
+  Number : List ℕ → Piece
+  Char : Character → Piece
+  Text : List Character → Piece
+  Sign : Mark → Piece
+  -- behind its `#`, to the end of the line, with the carriage returns there, which its token leaves out
+  Directive : List ℕ → Piece
+  -- behind its `//`, likewise
+  Line : List ℕ → Piece
+  -- behind its `/*`, to the first `*/`
+  Block : List ℕ → Piece
+
+-- the bytes of a piece, and then these
+abbrev pub spelled : Piece → List ℕ → List ℕ
+spelled (Space b) r = b ∷ r
+spelled (Word w) r = w ++ r
+spelled (Number w) r = w ++ r
+spelled (Char c) r = 39 ∷ written c (39 ∷ r)
+spelled (Text cs) r = 34 ∷ written_all cs (34 ∷ r)
+spelled (Sign m) r = mark_text m ++ r
+spelled (Directive w) r = 35 ∷ w ++ r
+spelled (Line w) r = 47 ∷ 47 ∷ w ++ r
+spelled (Block w) r = 47 ∷ 42 ∷ w ++ r
+
+abbrev pub text : List Piece → List ℕ → List ℕ
+text [] r = r
+text (p ∷ ps) r = spelled p (text ps r)
+
+-- the first `*/` is at the end; the flag says that a `*` stands directly before these bytes
+abbrev pub closes : Bool → List ℕ → Bool
+closes star [] = false
+closes star (b ∷ []) = star && b == 47
+closes star (b ∷ c ∷ w) = not (star && b == 47) && closes (b == 42) (c ∷ w)
+
+-- the word `include`, which no letter, digit or `_` follows
+abbrev pub begins_with_include : List ℕ → Bool
+begins_with_include w = starts_with nat_eq w (codes "include") && not (is_word_byte (slice_index w 7))
+
+-- behind a `#`: spaces or tabs, possibly none, and then that word
+abbrev pub is_include : List ℕ → Bool
+is_include w = begins_with_include (drop (prefix_len is_blank w) w)
+
+abbrev pub has_no_newline : List ℕ → Bool
+has_no_newline w = list_all (λ b. not (is_newline b)) w
+
+-- what a piece is; `first` says that nothing but white space stands before it on its line
+abbrev pub Fits : Bool → Piece → Type 0
+Fits first (Space b) = is_space b ≡ true
+Fits first (Word w) = is_word w ≡ true
+Fits first (Number w) = (is_run w ≡ true) × (is_some (integer_of w) ≡ true)
+Fits first (Char c) = IsCharacter is_character_byte c
+Fits first (Text cs) = AreCharacters is_text_byte cs (34 ∷ [])
+Fits first (Sign m) = Unit {0}
+Fits first (Directive w) = (first ≡ true) × (has_no_newline w ≡ true) × (is_include w ≡ true)
+Fits first (Line w) = has_no_newline w ≡ true
+Fits first (Block w) = closes false w ≡ true
+
+-- the text begins with these bytes
+abbrev pub Begins : List ℕ → List ℕ → Type 0
+Begins w t = (r : List ℕ) × (t ≡ w ++ r)
+
+-- the piece is the longest there: it ends where no byte goes on with it
+abbrev pub Longest : Piece → List ℕ → Type 0
+Longest (Word w) r = NotFirst is_word_byte r
+Longest (Number w) r = NotFirst (is_run_byte (ends_with_power false w)) r
+Longest (Sign m) r = ((n : Mark) → Begins (mark_text n) (mark_text m ++ r) → length (mark_text n) ≤ length (mark_text m)) × (m ≡ Slash → NotFirst (λ b. b == 42 || b == 47) r)
+Longest (Directive w) r = NotFirst (λ b. not (is_newline b)) r
+Longest (Line w) r = NotFirst (λ b. not (is_newline b)) r
+Longest _ r = Unit {0}
+
+-- behind a piece, whether nothing but white space stands before on the line
+abbrev pub first_behind : Bool → Piece → Bool
+first_behind first (Space b) = is_newline b || first
+first_behind first _ = false
+
+abbrev pub first_behind_all : Bool → List Piece → Bool
+first_behind_all first [] = first
+first_behind_all first (p ∷ ps) = first_behind_all (first_behind first p) ps
+
+-- these are pieces, each the longest at its byte, in front of these bytes
+abbrev pub Good : Bool → List Piece → List ℕ → Type 0
+Good first [] r = Unit {0}
+Good first (p ∷ ps) r = Fits first p × Longest p (text ps r) × Good (first_behind first p) ps r
+
+-- the text is these pieces
+pub record Spells (pieces : List Piece) (t : List ℕ) : Type 0 where
+  pub spells : t ≡ text pieces []
+  pub good : Good true pieces []
+
+-- the place behind a piece that begins at this one
+abbrev pub behind : Piece → ℕ → ℕ
+behind p at = at + length (spelled p [])
+
+abbrev pub behind_all : List Piece → ℕ → ℕ
+behind_all [] at = at
+behind_all (p ∷ ps) at = behind_all ps (behind p at)
+
+-- a byte in front of a line, but for a carriage return in front of none
+abbrev pub onto_bare : ℕ → List ℕ → List ℕ
+onto_bare b [] = cond (b == 13) [] (b ∷ [])
+onto_bare b (c ∷ w) = b ∷ c ∷ w
+
+-- a line without the carriage returns at its end
+abbrev pub bare : List ℕ → List ℕ
+bare [] = []
+bare (b ∷ w) = onto_bare b (bare w)
+
+abbrev pub word_kind : List ℕ → TokenKind
+word_kind w = cond (is_keyword w) k.Keyword k.Name
+
+abbrev pub token : TokenKind → ℕ → ℕ → Token
+token kind start end = record { kind = kind; start = start; end = end }
+
+abbrev pub span : ℕ → ℕ → Span
+span start end = record { start = start; end = end }
+
+-- the token that a piece is, if it is one
+abbrev pub token_of : Piece → ℕ → List Token
+token_of (Word w) at = token (word_kind w) at (behind (Word w) at) ∷ []
+token_of (Number w) at = token k.Number at (behind (Number w) at) ∷ []
+token_of (Char c) at = token k.Char at (behind (Char c) at) ∷ []
+token_of (Text cs) at = token k.Text at (behind (Text cs) at) ∷ []
+token_of (Sign m) at = token k.Mark at (behind (Sign m) at) ∷ []
+token_of (Directive w) at = token k.Directive at (at + 1 + length (bare w)) ∷ []
+token_of _ at = []
+
+-- the comment that a piece is, if it is one
+abbrev pub comment_of : Piece → ℕ → List Span
+comment_of (Line w) at = span at (at + 1 + 1 + length (bare w)) ∷ []
+comment_of (Block w) at = span at (behind (Block w) at) ∷ []
+comment_of _ at = []
+
+-- what each piece gives, in order
+abbrev pub all_of : {X : Type 0} → (Piece → ℕ → List X) → List Piece → ℕ → List X
+all_of f [] at = []
+all_of f (p ∷ ps) at = f p at ++ all_of f ps (behind p at)
+
+abbrev pub tokens_of : List Piece → List Token
+tokens_of ps = all_of token_of ps 0
+
+abbrev pub comments_of : List Piece → List Span
+comments_of ps = all_of comment_of ps 0
+
+-- these places are of a byte at least in the text
+abbrev pub IsWithin : List ℕ → ℕ → ℕ → Type 0
+IsWithin t start end = (start < end) × (end ≤ length t)

@@ -1,0 +1,26 @@
+//! The tokens and the comments of a text (ISO/IEC 9899:2011, 6.4), or its first lexical fault.
+//!
+//! A text is a list of pieces: white space, comments and tokens, each the longest at its byte. One
+//! pass, a byte at a time, with a state and no copy of the text.
+#![tactic(auto)]
+
+mod byte;
+mod directive;
+mod mark;
+mod number;
+mod place;
+mod read;
+mod scan;
+mod state;
+mod step;
+#[cfg(test)]
+mod tests;
+mod token;
+mod word;
+
+pub use mark::Mark;
+pub use number::{Integer, integer_constant};
+pub use place::refusal_at;
+pub use read::{comments, tokens};
+pub use token::{Span, Token, TokenKind};
+pub use word::is_name;

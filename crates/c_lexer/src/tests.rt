@@ -1,0 +1,105 @@
+//! Tokens, comments and places that an independent model of the lexer gave.
+use super::*;
+use TokenKind::*;
+use c_types::{IntKind, ReadStop, Refusal};
+use std::test::Fail;
+
+fn token(kind: TokenKind, start: u64, end: u64) -> Token {
+    Token { kind, start, end }
+}
+
+fn refused(reason: u32, line: u64, column: u64, at: u64) -> ReadStop {
+    ReadStop::Refused(Refusal {
+        reason,
+        line,
+        column,
+        at,
+    })
+}
+
+#[test]
+fn reads_words_numbers_and_marks(rt: HostRuntime) -> Result<(), Fail> {
+    let found = tokens(rt.alloc(), b"int x1 = 0x10;")?;
+    let want = [
+        token(Keyword, 0, 3),
+        token(Name, 4, 6),
+        token(Mark, 7, 8),
+        token(Number, 9, 13),
+        token(Mark, 13, 14),
+    ];
+    assert_eq!(rt; found.as_slice(), want.as_slice());
+    Ok(())
+}
+
+#[test]
+fn takes_the_longest_mark(rt: HostRuntime) -> Result<(), Fail> {
+    let found = tokens(rt.alloc(), b"a+++b")?;
+    let want = [
+        token(Name, 0, 1),
+        token(Mark, 1, 3),
+        token(Mark, 3, 4),
+        token(Name, 4, 5),
+    ];
+    assert_eq!(rt; found.as_slice(), want.as_slice());
+    let dots = tokens(rt.alloc(), b"......")?;
+    let want = [token(Mark, 0, 3), token(Mark, 3, 6)];
+    assert_eq!(rt; dots.as_slice(), want.as_slice());
+    let two = tokens(rt.alloc(), b"..")?;
+    let want = [token(Mark, 0, 1), token(Mark, 1, 2)];
+    assert_eq!(rt; two.as_slice(), want.as_slice());
+    Ok(())
+}
+
+#[test]
+fn reads_quotes_lines_and_comments(rt: HostRuntime) -> Result<(), Fail> {
+    let quotes = tokens(rt.alloc(), b"'\\377' \"\\1234\\x41\"")?;
+    let want = [token(Char, 0, 6), token(Text, 7, 18)];
+    assert_eq!(rt; quotes.as_slice(), want.as_slice());
+    let lines = b"#include <a.h>\r\r\n /* a **/ // b\r\n";
+    let directive = tokens(rt.alloc(), lines)?;
+    let want = [token(Directive, 0, 14)];
+    assert_eq!(rt; directive.as_slice(), want.as_slice());
+    let notes = comments(rt.alloc(), lines)?;
+    let want = [Span { start: 18, end: 26 }, Span { start: 27, end: 31 }];
+    assert_eq!(rt; notes.as_slice(), want.as_slice());
+    Ok(())
+}
+
+#[test]
+fn refuses_at_the_first_fault(rt: HostRuntime) -> Result<(), Fail> {
+    let faults: [(&[u8], ReadStop); 8] = [
+        (b"x #\n", refused(2, 1, 3, 2)),
+        (b"\n\n  @ 08", refused(2, 3, 3, 4)),
+        (b"int x; /*", refused(3, 1, 8, 7)),
+        (b"a\n ''", refused(4, 2, 2, 3)),
+        (b"\"\\x100\"", refused(4, 1, 1, 0)),
+        (b"0xE+1", refused(5, 1, 1, 0)),
+        (b"9223372036854775808", refused(5, 1, 1, 0)),
+        (b" \t#define", refused(6, 1, 3, 2)),
+    ];
+    for (text, want) in faults {
+        match tokens(rt.alloc(), text) {
+            Ok(_) => assert!(rt; false),
+            Err(stop) => assert_eq!(rt; stop, want),
+        }
+        match comments(rt.alloc(), text) {
+            Ok(_) => assert!(rt; false),
+            Err(stop) => assert_eq!(rt; stop, want),
+        }
+    }
+    Ok(())
+}
+
+#[test]
+fn knows_names_and_constants(rt: HostRuntime) {
+    assert!(rt; is_name(b"_x1"));
+    assert!(rt; !is_name(b"while"));
+    assert!(rt; !is_name(b"1x"));
+    assert!(rt; !is_name(b""));
+    let want = Integer {
+        kind: IntKind::ULong,
+        value: 18446744073709551615,
+    };
+    assert_eq!(rt; integer_constant(b"0xffffffffffffffff"), Some(want));
+    assert_eq!(rt; integer_constant(b"18446744073709551616u"), None);
+}
