@@ -1,0 +1,4 @@
+pub mod Progress
+pub mod Lists
+pub mod Nodes
+pub mod ItemTexts

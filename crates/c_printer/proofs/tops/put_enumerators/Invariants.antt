@@ -1,0 +1,12 @@
+use Rattle.std.proofs.Common.{ℕ, List, drop, map}
+use Rattle.c_tree.specs.TextPieces.{Piece, listed}
+use Rattle.c_tree.specs.Text.{enumerator_text}
+use Rattle.c_printer.specs.Writing.{Start, StandsBefore}
+use Rattle.c_printer.proofs.Lists.{listed_from}
+use Rattle.c_printer.proofs.tops.put_enumerators.Given as goal
+
+abbrev pub invariant-loop-i : goal.invariant-loop-i
+invariant-loop-i g l =
+    (start : Start) (whole : List ℕ) (rest : List Piece)
+    → StandsBefore start whole (g.W.Output.progress l.fn.out) (listed (map enumerator_text l.items) rest)
+    → StandsBefore start whole (g.W.Output.progress l.out) (listed_from l.i (map enumerator_text (drop l.i l.items)) rest)

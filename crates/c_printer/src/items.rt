@@ -1,0 +1,375 @@
+//! Statements and the lists of them, one line for each.
+
+ghost use Rattle.std.specs.Prelude.{◌≡◌, map, codes};
+ghost use Rattle.c_tree.specs.declared.tree.Section.{out-Section};
+ghost use Rattle.c_tree.specs.TextPieces.{◌⨾◌, only_if, space, newline, indentation, word, punctuator, joined};
+ghost use Rattle.c_tree.specs.TextExpressions.{expression_text};
+ghost use Rattle.c_tree.specs.TextItems.{deeper as the_deeper, test_text, selector_text, part_text, first_text, is_printed as the_is_printed, line, null_line, default_line, case_line, list_text, braced, else_text, section_end, sections_text, printed, printed_section};
+ghost use Rattle.c_printer.specs.Writing.{Prints};
+
+use crate::declarations::{
+    label_name, put_condition, put_end, put_further, put_keyword, put_local, put_part,
+    put_selector, put_verbatim_line,
+};
+use crate::expressions::put_expression;
+use crate::pieces::{put_indentation, put_newline, put_punctuator, put_space, put_word};
+use crate::shape::{begins_with_local, ends_in_note, is_lone_if, is_printed};
+use crate::writer::Output;
+use c_tree::{Expression, Function, Item, Section, Selector, Slot, Test};
+
+/// The depth of a list in one of this depth.
+fn deeper(depth: u32) -> u32
+    ensures { result ≡ the_deeper depth }
+{
+    if depth < 20 { depth + 1 } else { 20 }
+}
+
+/// The first part of a `for`.
+fn put_first<W: Output>(out: &mut W, function: &Function, items: &[Item])
+    ensures { Prints (W.progress out.old) (W.progress out.new) (first_text (map (printed function.now) items.now)) }
+{
+    if items.is_empty() {
+        return;
+    }
+    put_head(out, function, &items[0]);
+    for i in 1..items.len() {
+        put_next(out, function, &items[i]);
+    }
+}
+
+/// An item as the first part of a `for`.
+fn put_head<W: Output>(out: &mut W, function: &Function, item: &Item)
+    ensures { Prints (W.progress out.old) (W.progress out.new) (printed function.now item.now).head }
+{
+    match item {
+        Item::Evaluate(e) => put_expression(out, function.slots.as_slice(), e, 1),
+        Item::Local(at, given) => put_local(out, function, *at, given),
+        Item::Return(_)
+        | Item::If(..)
+        | Item::While(..)
+        | Item::Do(..)
+        | Item::For(..)
+        | Item::Switch(..)
+        | Item::Block(_)
+        | Item::Break
+        | Item::Continue
+        | Item::Goto(_)
+        | Item::Mark(_)
+        | Item::Arm(..)
+        | Item::Leap(_)
+        | Item::Land(_)
+        | Item::Arrival(_)
+        | Item::Note(_) => {}
+    }
+}
+
+/// An item as one more declarator of the first part of a `for`.
+fn put_next<W: Output>(out: &mut W, function: &Function, item: &Item)
+    ensures { Prints (W.progress out.old) (W.progress out.new) (printed function.now item.now).further }
+{
+    match item {
+        Item::Local(at, given) => put_further(out, function, *at, given),
+        Item::Evaluate(_)
+        | Item::Return(_)
+        | Item::If(..)
+        | Item::While(..)
+        | Item::Do(..)
+        | Item::For(..)
+        | Item::Switch(..)
+        | Item::Block(_)
+        | Item::Break
+        | Item::Continue
+        | Item::Goto(_)
+        | Item::Mark(_)
+        | Item::Arm(..)
+        | Item::Leap(_)
+        | Item::Land(_)
+        | Item::Arrival(_)
+        | Item::Note(_) => {}
+    }
+}
+
+/// The second and the third part of a `for`, each after its `;`.
+fn put_parts<W: Output>(
+    out: &mut W,
+    slots: &[Slot],
+    test: &Option<Expression>,
+    step: &Option<Expression>,
+)
+    ensures { Prints (W.progress out.old) (W.progress out.new) (punctuator (codes ";") ⨾ part_text slots.now test.now ⨾ punctuator (codes ";") ⨾ part_text slots.now step.now) }
+{
+    put_punctuator(out, ";");
+    put_part(out, slots, test);
+    put_punctuator(out, ";");
+    put_part(out, slots, step);
+}
+
+/// The three parts of a `for`, in their brackets.
+fn put_brackets<W: Output>(
+    out: &mut W,
+    function: &Function,
+    first: &[Item],
+    test: &Option<Expression>,
+    step: &Option<Expression>,
+)
+    ensures { Prints (W.progress out.old) (W.progress out.new) (punctuator (codes "(") ⨾ first_text (map (printed function.now) first.now) ⨾ punctuator (codes ";") ⨾ part_text function.now.slots test.now ⨾ punctuator (codes ";") ⨾ part_text function.now.slots step.now ⨾ punctuator (codes ")")) }
+{
+    put_punctuator(out, "(");
+    put_first(out, function, first);
+    put_parts(out, function.slots.as_slice(), test, step);
+    put_punctuator(out, ")");
+}
+
+/// The end of a `do`.
+fn put_repeat<W: Output>(out: &mut W, slots: &[Slot], test: &Test)
+    ensures { Prints (W.progress out.old) (W.progress out.new) (space ⨾ word (codes "while") ⨾ space ⨾ test_text slots.now test.now ⨾ punctuator (codes ";") ⨾ newline) }
+{
+    put_space(out);
+    put_condition(out, "while", slots, test);
+    put_end(out);
+}
+
+/// The first line of a `switch`.
+fn put_switch<W: Output>(out: &mut W, slots: &[Slot], selector: &Selector)
+    ensures { Prints (W.progress out.old) (W.progress out.new) (word (codes "switch") ⨾ space ⨾ selector_text slots.now selector.now ⨾ space ⨾ punctuator (codes "{") ⨾ newline) }
+{
+    put_keyword(out, "switch");
+    put_selector(out, slots, selector);
+    put_space(out);
+    put_punctuator(out, "{");
+    put_newline(out);
+}
+
+/// The `}` of a construct, at the construct's depth.
+fn put_close<W: Output>(out: &mut W, depth: u32)
+    ensures { Prints (W.progress out.old) (W.progress out.new) (indentation depth ⨾ punctuator (codes "}")) }
+{
+    put_indentation(out, depth);
+    put_punctuator(out, "}");
+}
+
+/// The spaces before the first line of an item, if it has lines.
+fn put_margin<W: Output>(out: &mut W, function: &Function, item: &Item, depth: u32)
+    ensures { Prints (W.progress out.old) (W.progress out.new) (only_if (the_is_printed (printed function.now item.now).shape) (indentation depth)) }
+{
+    if is_printed(item) {
+        put_indentation(out, depth);
+    }
+}
+
+fn put_case<W: Output>(out: &mut W, slots: &[Slot], depth: u32, constant: &Expression)
+    ensures { Prints (W.progress out.old) (W.progress out.new) (case_line slots.now depth constant.now) }
+{
+    put_indentation(out, depth);
+    put_keyword(out, "case");
+    put_expression(out, slots, constant, 3);
+    put_punctuator(out, ":");
+    put_newline(out);
+}
+
+fn put_cases<W: Output>(out: &mut W, slots: &[Slot], depth: u32, cases: &[Expression])
+    ensures { Prints (W.progress out.old) (W.progress out.new) (joined (map (case_line slots.now depth) cases.now)) }
+{
+    for i in 0..cases.len() {
+        put_case(out, slots, depth, &cases[i]);
+    }
+}
+
+fn put_default<W: Output>(out: &mut W, depth: u32, default: bool)
+    ensures { Prints (W.progress out.old) (W.progress out.new) (only_if default (default_line depth)) }
+{
+    if default {
+        put_indentation(out, depth);
+        put_word(out, "default");
+        put_punctuator(out, ":");
+        put_newline(out);
+    }
+}
+
+/// A null statement, where a condition holds.
+fn put_null_line<W: Output>(out: &mut W, depth: u32, wanted: bool)
+    ensures { Prints (W.progress out.old) (W.progress out.new) (only_if wanted (null_line depth)) }
+{
+    if wanted {
+        put_indentation(out, depth);
+        put_end(out);
+    }
+}
+
+/// What stands after the list of a section.
+fn put_section_end<W: Output>(
+    out: &mut W,
+    function: &Function,
+    section: &Section,
+    last: bool,
+    depth: u32,
+)
+    ensures { Prints (W.progress out.old) (W.progress out.new) (section_end (out-Section section.now).ends (map (printed function.now) (out-Section section.now).list) last depth) }
+{
+    let items = section.list.as_slice();
+    if section.ends {
+        put_indentation(out, depth);
+        put_word(out, "break");
+        put_end(out);
+    } else {
+        put_null_line(
+            out,
+            depth,
+            (last && items.is_empty()) || ends_in_note(items),
+        );
+    }
+}
+
+/// The lines of an item at a depth, without the spaces before the first.
+#[cycle(put_list)]
+fn put_lines<W: Output>(out: &mut W, function: &Function, item: &Item, depth: u32)
+    ensures { Prints (W.progress out.old) (W.progress out.new) ((printed function.now item.now).lines depth) }
+{
+    let slots = function.slots.as_slice();
+    match item {
+        Item::Evaluate(e) => {
+            put_expression(out, slots, e, 1);
+            put_end(out);
+        }
+        Item::Return(value) => {
+            put_word(out, "return");
+            put_part(out, slots, value);
+            put_end(out);
+        }
+        Item::If(test, then, otherwise) => {
+            put_condition(out, "if", slots, test);
+            put_space(out);
+            put_braced(out, function, then.as_slice(), depth);
+            put_else(out, function, otherwise.as_slice(), depth);
+        }
+        Item::While(test, body) => {
+            put_condition(out, "while", slots, test);
+            put_space(out);
+            put_braced(out, function, body.as_slice(), depth);
+            put_newline(out);
+        }
+        Item::Do(body, test) => {
+            put_keyword(out, "do");
+            put_braced(out, function, body.as_slice(), depth);
+            put_repeat(out, slots, test);
+        }
+        Item::For(first, test, step, body) => {
+            put_keyword(out, "for");
+            put_brackets(out, function, first.as_slice(), test, step);
+            put_space(out);
+            put_braced(out, function, body.as_slice(), depth);
+            put_newline(out);
+        }
+        Item::Switch(selector, sections) => {
+            put_switch(out, slots, selector);
+            put_sections(out, function, sections.as_slice(), depth);
+            put_close(out, depth);
+            put_newline(out);
+        }
+        Item::Block(body) => {
+            put_braced(out, function, body.as_slice(), depth);
+            put_newline(out);
+        }
+        Item::Local(at, given) => {
+            put_local(out, function, *at, given);
+            put_end(out);
+        }
+        Item::Break => {
+            put_word(out, "break");
+            put_end(out);
+        }
+        Item::Continue => {
+            put_word(out, "continue");
+            put_end(out);
+        }
+        Item::Goto(at) => {
+            put_keyword(out, "goto");
+            put_word(out, label_name(function, *at));
+            put_end(out);
+        }
+        Item::Mark(at) => {
+            put_word(out, label_name(function, *at));
+            put_punctuator(out, ":");
+            put_space(out);
+            put_end(out);
+        }
+        Item::Note(bytes) => put_verbatim_line(out, bytes.as_slice()),
+        Item::Arm(..) => {}
+        Item::Leap(_) => {}
+        Item::Land(_) => {}
+        Item::Arrival(_) => {}
+    }
+}
+
+/// The lines of a list at a depth.
+#[cycle(put_list)]
+fn put_list<W: Output>(out: &mut W, function: &Function, items: &[Item], depth: u32)
+    ensures { Prints (W.progress out.old) (W.progress out.new) (list_text (map (printed function.now) items.now) depth) }
+{
+    for i in 0..items.len() {
+        put_margin(out, function, &items[i], depth);
+        put_lines(out, function, &items[i], depth);
+    }
+}
+
+/// A list in braces, in a construct at a depth.
+#[cycle(put_list)]
+pub fn put_braced<W: Output>(out: &mut W, function: &Function, items: &[Item], depth: u32)
+    ensures { Prints (W.progress out.old) (W.progress out.new) (braced (map (printed function.now) items.now) depth) }
+{
+    put_punctuator(out, "{");
+    put_newline(out);
+    put_list(out, function, items, deeper(depth));
+    put_close(out, depth);
+}
+
+/// An else-list, which goes on as `else if` where it is one `if`.
+#[cycle(put_list)]
+fn put_else<W: Output>(out: &mut W, function: &Function, items: &[Item], depth: u32)
+    ensures { Prints (W.progress out.old) (W.progress out.new) (else_text (map (printed function.now) items.now) depth) }
+{
+    if items.is_empty() {
+        put_newline(out);
+        return;
+    }
+    put_space(out);
+    put_keyword(out, "else");
+    if is_lone_if(items) {
+        put_lines(out, function, &items[0], depth);
+    } else {
+        put_braced(out, function, items, depth);
+        put_newline(out);
+    }
+}
+
+#[cycle(put_list)]
+fn put_section<W: Output>(
+    out: &mut W,
+    function: &Function,
+    section: &Section,
+    last: bool,
+    depth: u32,
+)
+    ensures { Prints (W.progress out.old) (W.progress out.new) (printed_section function.now section.now last depth) }
+{
+    let items = section.list.as_slice();
+    put_cases(
+        out,
+        function.slots.as_slice(),
+        depth,
+        section.cases.as_slice(),
+    );
+    put_default(out, depth, section.default);
+    put_null_line(out, deeper(depth), begins_with_local(items));
+    put_list(out, function, items, deeper(depth));
+    put_section_end(out, function, section, last, deeper(depth));
+}
+
+#[cycle(put_list)]
+fn put_sections<W: Output>(out: &mut W, function: &Function, sections: &[Section], depth: u32)
+    ensures { Prints (W.progress out.old) (W.progress out.new) (sections_text (map (printed_section function.now) sections.now) depth) }
+{
+    for i in 0..sections.len() {
+        put_section(out, function, &sections[i], i + 1 == sections.len(), depth);
+    }
+}

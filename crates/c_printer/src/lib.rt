@@ -1,0 +1,19 @@
+//! The printed text of a program.
+#![tactic(auto)]
+
+mod declarations;
+mod expressions;
+mod gap;
+mod growing;
+mod items;
+mod pieces;
+mod shape;
+mod spelling;
+mod tops;
+mod whole;
+mod writer;
+
+pub use whole::{print, print_to};
+
+#[cfg(test)]
+mod tests;
