@@ -1,0 +1,6 @@
+pub mod PlainLemmas
+pub mod FreshLemmas
+pub mod FreshFound
+pub mod LoopLemmas
+pub mod PlainLaw
+pub mod GotoFree

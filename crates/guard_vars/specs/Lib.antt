@@ -1,0 +1,4 @@
+pub mod Conversion
+pub mod Fresh
+pub mod Kinds
+pub mod Plain

@@ -1,0 +1,5 @@
+pub mod Counts
+pub mod Moves
+pub mod Derivation
+pub mod Text
+pub mod Left

@@ -1,0 +1,15 @@
+//! The rewriting of a whole program, and of a text.
+#![tactic(auto)]
+
+mod counts;
+mod derive;
+mod left;
+mod program;
+mod text;
+
+pub use counts::{Counts, DriverStop};
+pub use program::restructure_program;
+pub use text::{Written, restructure_text};
+
+#[cfg(test)]
+mod tests;
