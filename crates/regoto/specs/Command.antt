@@ -1,0 +1,26 @@
+-- The words of a command.
+use Rattle.std.specs.Prelude.{ℕ, Bool, false, ◌&&◌, not, ◌==◌, List, [], ◌∷◌, Option, Some, None, codes, if◌then◌else◌}
+use Rattle.std.specs.Str.{bytes_eq}
+use Rattle.regoto.specs.declared.words.Job.{Job}
+use Rattle.regoto.specs.declared.words.Job.TheVariants as job
+
+pub data Command : Type 0 where
+  Restructure : List ℕ → List ℕ → Command
+  Help : Command
+
+-- a word that names a file: it isn't empty and doesn't begin with '-'
+abbrev pub names_file : List ℕ → Bool
+names_file [] = false
+names_file (b ∷ bs) = not (b == 45)
+
+-- what the words ask for, each the list of its bytes
+abbrev pub command_of : List (List ℕ) → Option Command
+command_of (word ∷ []) = if bytes_eq word (codes "help") then Some Help else None
+command_of (word ∷ from ∷ to ∷ []) =
+    if bytes_eq word (codes "restructure") && names_file from && names_file to then Some (Restructure from to) else None
+command_of _ = None
+
+-- a job without where its words lie
+abbrev pub seen : Job → Command
+seen (job.Restructure from to) = Restructure from.now to.now
+seen job.Help = Help

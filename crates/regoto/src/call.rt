@@ -1,0 +1,53 @@
+ghost use Rattle.std.specs.Prelude.{◌≡◌, ◌↔◌, ℕ, List, map, string_bytes, Some, None};
+ghost use Rattle.regoto.specs.Lines.{Tells, usage_line};
+ghost use Rattle.regoto.specs.Command.{Restructure, Help, command_of};
+ghost use Rattle.regoto.specs.Restructure.{Restructures, Completes};
+ghost use Rattle.regoto.specs.Help.{Helps};
+
+use crate::files::restructure;
+use crate::help::help;
+use crate::lines::tell;
+use crate::status::Status;
+use crate::words::{Job, command};
+use rg_ports::{Shelf, Sink, Source};
+use std::alloc::Global;
+
+/// Carries out the command that the words after the program's name are, through these ports.
+/// docs/COMMANDS.md lists the words, the statuses and the lines on `err`.
+pub fn regoto<H: Shelf, I: Source, O: Sink, E: Sink>(
+    alloc: Global,
+    words: &[String],
+    shelf: &mut H,
+    input: &mut I,
+    out: &mut O,
+    err: &mut E,
+) -> Status
+    // Words that fit no form, and only they, give Usage. No port but `err` is touched for that.
+    ensures usage { (result ≡ Status.Usage) ↔ (command_of (map string_bytes words.now) ≡ None) }
+    ensures unknown { command_of (map string_bytes words.now) ≡ None → (shelf.new ≡ shelf.old) × (out.new ≡ out.old)
+        × Tells (E.written err.old) (E.written err.new) (E.faults err.old) (E.faults err.new) usage_line }
+
+    ensures restructure { (from to : List ℕ) → command_of (map string_bytes words.now) ≡ Some (Restructure from to)
+        → (out.new ≡ out.old) × Restructures (λ line. Tells (E.written err.old) (E.written err.new) (E.faults err.old) (E.faults err.new) line)
+        from to (H.held shelf.old) (H.held shelf.new) (H.read_faults shelf.old) (H.read_faults shelf.new)
+        (H.write_faults shelf.old) (H.write_faults shelf.new) result }
+
+    ensures complete { (from to : List ℕ) → command_of (map string_bytes words.now) ≡ Some (Restructure from to)
+        → Completes from (H.held shelf.old) (H.read_faults shelf.old) (H.read_faults shelf.new)
+        (H.write_faults shelf.old) (H.write_faults shelf.new) result }
+
+    ensures help { command_of (map string_bytes words.now) ≡ Some Help → (shelf.new ≡ shelf.old)
+        × Helps (O.written out.old) (O.written out.new) (O.faults out.old) (O.faults out.new)
+        (E.written err.old) (E.written err.new) (E.faults err.old) (E.faults err.new) result }
+
+    ensures input { input.new ≡ input.old }
+{
+    match command(words) {
+        None => {
+            tell(err, "regoto: unknown use, try help\n");
+            Status::Usage
+        }
+        Some(Job::Restructure(from, to)) => restructure(alloc, from, to, shelf, err),
+        Some(Job::Help) => help(out, err),
+    }
+}

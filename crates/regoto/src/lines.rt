@@ -1,0 +1,127 @@
+ghost use Rattle.std.specs.Prelude.{◌≡◌, ◌++◌, codes};
+ghost use Rattle.std.specs.List.{flat_map};
+ghost use Rattle.regoto.specs.Lines.{Writes, Tells, reason_text as the_reason_text, counts_line, place_and_reason, refusal_line, absent_line};
+
+use c_types::Refusal;
+use itoa::Buffer;
+use move_driver::Counts;
+use rg_ports::{Failed, Sink, write_all};
+
+/// Writes the text, and answers whether all of it was taken.
+fn put<E: Sink>(err: &mut E, text: &str) -> bool
+    ensures { Writes result (E.written err.old) (E.written err.new) (E.faults err.old) (E.faults err.new) text.now }
+{
+    match write_all(err, text.as_bytes()) {
+        Ok(()) => true,
+        Err(Failed) => false,
+    }
+}
+
+fn put_line_end<E: Sink>(err: &mut E, text: &str) -> bool
+    ensures { Writes result (E.written err.old) (E.written err.new) (E.faults err.old) (E.faults err.new) (text.now ++ codes "\n") }
+{
+    put(err, text) && put(err, "\n")
+}
+
+/// Writes the pieces one after another, as far as they are taken.
+fn write_pieces<E: Sink>(err: &mut E, pieces: &[&str]) -> bool
+    ensures { Writes result (E.written err.old) (E.written err.new) (E.faults err.old) (E.faults err.new) (flat_map (λ piece. piece.now) pieces.now) }
+{
+    for piece in pieces {
+        if !put(err, piece) {
+            return false;
+        }
+    }
+    true
+}
+
+/// Writes a line that is known beforehand. A fault changes no status, so it is not answered.
+pub fn tell<E: Sink>(err: &mut E, line: &str)
+    ensures { Tells (E.written err.old) (E.written err.new) (E.faults err.old) (E.faults err.new) line.now }
+{
+    let _whole = put(err, line);
+}
+
+fn write_counts<E: Sink>(err: &mut E, counts: &Counts) -> bool
+    ensures { Writes result (E.written err.old) (E.written err.new) (E.faults err.old) (E.faults err.new) (counts_line counts.now) }
+{
+    let mut jumps = Buffer::new();
+    let mut moves = Buffer::new();
+    let mut guards = Buffer::new();
+    let pieces = [
+        "regoto: ",
+        jumps.format(counts.jumps),
+        " jumps, ",
+        moves.format(counts.moves),
+        " moves, ",
+        guards.format(counts.guards),
+        " guards\n",
+    ];
+    write_pieces(err, &pieces)
+}
+
+/// Tells how much was rewritten.
+pub fn tell_counts<E: Sink>(err: &mut E, counts: &Counts)
+    ensures { Tells (E.written err.old) (E.written err.new) (E.faults err.old) (E.faults err.new) (counts_line counts.now) }
+{
+    let _whole = write_counts(err, counts);
+}
+
+fn reason_text(reason: u32) -> &'static str
+    ensures { result.now ≡ the_reason_text reason }
+{
+    if reason == 1 {
+        "text too long"
+    } else if reason == 99 {
+        "form not built yet"
+    } else {
+        ""
+    }
+}
+
+fn write_reason<E: Sink>(err: &mut E, refusal: &Refusal) -> bool
+    ensures { Writes result (E.written err.old) (E.written err.new) (E.faults err.old) (E.faults err.new) (place_and_reason refusal.now) }
+{
+    let mut line = Buffer::new();
+    let mut column = Buffer::new();
+    let mut reason = Buffer::new();
+    let pieces = [
+        ":",
+        line.format(refusal.line),
+        ":",
+        column.format(refusal.column),
+        ": error ",
+        reason.format(refusal.reason),
+        ": ",
+        reason_text(refusal.reason),
+        "\n",
+    ];
+    write_pieces(err, &pieces)
+}
+
+/// Writes the name of a file, and a refusal behind it.
+fn write_refusal<E: Sink>(err: &mut E, file: &str, refusal: &Refusal) -> bool
+    ensures { Writes result (E.written err.old) (E.written err.new) (E.faults err.old) (E.faults err.new) (refusal_line file.now refusal.now) }
+{
+    put(err, file) && write_reason(err, refusal)
+}
+
+/// Tells why the file is refused, and where.
+pub fn tell_refusal<E: Sink>(err: &mut E, file: &str, refusal: &Refusal)
+    ensures { Tells (E.written err.old) (E.written err.new) (E.faults err.old) (E.faults err.new) (refusal_line file.now refusal.now) }
+{
+    let _whole = write_refusal(err, file, refusal);
+}
+
+fn write_absent<E: Sink>(err: &mut E, file: &str) -> bool
+    ensures { Writes result (E.written err.old) (E.written err.new) (E.faults err.old) (E.faults err.new) (absent_line file.now) }
+{
+    put(err, "regoto: no file ") && put_line_end(err, file)
+}
+
+/// Tells that no file has the name.
+pub fn tell_absent<E: Sink>(err: &mut E, file: &str)
+    ensures { Tells (E.written err.old) (E.written err.new) (E.faults err.old) (E.faults err.new) (absent_line file.now) }
+{
+    let _whole = write_absent(err, file);
+}

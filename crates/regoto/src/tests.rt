@@ -1,0 +1,176 @@
+use super::*;
+use c_types::{Bytes, List, Memory, Name};
+use rg_ports::{MemShelf, MemSink, NoInput};
+use std::alloc::Global;
+use std::test::Fail;
+
+const SOURCE: &str =
+    "int main(void) { int a; a = 1; if (a == 1) goto end; putchar('x'); end: putchar('y'); return 0; }";
+
+const RESULT: &str = "int main(void) {
+    int a;
+    int goto_end = 0;
+    a = 1;
+    goto_end = a == 1;
+    if (!goto_end) {
+        putchar('x');
+    }
+    goto_end = 0;
+    putchar('y');
+    return 0;
+}
+";
+
+/// What a command left.
+#[derive(Drop)]
+struct Outcome {
+    status: Status,
+    shelf: MemShelf,
+    out: MemSink,
+    err: MemSink,
+}
+
+fn file(alloc: Global, name: &str, text: &str) -> Result<(Name, Bytes), Memory> {
+    let name = Name::from_string(String::from_str(alloc, name)?);
+    Ok((name, Bytes::from_slice(alloc, text.as_bytes())?))
+}
+
+fn sink(alloc: Global, failing: &[u64]) -> Result<MemSink, Memory> {
+    let mut sink = MemSink::new(alloc, Bytes::new(alloc), List::from_slice(alloc, failing)?)?;
+    sink.reserve(1024)?;
+    Ok(sink)
+}
+
+/// Runs a command on a shelf with the files `a.c` and `r.txt`; these calls of the shelf and of `err` fail.
+fn run(
+    alloc: Global,
+    words: &[&str],
+    source: &str,
+    shelf_failing: &[u64],
+    err_failing: &[u64],
+) -> Result<Outcome, Memory> {
+    let mut texts = Vec::new(alloc);
+    for word in words {
+        texts.push(String::from_str(alloc, word)?)?;
+    }
+    let mut files = List::new(alloc);
+    files.push(file(alloc, "a.c", source)?)?;
+    files.push(file(alloc, "r.txt", "kept")?)?;
+    let failing = List::from_slice(alloc, shelf_failing)?;
+    let mut shelf = MemShelf::new(alloc, files, failing)?;
+    let mut input = NoInput::new();
+    let mut out = sink(alloc, &[])?;
+    let mut err = sink(alloc, err_failing)?;
+    let status = regoto(alloc, &texts, &mut shelf, &mut input, &mut out, &mut err);
+    Ok(Outcome {
+        status,
+        shelf,
+        out,
+        err,
+    })
+}
+
+#[test]
+fn restructures(rt: HostRuntime) -> Result<(), Fail> {
+    let ran = run(rt.alloc(), &["restructure", "a.c", "b.c"], SOURCE, &[], &[])?;
+    assert_eq!(rt; ran.status, Status::Done);
+    assert_eq!(rt; ran.status.code(), 0);
+    assert_eq!(rt;
+        ran.err.bytes(),
+        b"regoto: 1 jumps, 1 moves, 1 guards\n".as_slice()
+    );
+    assert_eq!(rt; ran.shelf.held("b.c").ok_or("written")?, RESULT.as_bytes());
+    assert_eq!(rt; ran.shelf.held("a.c").ok_or("kept")?, SOURCE.as_bytes());
+    assert_eq!(rt; ran.out.bytes().len(), 0);
+    Ok(())
+}
+
+#[test]
+fn restructures_in_place(rt: HostRuntime) -> Result<(), Fail> {
+    let ran = run(
+        rt.alloc(),
+        &["restructure", "a.c", "a.c"],
+        SOURCE,
+        &[],
+        &[0],
+    )?;
+    assert_eq!(rt; ran.status, Status::Done);
+    assert_eq!(rt; ran.shelf.held("a.c").ok_or("written")?, RESULT.as_bytes());
+    assert_eq!(rt; ran.err.bytes().len(), 0);
+    Ok(())
+}
+
+#[test]
+fn tells_what_is_wrong(rt: HostRuntime) -> Result<(), Fail> {
+    let product = "int main(void) { int x; x = 1 * 2; return x; }";
+    let to_b = ["restructure", "a.c", "b.c"].as_slice();
+    let no_file = ["restructure", "c.c", "b.c"].as_slice();
+    let report = ["restructure", "a.c", "b.c", "--report", "b.c"].as_slice();
+    let option = ["restructure", "a.c", "-b"].as_slice();
+    let cases = [
+        (
+            to_b,
+            product,
+            [].as_slice(),
+            1,
+            "a.c:1:1: error 99: form not built yet\n",
+        ),
+        (no_file, SOURCE, [].as_slice(), 8, "regoto: no file c.c\n"),
+        (
+            report,
+            SOURCE,
+            [].as_slice(),
+            2,
+            "regoto: unknown use, try help\n",
+        ),
+        (
+            option,
+            SOURCE,
+            [].as_slice(),
+            2,
+            "regoto: unknown use, try help\n",
+        ),
+        (to_b, SOURCE, [0].as_slice(), 4, "regoto: read failed\n"),
+        (to_b, SOURCE, [1].as_slice(), 5, "regoto: write failed\n"),
+    ];
+    for (words, source, failing, code, line) in cases {
+        let ran = run(rt.alloc(), words, source, failing, &[])?;
+        assert_eq!(rt; ran.status.code(), code, "{line}");
+        assert_eq!(rt; ran.err.bytes(), line.as_bytes());
+        assert!(rt; ran.shelf.held("b.c").is_none());
+        assert_eq!(rt; ran.shelf.held("a.c").ok_or("kept")?, source.as_bytes());
+        assert_eq!(rt; ran.shelf.held("r.txt").ok_or("kept")?, b"kept".as_slice());
+    }
+    Ok(())
+}
+
+#[test]
+fn refuses_a_long_text(rt: HostRuntime) -> Result<(), Fail> {
+    let spaces = vec![in rt.alloc(); b' '; MOST_BYTES + 1]?;
+    let source = String::from_utf8(spaces).ok().ok_or("spaces are text")?;
+    let ran = run(
+        rt.alloc(),
+        &["restructure", "a.c", "b.c"],
+        source.as_str(),
+        &[],
+        &[],
+    )?;
+    assert_eq!(rt;
+        ran.err.bytes(),
+        b"a.c:1:1: error 1: text too long\n".as_slice()
+    );
+    assert_eq!(rt; ran.status.code(), 1);
+    Ok(())
+}
+
+#[test]
+fn helps(rt: HostRuntime) -> Result<(), Fail> {
+    let ran = run(rt.alloc(), &["help"], SOURCE, &[], &[])?;
+    assert_eq!(rt; ran.status, Status::Done);
+    assert_eq!(rt;
+        ran.out.bytes(),
+        b"regoto restructure IN OUT\nregoto help\n".as_slice()
+    );
+    assert_eq!(rt; ran.err.bytes().len(), 0);
+    Ok(())
+}

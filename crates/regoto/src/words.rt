@@ -1,0 +1,48 @@
+ghost use Rattle.std.specs.Prelude.{◌≡◌, map, option_map, string_bytes, [], ◌∷◌};
+ghost use Rattle.regoto.specs.Command.{names_file, command_of, seen};
+
+/// What the words of a command ask for (docs/COMMANDS.md).
+#[derive(Clone, Copy, Debug, PartialEq, Eq)]
+pub enum Job<'a> {
+    /// Restructure the first file, and write the second.
+    Restructure(&'a str, &'a str),
+    /// Write the list of commands.
+    Help,
+}
+
+/// Whether a word names a file: it isn't empty and doesn't begin with `-`.
+fn names_a_file(word: &str) -> bool
+    ensures { result ≡ names_file word.now }
+{
+    match word.as_bytes() {
+        [] => false,
+        [first, ..] => *first != b'-',
+    }
+}
+
+/// The job that the words ask for, or `None` where they fit no form. It takes no memory.
+pub fn command<'a>(words: &'a [String]) -> Option<Job<'a>>
+    ensures { option_map seen result ≡ command_of (map string_bytes words.now) }
+{
+    match words {
+        [word] => {
+            if word.as_str() == "help" {
+                Some(Job::Help)
+            } else {
+                None
+            }
+        }
+        [word, from, to] => restructure_job(word.as_str(), from.as_str(), to.as_str()),
+        _ => None,
+    }
+}
+
+fn restructure_job<'a>(word: &str, from: &'a str, to: &'a str) -> Option<Job<'a>>
+    ensures { option_map seen result ≡ command_of (word.now ∷ from.now ∷ to.now ∷ []) }
+{
+    if word == "restructure" && names_a_file(from) && names_a_file(to) {
+        Some(Job::Restructure(from, to))
+    } else {
+        None
+    }
+}
