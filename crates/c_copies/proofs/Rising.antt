@@ -10,7 +10,8 @@ use Rattle.std.specs.Str.{bytes_eq}
 use Rattle.std.proofs.lemmas.Cmp.{nat_list_cmp_total}
 use Rattle.std.proofs.lemmas.Map.Text.{is_eq-slice_cmp}
 use Rattle.std.proofs.lemmas.Slice.Eq.{bytes_eq-Decides}
-use Rattle.c_copies.specs.Names.{name_cmp, with_name, with_names, rising, has_name}
+use Rattle.c_types.specs.Words.{name_cmp}
+use Rattle.c_copies.specs.Names.{with_name, with_names, rising, has_name}
 
 -- order
 

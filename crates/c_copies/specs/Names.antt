@@ -1,11 +1,9 @@
 -- The names of a program, each once and in byte order.
 use Rattle.std.specs.Prelude.{ℕ, Bool, List, [], ◌∷◌, ◌++◌, map, Option, Some, None}
 use Rattle.std.specs.List.{list_any}
-use Rattle.std.specs.declared.cmp.Ordering.{Ordering}
-use Rattle.std.specs.Ordering.{nat_cmp}
-use Rattle.std.specs.Cmp.Lexicographic.{slice_cmp}
 use Rattle.std.specs.BTreeSet.{insert_key}
 use Rattle.std.specs.Str.{bytes_eq}
+use Rattle.c_types.specs.Words.{name_cmp}
 use Rattle.c_tree.specs.declared.tree.Home.{Home}
 use Rattle.c_tree.specs.declared.tree.Home.TheVariants as H
 use Rattle.c_tree.specs.declared.tree.Expression.{Expression, Expression-F, fold-Expression}
@@ -28,10 +26,6 @@ use Rattle.c_tree.specs.declared.tree.Top.TheVariants as P
 use Rattle.c_tree.specs.declared.tree.Program.{Program}
 
 -- ---- sets of names
-
--- the byte order of names
-abbrev pub name_cmp : List ℕ → List ℕ → Ordering
-name_cmp a b = slice_cmp nat_cmp a b
 
 -- a rising list of names with one more name at its place, unless it is there
 abbrev pub with_name : List (List ℕ) → List ℕ → List (List ℕ)

@@ -2,7 +2,8 @@
 
 ghost use Rattle.std.specs.Prelude.{◌≡◌, ℕ, List, [], ◌∷◌, IfOk, OnOk};
 ghost use Rattle.std.specs.List.Sorted.{IsStrictlySortedBy};
-ghost use Rattle.c_copies.specs.Names.{name_cmp, has_name, all_names, all_file_names, with_names, given_name, home_names, expression_names, node_names, place_names, expressions_names, option_names, given_names, test_names, selector_names, item_names, section_names, items_names, sections_names, body_names, slots_names, function_names, enum_names, enums_names, global_names, top_names, tops_names, top_name, names as the_names, file_names as the_file_names, enum_name, enums_name, tops_name};
+ghost use Rattle.c_types.specs.Words.{name_cmp};
+ghost use Rattle.c_copies.specs.Names.{has_name, all_names, all_file_names, with_names, given_name, home_names, expression_names, node_names, place_names, expressions_names, option_names, given_names, test_names, selector_names, item_names, section_names, items_names, sections_names, body_names, slots_names, function_names, enum_names, enums_names, global_names, top_names, tops_names, top_name, names as the_names, file_names as the_file_names, enum_name, enums_name, tops_name};
 
 use crate::name_set::NameSet;
 use c_tree::{

@@ -82,3 +82,47 @@ fn names_of_a_program(rt: HostRuntime) -> Result<(), Fail> {
     assert_eq!(rt; names.as_slice()[3].as_str(), "x");
     Ok(())
 }
+
+/// A `break` in so many blocks, each in the one before.
+fn nested(alloc: Global, levels: u32) -> Result<List<Item>, Memory> {
+    let mut list = List::new(alloc);
+    list.push(Item::Break)?;
+    for _ in 0..levels {
+        let mut outer = List::new(alloc);
+        outer.push(Item::Block(list))?;
+        list = outer;
+    }
+    Ok(list)
+}
+
+/// Labels, each with another number.
+fn labels(alloc: Global, count: u32) -> Result<List<Item>, Memory> {
+    let mut list = List::new(alloc);
+    for label in 0..count {
+        list.push(Item::Mark(label))?;
+    }
+    Ok(list)
+}
+
+#[test]
+fn copies_are_equal(rt: HostRuntime) -> Result<(), Fail> {
+    let body = body(rt.alloc())?;
+    assert!(rt; copy_items(rt.alloc(), &body)? == body);
+    Ok(())
+}
+
+#[test]
+fn deep_lists_are_copied(rt: HostRuntime) -> Result<(), Fail> {
+    let list = nested(rt.alloc(), 399)?;
+    assert!(rt; copy_items(rt.alloc(), &list)? == list);
+    Ok(())
+}
+
+#[test]
+fn long_lists_are_copied(rt: HostRuntime) -> Result<(), Fail> {
+    let list = labels(rt.alloc(), 150000)?;
+    let copy = copy_items(rt.alloc(), &list)?;
+    assert_eq!(rt; copy.len(), 150000);
+    assert!(rt; copy == list);
+    Ok(())
+}

@@ -16,4 +16,8 @@ mod writer;
 pub use whole::{print, print_to};
 
 #[cfg(test)]
+mod listings;
+#[cfg(test)]
+mod postfix;
+#[cfg(test)]
 mod tests;

@@ -1,6 +1,6 @@
 //! Values that a C compiler gave: gcc, with the profile's widths, each operation run in a process of
-//! its own that stops at what the standard leaves undefined. A constant is `None` where gcc finds it
-//! too large.
+//! its own that stops at what the standard leaves undefined. That a constant has no kind is no answer of
+//! gcc, which goes on to wider types: there `None` follows from the list of 6.4.4.1.
 ghost use Rattle.std.specs.Prelude.{IsFalse};
 ghost use Rattle.c_types.specs.Numbers as numbers;
 ghost use Rattle.c_types.specs.Numbers.{IsInRange};

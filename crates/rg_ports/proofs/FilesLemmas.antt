@@ -9,7 +9,7 @@ use Rattle.std.specs.FinMap.{get, insert, from_entries, get-from_entries, get-in
 use Rattle.std.proofs.lemmas.Option.{get_or_from_slice_get, slice_get_within}
 use Rattle.std.proofs.lemmas.List.{length-take-le}
 use Rattle.std.proofs.Math.Seq.{split_at, set-append_seam, take-suc}
-use Rattle.rg_ports.specs.Files.{name_cmp}
+use Rattle.c_types.specs.Words.{name_cmp}
 use Rattle.rg_ports.specs.FirstAt.{File, bytes_of, FirstAt}
 
 -- names that compare alike are one

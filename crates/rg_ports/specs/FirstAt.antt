@@ -1,7 +1,7 @@
 -- Where a file stands in a list of files.
 use Rattle.std.specs.Prelude.{◌≡◌, ℕ, List, take, slice_get, Option, None, Some}
 use Rattle.std.specs.FinMap.{find}
-use Rattle.rg_ports.specs.Files.{name_cmp}
+use Rattle.c_types.specs.Words.{name_cmp}
 
 -- a name, and the bytes of the file
 abbrev pub File : Type 0

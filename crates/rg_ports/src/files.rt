@@ -1,7 +1,7 @@
 ghost use Rattle.std.specs.Prelude.{◌≡◌, ◌<◌, ◌≤◌, ◌↔◌, ◌≢◌, None, Some, Err, length, take, IfOk, OnOk, OnErr, IsSomeAnd, MatchOption};
 ghost use Rattle.std.specs.Option.{option_copied};
 ghost use Rattle.std.specs.FinMap.{from_entries, insert};
-ghost use Rattle.rg_ports.specs.Files.{name_cmp};
+ghost use Rattle.c_types.specs.Words.{name_cmp};
 ghost use Rattle.rg_ports.specs.FirstAt.{bytes_of, FirstAt};
 
 use crate::port::ReadError;

@@ -1,7 +1,8 @@
 use Rattle.std.proofs.Common.{◌≡◌, ℕ, List, rules, subst, sym, ◌∙◌}
 use Rattle.std.specs.List.Sorted.{IsStrictlySortedBy}
 use Rattle.std.proofs.lemmas.Result.{IfOk-weaker}
-use Rattle.c_copies.specs.Names.{name_cmp, has_name, rising, all_file_names}
+use Rattle.c_types.specs.Words.{name_cmp}
+use Rattle.c_copies.specs.Names.{has_name, rising, all_file_names}
 use Rattle.c_copies.proofs.Rising.{rising-is, rising-members}
 use Rattle.c_copies.proofs.program_names.file_names.Goals as goal
 

@@ -1,6 +1,6 @@
 use Rattle.std.proofs.Common.{◌≡◌, List, ap, ◌∙◌, sym, set, subst, ◌++◌, ◌∷◌, []}
 use Rattle.std.specs.FinMap.{from_entries}
-use Rattle.rg_ports.specs.Files.{name_cmp}
+use Rattle.c_types.specs.Words.{name_cmp}
 use Rattle.rg_ports.specs.FirstAt.{File, bytes_of, FirstAt}
 use Rattle.rg_ports.proofs.FilesLemmas.{from_entries-set, from_entries-push}
 use Rattle.rg_ports.proofs.files.put_bytes.Goals as goal
