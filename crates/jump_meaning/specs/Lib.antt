@@ -5,3 +5,9 @@ pub mod Operations
 pub mod Known
 pub mod Calls
 pub mod Behaviour
+pub mod Effects
+pub mod Tasks
+pub mod Search
+pub mod Step
+pub mod Runs
+pub mod Steady
