@@ -1,13 +1,13 @@
 -- The examples run, by computation: what each run shows at its end, how many steps it takes, and that it
 -- goes on before.
-use Rattle.std.proofs.Common.{ℕ, suc, ◌≡◌, List, [], ◌∷◌, pos, negsuc, refl, codes}
+use Rattle.std.proofs.Common.{ℕ, suc, ◌≡◌, List, [], ◌∷◌, pos, refl, codes}
 use Rattle.std.specs.Fmt.{digits}
 use Rattle.c_types.specs.declared.trap.Trap.{Trap}
 use Rattle.c_types.specs.Numbers.{converted, arith_result}
 use Rattle.jump_meaning.specs.Values.{Event, Byte, Called}
 use Rattle.jump_meaning.specs.Behaviour.{Shown, Ended, Trapped, More}
 use Rattle.jump_meaning.specs.Runs.{jump_run}
-use Rattle.jump_meaning.proofs.Examples.{empty, forever, into_block, into_loop, falls, nested_case, circuits, bad_index, late_zero, missing, prints, asks, quits, overflows, lends, counts, echoes, aborts, recursive, too_deep, armed, lifted, picked}
+use Rattle.jump_meaning.proofs.Examples.{empty, forever, into_block, into_loop, falls, nested_case, circuits, bad_index, late_zero, missing, prints, asks, quits, overflows, lends, counts, echoes, aborts, recursive, too_deep, armed, left_loop, lifted, picked, too_large}
 
 -- after n steps there is more to come, and the next step ends the run
 abbrev IsOverAfter : (ℕ → Shown) → ℕ → List Event → Shown → Type 0
@@ -96,6 +96,10 @@ armed_run : IsOverAfter (jump_run armed (codes "f") (pos 1 ∷ []) [] []) 11 [] 
 unfolding converted arith_result digits
 armed_run = (refl, refl)
 
+left_loop_run : IsOverAfter (jump_run left_loop (codes "main") [] [] []) 63 [] (Ended (pos 1) [])
+unfolding converted arith_result digits
+left_loop_run = (refl, refl)
+
 lifted_run : IsOverAfter (jump_run lifted (codes "main") [] [] []) 99 (Byte 97 ∷ Byte 98 ∷ Byte 97 ∷ Byte 98 ∷ []) (Ended (pos 0) (Byte 97 ∷ Byte 98 ∷ Byte 97 ∷ Byte 98 ∷ []))
 unfolding converted arith_result digits
 lifted_run = (refl, refl)
@@ -103,3 +107,7 @@ lifted_run = (refl, refl)
 picked_run : IsOverAfter (jump_run picked (codes "f") (pos 5 ∷ []) [] []) 23 (Byte 100 ∷ []) (Ended (pos 0) (Byte 100 ∷ []))
 unfolding converted arith_result digits
 picked_run = (refl, refl)
+
+-- it stands at the trap of too many cells, with no step made
+too_large_start : jump_run too_large (codes "main") [] [] [] 0 ≡ Trapped Trap.Cells []
+too_large_start = refl

@@ -11,3 +11,4 @@ pub mod Search
 pub mod Step
 pub mod Runs
 pub mod Steady
+pub mod Laws

@@ -1,5 +1,16 @@
-//! The meaning of programs with jumps, by steps, and the laws of runs. The program runs none of this.
+//! The meaning of programs with jumps, and the laws of runs.
+//!
+//! The definitions stand in specs/. Each function here runs no code: its contract is a law of them.
 #![tactic(auto)]
 
-/// Runs no code: the crate holds definitions and proofs.
-pub fn nothing() {}
+ghost use Rattle.jump_meaning.specs.Laws.{RunLaws, SamenessLaws};
+
+/// Runs add up, a run that is over stays as it is, and what is shown stays shown.
+pub fn run_laws()
+    ensures { RunLaws }
+{}
+
+/// Same behaviour is an equivalence, of runs and of programs.
+pub fn sameness_laws()
+    ensures { SamenessLaws }
+{}
