@@ -1,9 +1,15 @@
 -- The laws of runs and of same behaviour, which the functions of this crate state.
-use Rattle.std.specs.Prelude.{ℕ, ◌+◌, ◌≤◌, ◌≡◌}
-use Rattle.jump_meaning.specs.Code.{Code}
+use Rattle.std.specs.Prelude.{ℕ, ◌+◌, ◌≤◌, ◌≡◌, false, List, All}
+use Rattle.c_tree.specs.declared.tree.Top.{Top}
+use Rattle.c_tree.specs.declared.tree.Top.TheVariants as T
+use Rattle.c_tree.specs.declared.tree.Program.{Program}
+use Rattle.c_tree.specs.Everywhere.{Everywhere}
+use Rattle.c_tree.specs.InRange.{IsUnguarded, IsProgramInRange}
+use Rattle.jump_meaning.specs.Code.{Code, items_of}
 use Rattle.jump_meaning.specs.Behaviour.{Shown, Covers, AreSameRuns}
 use Rattle.jump_meaning.specs.Step.{State}
 use Rattle.jump_meaning.specs.Runs.{run, shows, IsOver, TakesSteps, SameBehaviour}
+use Rattle.jump_meaning.specs.Steady.{IsSteadyCode, IsSteady}
 
 pub record IsEquivalence {A : Type 0} (E : A → A → Type 0) : Type 0 where
   pub reflexive : (a : A) → E a a
@@ -24,3 +30,13 @@ pub record RunLaws : Type 0 where
   pub grows : (p : Code) (m n : ℕ) (c : State) → m ≤ n → Covers (shows (run p m c)) (shows (run p n c))
   -- the number of steps of a run is one number
   pub alone : (R : ℕ → Shown) (m n : ℕ) → TakesSteps R m → TakesSteps R n → m ≡ n
+
+abbrev pub IsTopUnflat : Top → Type 0
+IsTopUnflat (T.Function f) = f.flat ≡ false
+IsTopUnflat _ = Unit {0}
+
+pub record SteadyLaws : Type 0 where
+  -- where no function has anything to do with guards, all states are steady
+  pub of_codes : (p : Code) → ((m : List ℕ) → Everywhere IsUnguarded (items_of (p.functions m))) → IsSteadyCode p
+  -- a program in range without flat functions is steady
+  pub of_programs : (p : Program) → IsProgramInRange p → All IsTopUnflat p.tops → IsSteady p

@@ -3,7 +3,7 @@
 //! The definitions stand in specs/. Each function here runs no code: its contract is a law of them.
 #![tactic(auto)]
 
-ghost use Rattle.jump_meaning.specs.Laws.{RunLaws, SamenessLaws};
+ghost use Rattle.jump_meaning.specs.Laws.{RunLaws, SamenessLaws, SteadyLaws};
 
 /// Runs add up, a run that is over stays as it is, and what is shown stays shown.
 pub fn run_laws()
@@ -13,4 +13,9 @@ pub fn run_laws()
 /// Same behaviour is an equivalence, of runs and of programs.
 pub fn sameness_laws()
     ensures { SamenessLaws }
+{}
+
+/// A program without guards is steady.
+pub fn steady_laws()
+    ensures { SteadyLaws }
 {}
