@@ -1,15 +1,45 @@
 -- The laws of runs and of same behaviour, which the functions of this crate state.
-use Rattle.std.specs.Prelude.{ℕ, ◌+◌, ◌≤◌, ◌≡◌, false, List, All}
+use Rattle.std.specs.Prelude.{ℕ, suc, ◌+◌, ◌≤◌, ◌<◌, ◌≡◌, ◌≢◌, ◌⊎◌, ℤ, pos, false, List, All}
+use Rattle.c_types.specs.Numbers.{converted}
+use Rattle.c_tree.specs.declared.tree.Home.{Home}
 use Rattle.c_tree.specs.declared.tree.Top.{Top}
 use Rattle.c_tree.specs.declared.tree.Top.TheVariants as T
 use Rattle.c_tree.specs.declared.tree.Program.{Program}
 use Rattle.c_tree.specs.Everywhere.{Everywhere}
 use Rattle.c_tree.specs.InRange.{IsUnguarded, IsProgramInRange}
-use Rattle.jump_meaning.specs.Code.{Code, items_of}
+use Rattle.jump_meaning.specs.Values.{Owner, OfFile, OfCall, Variable, Holds, Lent, Value, Designates}
+use Rattle.jump_meaning.specs.Code.{FunctionTree, Code, items_of}
+use Rattle.jump_meaning.specs.World.{World, owner, cells_held, load, store, clear, kind_at, slot_at_start, enter_call}
 use Rattle.jump_meaning.specs.Behaviour.{Shown, Covers, AreSameRuns}
 use Rattle.jump_meaning.specs.Step.{State}
 use Rattle.jump_meaning.specs.Runs.{run, shows, IsOver, TakesSteps, SameBehaviour}
 use Rattle.jump_meaning.specs.Steady.{IsSteadyCode, IsSteady}
+
+-- a variable with numbers of its own
+abbrev pub HoldsNumbers : Variable → Type 0
+HoldsNumbers (Holds k n cells) = Unit {0}
+HoldsNumbers (Lent o) = ⊥
+
+-- a variable of the file, or of a call that is present
+abbrev pub IsPresent : World → Owner → Type 0
+IsPresent w (OfFile m) = Unit {0}
+IsPresent w (OfCall c x) = c ≤ w.calls
+
+pub record MemoryLaws : Type 0 where
+  -- a cell holds what was stored there, converted to its kind
+  pub stored : (o : Owner) (i : ℕ) (z : ℤ) (w : World) → HoldsNumbers (w.variables o) → load (Designates o i) (store (Designates o i) z w) ≡ converted (kind_at (Designates o i) w) z
+  -- each other cell holds what it held
+  pub beside : (o p : Owner) (i j : ℕ) (z : ℤ) (w : World) → (o ≢ p) ⊎ (i ≢ j) → load (Designates p j) (store (Designates o i) z w) ≡ load (Designates p j) w
+  -- kinds, lengths, and which arrays are lent to whom stay
+  pub kinds : (p q : Value) (z : ℤ) (w : World) → kind_at q (store p z w) ≡ kind_at q w
+  pub lengths : (p : Value) (z : ℤ) (w : World) (o : Owner) → cells_held ((store p z w).variables o) ≡ cells_held (w.variables o)
+  pub lendings : (h : Home) (p : Value) (z : ℤ) (w : World) → owner h (store p z w) ≡ owner h w
+  -- the cells from n on are 0 once they are cleared, and no others change
+  pub cleared : (h : Home) (n i : ℕ) (w : World) → n ≤ i → load (Designates (owner h w) i) (clear h n w) ≡ pos 0
+  pub uncleared : (h : Home) (n : ℕ) (o : Owner) (i : ℕ) (w : World) → (owner h w ≢ o) ⊎ (i < n) → load (Designates o i) (clear h n w) ≡ load (Designates o i) w
+  -- a call changes no variable of the file or of a caller, and its own slots are those of its start
+  pub present : (f : FunctionTree) (vs : List Value) (w : World) (o : Owner) → IsPresent w o → (enter_call f vs w).variables o ≡ w.variables o
+  pub entered : (f : FunctionTree) (vs : List Value) (w : World) (x : ℕ) → (enter_call f vs w).variables (OfCall (suc w.calls) x) ≡ slot_at_start f vs x
 
 pub record IsEquivalence {A : Type 0} (E : A → A → Type 0) : Type 0 where
   pub reflexive : (a : A) → E a a

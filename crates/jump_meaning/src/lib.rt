@@ -3,7 +3,12 @@
 //! The definitions stand in specs/. Each function here runs no code: its contract is a law of them.
 #![tactic(auto)]
 
-ghost use Rattle.jump_meaning.specs.Laws.{RunLaws, SamenessLaws, SteadyLaws};
+ghost use Rattle.jump_meaning.specs.Laws.{MemoryLaws, RunLaws, SamenessLaws, SteadyLaws};
+
+/// What is stored is read again, and nothing else changes.
+pub fn memory_laws()
+    ensures { MemoryLaws }
+{}
 
 /// Runs add up, a run that is over stays as it is, and what is shown stays shown.
 pub fn run_laws()
