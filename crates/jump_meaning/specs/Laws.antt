@@ -1,16 +1,20 @@
 -- The laws of runs and of same behaviour, which the functions of this crate state.
-use Rattle.std.specs.Prelude.{ℕ, suc, ◌+◌, ◌≤◌, ◌<◌, ◌≡◌, ◌≢◌, ◌⊎◌, ℤ, pos, false, List, All}
+use Rattle.std.specs.Prelude.{ℕ, suc, ◌+◌, ◌≤◌, ◌<◌, ◌≡◌, ◌≢◌, ◌⊎◌, ℤ, pos, false, List, [], ◌++◌, All, Some, IsSome, option_map}
 use Rattle.c_types.specs.Numbers.{converted}
 use Rattle.c_tree.specs.declared.tree.Home.{Home}
 use Rattle.c_tree.specs.declared.tree.Top.{Top}
 use Rattle.c_tree.specs.declared.tree.Top.TheVariants as T
 use Rattle.c_tree.specs.declared.tree.Program.{Program}
+use Rattle.c_tree.specs.Trees.{Forest, Sections}
 use Rattle.c_tree.specs.Everywhere.{Everywhere}
 use Rattle.c_tree.specs.InRange.{IsUnguarded, IsProgramInRange}
 use Rattle.jump_meaning.specs.Values.{Owner, OfFile, OfCall, Variable, Holds, Lent, Value, Designates}
 use Rattle.jump_meaning.specs.Code.{FunctionTree, Code, items_of}
 use Rattle.jump_meaning.specs.World.{World, owner, cells_held, load, store, clear, kind_at, slot_at_start, enter_call}
 use Rattle.jump_meaning.specs.Behaviour.{Shown, Covers, AreSameRuns}
+use Rattle.jump_meaning.specs.Tasks.{Task}
+use Rattle.jump_meaning.specs.Search.{Goal, seek, seek_sections}
+use Rattle.jump_meaning.specs.Found.{IsFound, IsFoundAmong}
 use Rattle.jump_meaning.specs.Step.{State}
 use Rattle.jump_meaning.specs.Runs.{run, shows, IsOver, TakesSteps, SameBehaviour}
 use Rattle.jump_meaning.specs.Steady.{IsSteadyCode, IsSteady}
@@ -40,6 +44,16 @@ pub record MemoryLaws : Type 0 where
   -- a call changes no variable of the file or of a caller, and its own slots are those of its start
   pub present : (f : FunctionTree) (vs : List Value) (w : World) (o : Owner) → IsPresent w o → (enter_call f vs w).variables o ≡ w.variables o
   pub entered : (f : FunctionTree) (vs : List Value) (w : World) (x : ℕ) → (enter_call f vs w).variables (OfCall (suc w.calls) x) ≡ slot_at_start f vs x
+
+pub record SearchLaws : Type 0 where
+  -- what a search comes to in a list, and in the sections of a switch, is the label and what follows it
+  pub found : (l : Goal) (a : Forest) (i : List Task) → seek l a [] ≡ Some i → IsFound l a i
+  pub entered : (l : Goal) (c : Sections) (i : List Task) → seek_sections l c [] ≡ Some i → IsFoundAmong l c i
+  -- it comes to a label if there is one
+  pub sought : (l : Goal) (a : Forest) (i : List Task) → IsFound l a i → IsSome (seek l a [])
+  pub reached : (l : Goal) (c : Sections) (i : List Task) → IsFoundAmong l c i → IsSome (seek_sections l c [])
+  -- the tasks behind a list stay behind what is found
+  pub behind : (l : Goal) (a : Forest) (k : List Task) → seek l a k ≡ option_map (λ i. i ++ k) (seek l a [])
 
 pub record IsEquivalence {A : Type 0} (E : A → A → Type 0) : Type 0 where
   pub reflexive : (a : A) → E a a

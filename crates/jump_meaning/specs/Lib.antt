@@ -8,6 +8,7 @@ pub mod Behaviour
 pub mod Effects
 pub mod Tasks
 pub mod Search
+pub mod Found
 pub mod Step
 pub mod Runs
 pub mod Steady
