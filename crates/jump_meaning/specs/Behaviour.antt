@@ -9,6 +9,7 @@ pub data Shown : Type 0 where
   Trapped : Trap → List Event → Shown
   More : List Event → Shown
 
+-- the events so far, in the order in which they came
 abbrev pub events_of : Shown → List Event
 events_of (Ended n es) = es
 events_of (Trapped t es) = es

@@ -15,6 +15,7 @@ last_values zero vs v = vs
 last_values (suc n) vs [] = vs
 last_values (suc n) vs (x ∷ v) = last_values n (x ∷ vs) v
 
+-- the values pending without the last n
 abbrev pub without_last : ℕ → List Value → List Value
 without_last zero v = v
 without_last (suc n) [] = []
@@ -30,6 +31,7 @@ returned f v = option_map_or (λ k. converted_value k v) f.result Missing
 abbrev pub fallen : List ℕ → Value
 fallen m = cond (bytes_eq m (codes "main")) (Integer (pos 0)) Missing
 
+-- whether there is no value
 abbrev pub is_missing : Value → Bool
 is_missing Missing = true
 is_missing _ = false
@@ -52,6 +54,7 @@ leave_entry f v w = cond (lacks f v) (Traps Trap.NoValue w) (Exits (integer v) w
 abbrev pub slot_cell : ℕ → ℕ → World → Value
 slot_cell x i w = Designates (owner (H.Slot x) w) i
 
+-- whether a variable is an array, one of its own or a lent one
 abbrev pub is_array : Variable → Bool
 is_array (Holds k None cells) = false
 is_array (Holds k (Some n) cells) = true

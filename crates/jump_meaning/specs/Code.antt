@@ -23,6 +23,7 @@ pub record FunctionTree : Type 0 where
   pub slots : List Slot
   pub body : Option Forest
 
+-- a whole program (6.9)
 pub record Code : Type 0 where
   -- the function of each name
   pub functions : List ℕ → FunctionTree
@@ -52,6 +53,7 @@ cells_of (s ∷ ss) = cell_count s + cells_of ss
 
 -- ---- of a resolved program
 
+-- a function of the tree, with its items as plain data
 abbrev pub function_tree : Function → FunctionTree
 function_tree f = record { result = f.result; params = f.params; slots = f.slots; body = option_map trees_of f.body }
 
@@ -65,6 +67,7 @@ function_in p m [] = None
 function_in p m (T.Function f ∷ ts) = cond (bytes_eq f.name m && p f) (Some (function_tree f)) (function_in p m ts)
 function_in p m (_ ∷ ts) = function_in p m ts
 
+-- the first that is there, or else the last
 abbrev pub first_of : {A : Type 0} → Option A → Option A → A → A
 first_of (Some a) b c = a
 first_of None (Some b) c = b
@@ -83,15 +86,18 @@ abbrev pub initial_variable : GlobalVariable → Variable
 initial_variable g =
     Holds g.slot.kind g.slot.cells (entry_or (pos 0) (option_map_or (λ es. map (λ e. converted g.slot.kind (constant_or_zero e)) (expression_trees es)) g.init []))
 
+-- the variable of file scope of a name; no name of a resolved program is without one (6.2.1)
 abbrev pub global_named : List ℕ → List Top → Variable
 global_named m [] = Holds Int None (λ i. pos 0)
 global_named m (T.Global g ∷ ts) = cond (bytes_eq g.slot.name m) (initial_variable g) (global_named m ts)
 global_named m (_ ∷ ts) = global_named m ts
 
+-- the cells of all arrays of file scope
 abbrev pub global_cells : List Top → ℕ
 global_cells [] = 0
 global_cells (T.Global g ∷ ts) = cell_count g.slot + global_cells ts
 global_cells (_ ∷ ts) = global_cells ts
 
+-- a resolved program as the meaning reads it
 abbrev pub code_of : Program → Code
 code_of p = record { functions = λ m. function_named m p.tops; globals = λ m. global_named m p.tops; cells = global_cells p.tops }

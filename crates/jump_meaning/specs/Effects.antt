@@ -17,6 +17,7 @@ use Rattle.jump_meaning.specs.World.{World, Outcome, Gives, Traps, Exits, owner,
 use Rattle.jump_meaning.specs.Operations.{holds, truth_value, converted_value, unary, binary, loaded, assign, count}
 use Rattle.jump_meaning.specs.Calls.{last_values, without_last, slot_cell, is_array_slot}
 
+-- a task of an expression: what it takes of the values pending, the last first, and what it leaves
 pub data Op : Type 0 where
   -- leaves the value of an expression
   Computes : ExpressionTree → Op
@@ -54,6 +55,7 @@ pub data Op : Type 0 where
   -- the cells of a slot from n on become 0
   Clears : ℕ → ℕ → Op
 
+-- what such a task comes to
 pub data Effect : Type 0 where
   -- the tasks that come first, the values pending, the world
   Does : List Op → List Value → World → Effect
@@ -65,6 +67,7 @@ pub data Effect : Type 0 where
   -- the end of the call, with its value, if it gives one
   Leaves : Option Value → World → Effect
 
+-- the last of the values pending, and those below it
 abbrev pub top : List Value → Value
 top [] = Missing
 top (x ∷ v) = x
@@ -79,6 +82,7 @@ left (Gives x w) v = Does [] (x ∷ v) w
 left (Traps t w) v = Fails t w
 left (Exits n w) v = Stops n w
 
+-- the conversion to a kind, where there is one
 abbrev pub conversion : Option IntKind → List Op
 conversion None = []
 conversion (Some k) = Converts k ∷ []
@@ -94,6 +98,7 @@ abbrev pub cast_tasks : Option IntKind → List Op
 cast_tasks None = Drops ∷ LeavesNothing ∷ []
 cast_tasks (Some k) = Converts k ∷ []
 
+-- how many arguments a call has
 abbrev pub argument_count : Arguments → ℕ
 argument_count NoArgument = 0
 argument_count (Argument x xs) = suc (argument_count xs)
@@ -126,6 +131,7 @@ abbrev pub initialise : ℕ → ℕ → List ExpressionTree → List Value → W
 initialise x i [] v w = Does (cond (is_array_slot x w) (Clears x i ∷ []) []) v w
 initialise x i (e ∷ es) v w = Does (Computes e ∷ Sets x i es ∷ []) (slot_cell x i w ∷ v) w
 
+-- what a task of an expression does (6.5)
 abbrev pub effect : Op → List Value → World → Effect
 effect (Computes (Typed kind node)) v w = node_effect kind node v w
 effect (Finds (Var h)) v w = Does [] (place h w ∷ v) w

@@ -29,6 +29,7 @@ abbrev pub IsPresent : World → Owner → Type 0
 IsPresent w (OfFile m) = Unit {0}
 IsPresent w (OfCall c x) = c ≤ w.calls
 
+-- memory: what is stored is read again, and nothing else changes
 pub record MemoryLaws : Type 0 where
   -- a cell holds what was stored there, converted to its kind
   pub stored : (o : Owner) (i : ℕ) (z : ℤ) (w : World) → HoldsNumbers (w.variables o) → load (Designates o i) (store (Designates o i) z w) ≡ converted (kind_at (Designates o i) w) z
@@ -45,6 +46,7 @@ pub record MemoryLaws : Type 0 where
   pub present : (f : FunctionTree) (vs : List Value) (w : World) (o : Owner) → IsPresent w o → (enter_call f vs w).variables o ≡ w.variables o
   pub entered : (f : FunctionTree) (vs : List Value) (w : World) (x : ℕ) → (enter_call f vs w).variables (OfCall (suc w.calls) x) ≡ slot_at_start f vs x
 
+-- searches, against the relation that says where a label stands
 pub record SearchLaws : Type 0 where
   -- what a search comes to in a list, and in the sections of a switch, is the label and what follows it
   pub found : (l : Goal) (a : Forest) (i : List Task) → seek l a [] ≡ Some i → IsFound l a i
@@ -55,6 +57,7 @@ pub record SearchLaws : Type 0 where
   -- the tasks behind a list stay behind what is found
   pub behind : (l : Goal) (a : Forest) (k : List Task) → seek l a k ≡ option_map (λ i. i ++ k) (seek l a [])
 
+-- a relation that holds of each thing and itself, both ways, and in chains
 pub record IsEquivalence {A : Type 0} (E : A → A → Type 0) : Type 0 where
   pub reflexive : (a : A) → E a a
   pub symmetric : (a b : A) → E a b → E b a
@@ -65,6 +68,7 @@ pub record SamenessLaws : Type 0 where
   pub of_runs : IsEquivalence AreSameRuns
   pub of_programs : IsEquivalence SameBehaviour
 
+-- runs of programs by steps
 pub record RunLaws : Type 0 where
   -- a run of m + n steps is one of m steps and one of n steps from there
   pub sums : (p : Code) (m n : ℕ) (c : State) → run p (m + n) c ≡ run p n (run p m c)
@@ -75,10 +79,12 @@ pub record RunLaws : Type 0 where
   -- the number of steps of a run is one number
   pub alone : (R : ℕ → Shown) (m n : ℕ) → TakesSteps R m → TakesSteps R n → m ≡ n
 
+-- a function that is not flat, as every function of a source is
 abbrev pub IsTopUnflat : Top → Type 0
 IsTopUnflat (T.Function f) = f.flat ≡ false
 IsTopUnflat _ = Unit {0}
 
+-- programs whose guards are never set
 pub record SteadyLaws : Type 0 where
   -- where no function has anything to do with guards, all states are steady
   pub of_codes : (p : Code) → ((m : List ℕ) → Everywhere IsUnguarded (items_of (p.functions m))) → IsSteadyCode p

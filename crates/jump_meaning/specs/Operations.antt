@@ -29,6 +29,7 @@ truth_value v = Integer (truth (holds v))
 abbrev pub converted_value : IntKind → Value → Value
 converted_value k v = Integer (converted k (integer v))
 
+-- the number that is left, or the trap
 abbrev pub outcome : Result ℤ Trap → World → Outcome
 outcome (Ok n) w = Gives (Integer n) w
 outcome (Err t) w = Traps t w
@@ -58,6 +59,7 @@ abbrev pub counted : Bool → Value → Result ℤ Trap → World → Outcome
 counted after p (Ok n) w = Gives (cond after (loaded p w) (stored_value p (Integer n) w)) (store p n w)
 counted after p (Err t) w = Traps t w
 
+-- the mark by which `++` and `--` count
 abbrev pub count_mark : Bool → ArithOp
 count_mark up = cond up Add Sub
 

@@ -12,6 +12,7 @@ abbrev pub iterate : {A : Type 0} → (A → A) → ℕ → A → A
 iterate f zero c = c
 iterate f (suc n) c = iterate f n (f c)
 
+-- the state after n steps
 abbrev pub run : Code → ℕ → State → State
 run p n c = iterate (step p) n c
 
@@ -36,6 +37,7 @@ start p m arguments input answers =
 abbrev pub jump_run : Code → List ℕ → List ℤ → List ℕ → List ℤ → ℕ → Shown
 jump_run p m arguments input answers n = shows (run p n (start p m arguments input answers))
 
+-- the run has ended or met a trap
 abbrev pub IsOver : Shown → Type 0
 IsOver (Ended n es) = Unit {0}
 IsOver (Trapped t es) = Unit {0}

@@ -43,6 +43,7 @@ pub record IsMadeWell (f : Function) : Type 0 where
   pub converted : IsConvertedFunction f → IsWellMade (body_of f)
   pub other : ¬ (IsConvertedFunction f) → Everywhere IsUnarmed (body_of f)
 
+-- the same of what stands at file scope
 abbrev pub IsTopMadeWell : Top → Type 0
 IsTopMadeWell (T.Function f) = IsMadeWell f
 IsTopMadeWell _ = Unit {0}
@@ -90,6 +91,7 @@ IsSilentTask l (Loops x ∷ k) = Unit {0}
 IsSilentTask l (Out ∷ k) = Unit {0}
 IsSilentTask l _ = ⊥
 
+-- the run goes on, and its next task is a silent one
 abbrev pub IsSilent : ℕ → State → Type 0
 IsSilent l (At f g k v cs w) = IsSilentTask l k
 IsSilent l _ = ⊥
@@ -129,6 +131,7 @@ pub record IsSteadyCode (p : Code) : Type 0 where
   pub at : (m : List ℕ) (arguments : List ℤ) → IsEntry p m arguments → (input : List ℕ) (answers : List ℤ) (n : ℕ)
       → IsSteadyState p (run p n (start p m arguments input answers))
 
+-- it is in range, its functions are made well, and its runs are steady
 pub record IsSteady (p : Program) : Type 0 where
   pub ranged : IsProgramInRange p
   pub made : All IsTopMadeWell p.tops

@@ -23,9 +23,11 @@ use Rattle.jump_meaning.specs.Search.{find, entry}
 abbrev pub Guards : Type 0
 Guards = ℕ → Bool
 
+-- no guard is set, as at the start of a call
 abbrev pub no_guards : Guards
 no_guards l = false
 
+-- the guard of one label is set or reset
 abbrev pub with_guard : ℕ → Bool → Guards → Guards
 with_guard l b g m = cond (eqb l m) b (g m)
 
@@ -144,6 +146,7 @@ abbrev pub invoke : Option Forest → FunctionTree → List ℕ → List Value �
 invoke (Some a) h m vs f g k v cs w = begin_call m a (push h vs w) (Waits f g k v ∷ cs) w
 invoke None h m vs f g k v cs w = settle (call_without_body m h vs w) f g k v cs
 
+-- the state after what a task of an expression comes to
 abbrev pub perform : Code → Effect → List ℕ → Guards → List Task → List Frame → State
 perform P (Does os v w) f g k cs = At f g (works os k) v cs w
 perform P (Fails t w) f g k cs = HasTrapped t w.events
@@ -152,6 +155,7 @@ perform P (Invokes m vs v w) f g k cs = invoke (P.functions m).body (P.functions
 perform P (Leaves (Some x) w) f g k cs = leave (P.functions f) (returned (P.functions f) x) cs w
 perform P (Leaves None w) f g k cs = leave (P.functions f) (fallen f) cs w
 
+-- the state after what the first task asks for
 abbrev pub move : Code → View → List ℕ → Guards → List Value → List Frame → World → State
 move P Finishes f g v cs w = leave (P.functions f) (fallen f) cs w
 move P (Goes k) f g v cs w = At f g k v cs w

@@ -12,6 +12,7 @@ pub data Loop : Type 0 where
   DoLoop : Forest → TestTree → Loop
   ForLoop : Option ExpressionTree → Option ExpressionTree → Forest → Loop
 
+-- one thing that a call has still to do
 pub data Task : Type 0 where
   Runs : Tree → Task
   Works : Op → Task

@@ -12,15 +12,19 @@ use Rattle.c_tree.specs.declared.tree.Home.TheVariants as H
 use Rattle.jump_meaning.specs.Values.{Owner, OfFile, OfCall, Variable, Holds, Lent, Value, Designates, Lends, Missing, Event, integer}
 use Rattle.jump_meaning.specs.Code.{FunctionTree, Code, entry_or, cells_of}
 
+-- the world of a run at one time
 pub record World : Type 0 where
+  -- what each variable holds
   pub variables : Owner → Variable
   -- how many calls are present; what an ended call held stays behind, and no name reaches it
   pub calls : ℕ
   -- how many cells the arrays of file scope and of the calls present have
   pub cells : ℕ
+  -- the bytes that are left to read
   pub input : List ℕ
+  -- the answers that are left for calls of functions without a body
   pub answers : List ℤ
-  -- in the order in which they came
+  -- those so far, in the order in which they came
   pub events : List Event
 
 -- what an operation gives: a value that it leaves, a trap, or the end of the run by `exit`
@@ -31,6 +35,7 @@ pub data Outcome : Type 0 where
 
 -- ---- variables
 
+-- whether two variables are one
 abbrev pub same_owner : Owner → Owner → Bool
 same_owner (OfFile m) (OfFile n) = bytes_eq m n
 same_owner (OfCall c x) (OfCall d y) = eqb c d && eqb x y
@@ -54,6 +59,7 @@ holder o (Holds k n cells) = o
 abbrev pub owner : Home → World → Owner
 owner h w = holder (named h w) (w.variables (named h w))
 
+-- the kind of its cells
 abbrev pub kind_held : Variable → IntKind
 kind_held (Holds k n cells) = k
 kind_held (Lent o) = Int
@@ -64,6 +70,7 @@ cells_held (Holds k None cells) = 1
 cells_held (Holds k (Some n) cells) = n
 cells_held (Lent o) = 0
 
+-- the number in cell i
 abbrev pub number_held : Variable → ℕ → ℤ
 number_held (Holds k n cells) i = cells i
 number_held (Lent o) i = pos 0
@@ -103,6 +110,7 @@ clear h n w = record w { variables = put (owner h w) (with_zeros n (w.variables 
 abbrev pub place : Home → World → Value
 place h w = Designates (owner h w) 0
 
+-- the cell of a variable at an index, if it has that cell
 abbrev pub cell_of : Owner → ℤ → World → Outcome
 cell_of o (pos i) w = cond (nat_lt i (cells_held (w.variables o))) (Gives (Designates o i) w) (Traps Trap.Index w)
 cell_of o (negsuc i) w = Traps Trap.Index w
@@ -144,14 +152,15 @@ enter_call f vs w =
       cells = w.cells + cells_of f.slots;
     }
 
--- the greatest numbers of calls in one another and of cells present (this profile)
+-- the most calls in one another (this profile)
 abbrev pub most_calls : ℕ
 most_calls = 10000
 
+-- the most cells of arrays that are present (this profile)
 abbrev pub most_cells : ℕ
 most_cells = 4194304
 
--- the same, or the trap of too many calls, or else that of too many cells (this profile)
+-- one more call, or the trap of too many calls, or else that of too many cells (this profile)
 abbrev pub push : FunctionTree → List Value → World → Result World Trap
 push f vs w =
     cond (nat_lt most_calls (suc w.calls)) (Err Trap.Calls)
@@ -164,6 +173,7 @@ pop f w = record w { calls = pred w.calls; cells = w.cells - cells_of f.slots }
 
 -- ---- input, answers and events (5.1.2.3)
 
+-- these events come next
 abbrev pub emit : List Event → World → World
 emit es w = record w { events = w.events ++ es }
 
