@@ -6,7 +6,8 @@ use Rattle.c_types.specs.declared.trap.Trap.{Trap}
 use Rattle.c_types.specs.Numbers.{converted, arith_result}
 use Rattle.jump_meaning.specs.Values.{Event, Byte, Called}
 use Rattle.jump_meaning.specs.Behaviour.{Shown, Ended, Trapped, More}
-use Rattle.jump_meaning.specs.Runs.{jump_run}
+use Rattle.jump_meaning.specs.Runs.{start, jump_run, TakesSteps}
+use Rattle.jump_meaning.proofs.RunFacts.{steps_of}
 use Rattle.jump_meaning.proofs.Examples.{empty, forever, into_block, into_loop, falls, nested_case, circuits, bad_index, late_zero, missing, prints, asks, quits, overflows, lends, counts, echoes, aborts, recursive, too_deep, armed, left_loop, lifted, picked, too_large}
 
 -- after n steps there is more to come, and the next step ends the run
@@ -111,3 +112,7 @@ picked_run = (refl, refl)
 -- it stands at the trap of too many cells, with no step made
 too_large_start : jump_run too_large (codes "main") [] [] [] 0 ≡ Trapped Trap.Cells []
 too_large_start = refl
+
+-- the shortest run takes exactly one step
+empty_steps : TakesSteps (jump_run empty (codes "main") [] [] []) 1
+empty_steps = steps_of empty (start empty (codes "main") [] [] []) 0 [] refl tt

@@ -1,7 +1,8 @@
 -- The laws of runs of programs.
-use Rattle.std.proofs.Common.{ℕ, zero, suc, ◌+◌, ◌≤◌, ◌<◌, ◌⊎◌, inl, inr, ◌≡◌, refl, arith}
+use Rattle.std.proofs.Common.{ℕ, zero, suc, ◌+◌, ◌≤◌, ◌<◌, ◌⊎◌, inl, inr, List, ◌≡◌, refl, sym, ◌∙◌, subst, arith}
 use Rattle.jump_meaning.specs.Code.{Code}
-use Rattle.jump_meaning.specs.Behaviour.{Shown, Covers}
+use Rattle.jump_meaning.specs.Values.{Event}
+use Rattle.jump_meaning.specs.Behaviour.{Ended, Trapped, More, Shown, Covers}
 use Rattle.jump_meaning.specs.Step.{State, At, HasEnded, HasTrapped, step}
 use Rattle.jump_meaning.specs.Runs.{run, shows, IsOver, TakesSteps, jump_run, SameBehaviour}
 use Rattle.jump_meaning.specs.Laws.{SamenessLaws, RunLaws}
@@ -32,8 +33,20 @@ steps_alone R m n h k = elim (order m n) as (λ _. m ≡ n) [
   ]
 ]
 
+-- a run that goes on is over at no earlier time
+over_covered : (c d : Shown) (es : List Event) → Covers c d → d ≡ More es → IsOver c → ⊥
+over_covered (Ended n fs) d es h e o = subst IsOver (sym h ∙ e) tt
+over_covered (Trapped t fs) d es h e o = subst IsOver (sym h ∙ e) tt
+over_covered (More fs) d es h e o = o
+
+pub steps_of : (p : Code) (c : State) (n : ℕ) (es : List Event) → shows (run p n c) ≡ More es → IsOver (shows (run p (suc n) c)) → TakesSteps (λ m. shows (run p m c)) (suc n)
+steps_of p c n es e o = record {
+  over = o;
+  before = λ m h k. over_covered (shows (run p m c)) (shows (run p n c)) es (run_grows p m n c (omega (arith, h))) e k;
+}
+
 pub run_laws : RunLaws
-run_laws = record { sums = run_add; stays = run_stays; grows = run_grows; alone = steps_alone }
+run_laws = record { sums = run_add; stays = run_stays; grows = run_grows; alone = steps_alone; counted = steps_of }
 
 -- ---- same behaviour
 

@@ -8,10 +8,10 @@ use Rattle.c_tree.specs.declared.tree.Program.{Program}
 use Rattle.c_tree.specs.Trees.{Forest, Sections}
 use Rattle.c_tree.specs.Everywhere.{Everywhere}
 use Rattle.c_tree.specs.InRange.{IsUnguarded, IsProgramInRange}
-use Rattle.jump_meaning.specs.Values.{Owner, OfFile, OfCall, Variable, Holds, Lent, Value, Designates}
+use Rattle.jump_meaning.specs.Values.{Event, Owner, OfFile, OfCall, Variable, Holds, Lent, Value, Designates}
 use Rattle.jump_meaning.specs.Code.{FunctionTree, Code, items_of}
 use Rattle.jump_meaning.specs.World.{World, owner, cells_held, load, store, clear, kind_at, slot_at_start, enter_call}
-use Rattle.jump_meaning.specs.Behaviour.{Shown, Covers, AreSameRuns}
+use Rattle.jump_meaning.specs.Behaviour.{Shown, More, Covers, AreSameRuns}
 use Rattle.jump_meaning.specs.Tasks.{Task}
 use Rattle.jump_meaning.specs.Search.{Goal, seek, seek_sections}
 use Rattle.jump_meaning.specs.Found.{IsFound, IsFoundAmong}
@@ -78,6 +78,8 @@ pub record RunLaws : Type 0 where
   pub grows : (p : Code) (m n : ℕ) (c : State) → m ≤ n → Covers (shows (run p m c)) (shows (run p n c))
   -- the number of steps of a run is one number
   pub alone : (R : ℕ → Shown) (m n : ℕ) → TakesSteps R m → TakesSteps R n → m ≡ n
+  -- and it is n + 1 where the run goes on after n steps and is over after the next
+  pub counted : (p : Code) (c : State) (n : ℕ) (es : List Event) → shows (run p n c) ≡ More es → IsOver (shows (run p (suc n) c)) → TakesSteps (λ m. shows (run p m c)) (suc n)
 
 -- a function that is not flat, as every function of a source is
 abbrev pub IsTopUnflat : Top → Type 0
