@@ -6,9 +6,13 @@ use Rattle.c_types.specs.declared.trap.Trap.{Trap}
 use Rattle.c_types.specs.Numbers.{converted}
 use Rattle.c_tree.specs.declared.tree.Slot.{Slot}
 use Rattle.c_tree.specs.declared.tree.Home.TheVariants as H
+use Rattle.c_tree.specs.declared.tree.Function.{Function}
+use Rattle.c_tree.specs.declared.tree.Top.TheVariants as T
+use Rattle.c_tree.specs.declared.tree.Program.{Program}
+use Rattle.c_tree.specs.Trees.{Nil, trees_of}
 use Rattle.jump_meaning.specs.Values.{OfCall, Integer, Designates, Lends, Format}
-use Rattle.jump_meaning.specs.Code.{FunctionTree, Code, undeclared}
-use Rattle.jump_meaning.specs.World.{World, Gives, Traps, load, store, cell, enter_call, world_at_start, zeros, no_slot}
+use Rattle.jump_meaning.specs.Code.{FunctionTree, Code, undeclared, code_of}
+use Rattle.jump_meaning.specs.World.{cells_held, World, Gives, Traps, load, store, cell, enter_call, world_at_start, zeros, no_slot}
 use Rattle.jump_meaning.specs.Known.{printed_bytes}
 
 -- "%d|%u|%x|%c|%ld|%%"
@@ -50,3 +54,31 @@ second = enter_call (record { result = None; params = 1; slots = lent_slot ∷ [
 
 lent : cell (H.Slot 0) (pos 2) second ≡ Gives (Designates (OfCall 1 0) 2) second
 lent = refl
+
+-- ---- a resolved program as code: `int f(); char a[5]; int f(void) { }`
+
+abbrev declaration : Function
+declaration = record { name = codes "f"; result = Some Int; file_only = false; params = 0; slots = []; labels = []; body = None; flat = false }
+
+abbrev file : Program
+file = record {
+  tops = T.Function declaration
+      ∷ T.Global (record { slot = record array_slot { cells = Some 5 }; init = None; file_only = false })
+      ∷ T.Function (record declaration { body = Some [] })
+      ∷ [];
+}
+
+-- the definition counts, wherever the declaration stands
+defined : ((code_of file).functions (codes "f")).body ≡ Some Nil
+unfolding trees_of
+defined = refl
+
+-- another name has no function
+unknown : (code_of file).functions (codes "g") ≡ undeclared
+unknown = refl
+
+global_start : cells_held ((code_of file).globals (codes "a")) ≡ 5
+global_start = refl
+
+global_count : (code_of file).cells ≡ 5
+global_count = refl
