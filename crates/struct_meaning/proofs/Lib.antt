@@ -1,0 +1,9 @@
+pub mod PlainBodies
+pub mod Ran
+pub mod Expressions
+pub mod Cuts
+pub mod Statements
+pub mod Fuel
+pub mod Agreement
+pub mod Programs
+mod Computed

@@ -1,0 +1,3 @@
+pub mod Structured
+pub mod Structural
+pub mod Runs
