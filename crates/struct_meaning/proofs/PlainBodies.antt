@@ -1,7 +1,8 @@
--- A plain program has no jumps.
-use Rattle.std.proofs.Common.{◌≡◌, Bool, true, false, ◌&&◌, Option, Some, None, List, [], ◌∷◌, map, refl, sym, subst, ◌∙◌}
+-- A plain program is structured.
+use Rattle.std.proofs.Common.{◌≡◌, Bool, true, Option, Some, None, List, [], ◌∷◌, map, sym, subst, ◌∙◌}
 use Rattle.std.specs.List.{AllByRecursion}
 use Rattle.std.specs.Option.{option_map_or}
+use Rattle.std.proofs.lemmas.Bool.{and_parts}
 use Rattle.std.proofs.lemmas.List.Elements.{All-from_recursion}
 use Rattle.c_tree.specs.declared.tree.Item.{Item, Item-F, roll-Item, fold-roll-Item, ind-Item, map-Item}
 use Rattle.c_tree.specs.declared.tree.Item.TheOpen.{Section-F, Evaluate, Return, If, While, Do, For, Switch, Block, Local, Break, Continue, Goto, Mark, Arm, Leap, Land, Arrival, Note}
@@ -19,14 +20,6 @@ plain x = holds_throughout is_plain_layer x
 
 abbrev section_plain : Section → Bool
 section_plain c = section_holds_throughout is_plain_layer c
-
-first_true : (a b : Bool) → (a && b) ≡ true → a ≡ true
-first_true true b p = refl
-first_true false b p = p
-
-second_true : (a b : Bool) → (a && b) ≡ true → b ≡ true
-second_true true b p = p
-second_true false b p = cc
 
 -- the induction
 
@@ -50,20 +43,20 @@ section_of e = e.0
 
 list_structured : (a : List I) → all_true (map plain (map item_of a)) ≡ true → Everywhere IsStructured (forest (map tree_of (map item_of a)))
 list_structured [] p = tt
-list_structured (e ∷ a) p = (e.1 (first_true (plain e.0) (all_true (map plain (map item_of a))) p), list_structured a (second_true (plain e.0) (all_true (map plain (map item_of a))) p))
+list_structured (e ∷ a) p = let q = and_parts (plain e.0) (all_true (map plain (map item_of a))) p in (e.1 q.0, list_structured a q.1)
 
 sections_structured : (a : List C) → all_true (map section_plain (map section_of a)) ≡ true → EverywhereIn IsStructured (sections (map section_tree (map section_of a)))
 sections_structured [] p = tt
-sections_structured (e ∷ a) p = (e.1 (first_true (section_plain e.0) (all_true (map section_plain (map section_of a))) p), sections_structured a (second_true (section_plain e.0) (all_true (map section_plain (map section_of a))) p))
+sections_structured (e ∷ a) p = let q = and_parts (section_plain e.0) (all_true (map section_plain (map section_of a))) p in (e.1 q.0, sections_structured a q.1)
 
 layered : (y : Item-F I C)
     → throughout_step is_plain_layer (map-Item Item Section Bool Bool plain section_plain (map-Item I C Item Section item_of section_of y)) ≡ true
     → EverywhereOf IsStructured (layer (map-Item Item Section Tree SectionTree tree_of section_tree (map-Item I C Item Section item_of section_of y)))
-layered (If t a b) p = let q = second_true _ _ p in (tt, list_structured a (first_true _ _ q), list_structured b (second_true _ _ q))
-layered (While t a) p = (tt, list_structured a (second_true _ _ p))
-layered (Do a t) p = (tt, list_structured a (second_true _ _ p))
-layered (For f t u a) p = (tt, list_structured f (first_true _ _ p), list_structured a (second_true _ _ p))
-layered (Switch s cs) p = (tt, sections_structured cs (second_true _ _ p))
+layered (If t a b) p = let q = and_parts _ _ (and_parts _ _ p).1 in (tt, list_structured a q.0, list_structured b q.1)
+layered (While t a) p = (tt, list_structured a (and_parts _ _ p).1)
+layered (Do a t) p = (tt, list_structured a (and_parts _ _ p).1)
+layered (For f t u a) p = let q = and_parts _ _ p in (tt, list_structured f q.0, list_structured a q.1)
+layered (Switch s cs) p = (tt, sections_structured cs (and_parts _ _ p).1)
 layered (Block a) p = (tt, list_structured a p)
 layered (Goto l) p = cc
 layered (Mark l) p = cc
@@ -82,13 +75,17 @@ item_structured : (x : Item) → P x
 unfolding tree_of section_tree
 item_structured = ind-Item P Q
     (λ x y e. subst (λ (z : Item-F Item Section). P (roll-Item z)) e (λ p.
-    subst (λ z. EverywhereOf IsStructured z) (sym (fold-roll-Item Tree SectionTree layer section_layer _)) (layered y (sym (fold-roll-Item Bool Bool (throughout_step is_plain_layer) section_throughout_step _) ∙ p))))
+    subst (λ z. EverywhereOf IsStructured z) (sym (fold-roll-Item Tree SectionTree layer section_layer _))
+    (layered y (sym (fold-roll-Item Bool Bool (throughout_step is_plain_layer) section_throughout_step _) ∙ p))))
     (λ x y e. subst (λ (z : Section-F Item Section). Q (roll-Section z)) e (λ p.
-    subst (λ (z : SectionTree). Everywhere IsStructured z.list) (sym (fold-roll-Section Tree SectionTree layer section_layer _)) (list_structured y.list (sym (fold-roll-Section Bool Bool (throughout_step is_plain_layer) section_throughout_step _) ∙ p))))
+    subst (λ (z : SectionTree). Everywhere IsStructured z.list) (sym (fold-roll-Section Tree SectionTree layer section_layer _))
+    (list_structured y.list (sym (fold-roll-Section Bool Bool (throughout_step is_plain_layer) section_throughout_step _) ∙ p))))
 
 items_structured : (xs : List Item) → is_plain xs ≡ true → Everywhere IsStructured (forest (map tree_of xs))
 items_structured [] p = tt
-items_structured (x ∷ xs) p = (item_structured x (first_true (plain x) (is_plain xs) p), items_structured xs (second_true (plain x) (is_plain xs) p))
+items_structured (x ∷ xs) p = let q = and_parts (plain x) (is_plain xs) p in (item_structured x q.0, items_structured xs q.1)
+
+-- functions and programs
 
 body_structured : (o : Option (List Item)) → body_holds is_plain o ≡ true → Everywhere IsStructured (option_map_or trees_of o Nil)
 unfolding trees_of
@@ -97,12 +94,14 @@ body_structured (Some xs) p = items_structured xs p
 
 tops_structured : (ts : List Top) → all_true (map (top_holds is_plain_function) ts) ≡ true → AllByRecursion IsTopStructured ts
 tops_structured [] p = tt
-tops_structured (T.Function f ∷ ts) p = (body_structured f.body (first_true _ _ p), tops_structured ts (second_true _ _ p))
+tops_structured (T.Function f ∷ ts) p =
+    let q = and_parts (is_plain_function f) (all_true (map (top_holds is_plain_function) ts)) p in
+    (body_structured f.body q.0, tops_structured ts q.1)
 tops_structured (T.Include b ∷ ts) p = (tt, tops_structured ts p)
 tops_structured (T.Enum es ∷ ts) p = (tt, tops_structured ts p)
 tops_structured (T.Global g ∷ ts) p = (tt, tops_structured ts p)
 tops_structured (T.Note b ∷ ts) p = (tt, tops_structured ts p)
 
--- in a program whose functions have no guards and no jumps no jump stands
+-- a program whose functions have no guards and no jumps is structured
 pub plain_structured : (q : Program) → is_plain_program q ≡ true → IsProgramStructured q
 plain_structured q p = All-from_recursion IsTopStructured q.tops (tops_structured q.tops p)

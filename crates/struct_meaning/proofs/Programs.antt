@@ -12,10 +12,11 @@ use Rattle.c_tree.specs.declared.tree.Top.TheVariants as T
 use Rattle.c_tree.specs.declared.tree.Program.{Program}
 use Rattle.c_tree.specs.Trees.{Nil, trees_of}
 use Rattle.c_tree.specs.Everywhere.{Everywhere}
-use Rattle.jump_meaning.specs.Code.{FunctionTree, items_of, function_tree, undeclared, function_in, first_of, code_of}
+use Rattle.jump_meaning.specs.Code.{Code, FunctionTree, items_of, function_tree, undeclared, function_in, first_of, code_of}
 use Rattle.struct_meaning.specs.Structured.{IsStructured, IsTopStructured, IsProgramStructured}
-use Rattle.struct_meaning.specs.Runs.{IsCodeStructured, MeaningsAgree}
+use Rattle.struct_meaning.specs.Runs.{IsCodeStructured, MeaningsAgreeOn, MeaningsAgree}
 use Rattle.struct_meaning.proofs.Agreement.{agrees}
+use Rattle.struct_meaning.proofs.PlainBodies.{plain_structured}
 
 -- a function that was found has no jumps
 abbrev IsFoundStructured : Option FunctionTree → Type 0
@@ -48,8 +49,12 @@ code_structured q s m =
     let t = recursion_from_All IsTopStructured q.tops s in
     first_structured (function_in (λ f. is_some f.body) m q.tops) (function_in (λ f. true) m q.tops) (found_structured (λ f. is_some f.body) m q.tops t) (found_structured (λ f. true) m q.tops t)
 
+agrees_on : (p : Code) → IsCodeStructured p → MeaningsAgreeOn p
+agrees_on p s = record { runs = agrees p s }
+
 pub meanings_agree_law : MeaningsAgree
 meanings_agree_law = record {
-  of_codes = agrees;
-  of_programs = λ q s. agrees (code_of q) (code_structured q s);
+  of_codes = agrees_on;
+  of_programs = λ q s. agrees_on (code_of q) (code_structured q s);
+  of_plain_programs = λ q e. agrees_on (code_of q) (code_structured q (plain_structured q e));
 }

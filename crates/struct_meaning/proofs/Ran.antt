@@ -1,5 +1,5 @@
 -- A run that gets to what the structural meaning says.
-use Rattle.std.proofs.Common.{ℕ, zero, suc, ◌+◌, ◌≤◌, List, ◌∷◌, ◌≡◌, refl, ap, sym, ◌∙◌, subst, arith, Some, None}
+use Rattle.std.proofs.Common.{ℕ, suc, ◌+◌, ◌≤◌, List, ◌∷◌, ◌≡◌, refl, ap, sym, ◌∙◌, subst, arith, Some, None}
 use Rattle.jump_meaning.specs.Values.{Value, Event}
 use Rattle.jump_meaning.specs.World.{World, Outcome, Gives, Traps, Exits}
 use Rattle.jump_meaning.specs.Code.{Code}
@@ -9,11 +9,8 @@ use Rattle.jump_meaning.specs.Tasks.{Task, cut, cut_to}
 use Rattle.jump_meaning.specs.Step.{no_guards, Frame, State, At, HasEnded, HasTrapped, leave, settle, perform, step}
 use Rattle.jump_meaning.specs.Runs.{run, shows}
 use Rattle.jump_meaning.specs.Behaviour.{More}
+use Rattle.jump_meaning.proofs.RunFacts.{run_add}
 use Rattle.struct_meaning.specs.Structural.{Evaluation, Yields, Faults, Quits, Spent, Completion, Normal, Broken, Continued, Returned, Meaning, and_then, given}
-
-pub run-add : (P : Code) (n m : ℕ) (c : State) → run P (n + m) c ≡ run P m (run P n c)
-run-add P zero m c = let e : zero + m ≡ m = omega arith in ap (λ k. run P k c) e
-run-add P (suc n) m c = let e : suc n + m ≡ suc (n + m) = omega arith in ap (λ k. run P k c) e ∙ run-add P n m (step P c)
 
 -- where a run gets: to a state, or out of fuel with these events
 pub data Target : Type 0 where
@@ -60,7 +57,7 @@ module _ (P : Code) where
   pub sooner : {b : ℕ} {t : Target} {d : State} (i : ℕ) (c : State) → run P i c ≡ d → Ran P b t d → Ran P b t c
   sooner {b} {t} {d} i c e r = record {
     steps = i + r.steps;
-    fits = subst (λ z. Fits b t (i + r.steps) z) (sym (run-add P i r.steps c ∙ ap (λ z. run P r.steps z) e)) (more_steps b t i r.steps (run P r.steps d) r.fits);
+    fits = subst (λ z. Fits b t (i + r.steps) z) (sym (run_add P i r.steps c ∙ ap (λ z. run P r.steps z) e)) (more_steps b t i r.steps (run P r.steps d) r.fits);
   }
 
   pub next : {b : ℕ} {t : Target} (c : State) → Ran P b t (step P c) → Ran P b t c

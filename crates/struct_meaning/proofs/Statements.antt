@@ -20,7 +20,7 @@ use Rattle.jump_meaning.specs.Tasks.{Task, Runs, Works, Asks, Branches, Turns, L
 use Rattle.jump_meaning.specs.Search.{ToCase, ToDefault, is_case, or_else, seek, seek_sections, first_of_three}
 use Rattle.jump_meaning.specs.Step.{no_guards, Frame, State, At, is_dropped, perform, switch_kind}
 use Rattle.struct_meaning.specs.Structured.{IsStructured}
-use Rattle.struct_meaning.specs.Structural.{Evaluation, Yields, Faults, Quits, Spent, Completion, Normal, Broken, Continued, Returned, Meaning, LessFuel, and_then, chosen, turned, switched, seq, nothing, eval_test, eval_selector, initialise, return, declare, third_part, for_turn, unless_end, fall, here_or, entered, exec, execs, from_section, from_case, from_default}
+use Rattle.struct_meaning.specs.Structural.{Evaluation, Yields, Faults, Quits, Spent, Completion, Normal, Broken, Continued, Returned, Meaning, LessFuel, and_then, chosen, body_then, switched, seq, nothing, eval_test, eval_selector, initialise, exec_return, declare, third_part, for_turn, unless_end, fall, here_or, entered, exec, execs, from_section, from_case, from_default}
 use Rattle.struct_meaning.proofs.Ran.{Ran, To, target, valued, landed, Reaches, sooner, next, there, once, bind}
 use Rattle.struct_meaning.proofs.Cuts.{cut-items, cut_to-items, cut-end, cut_to-end, cut-tail, cut_to-tail, unfound}
 use Rattle.struct_meaning.proofs.Expressions.{CallsRun, eval_ran}
@@ -47,7 +47,7 @@ module _ (P : Code) {b : ℕ} (f : List ℕ) (v : List Value) (cs : List Frame) 
 
   loop_bind : {k : List Task} {c : State} (j : List Task) (x : Evaluation Completion) (m : Meaning) → cut k ≡ j → cut_to k ≡ k
       → Ran P b (target (landed P f k v cs) x) c → ((w : World) → Ran P b (target (landed P f j v cs) (m w)) (At f no_guards k v cs w))
-      → Ran P b (target (landed P f j v cs) (and_then x (λ y w. turned y m w))) c
+      → Ran P b (target (landed P f j v cs) (body_then x m)) c
   loop_bind {k} {c} j (Yields Normal w) m p q r h = sooner P r.steps c r.fits (h w)
   loop_bind {k} {c} j (Yields Broken w) m p q r h = subst (λ z. Ran P b (To (At f no_guards z v cs w)) c) p r
   loop_bind {k} {c} j (Yields Continued w) m p q r h = sooner P r.steps c (r.fits ∙ ap (λ z. At f no_guards z v cs w) q) (h w)
@@ -104,7 +104,7 @@ module _ (P : Code) (L : LessFuel) (b : ℕ) (sound : Sound P L b) where
   declare_ran x None f k v cs w = there P 1 _ refl
   declare_ran x (Some es) f k v cs w = next P _ (initialise_ran es x 0 f k v cs w)
 
-  return_ran : (e : Option ExpressionTree) (f : List ℕ) (k : List Task) (v : List Value) (cs : List Frame) → Goal (return L e) (Runs (Return e) ∷ k) f k v cs
+  return_ran : (e : Option ExpressionTree) (f : List ℕ) (k : List Task) (v : List Value) (cs : List Frame) → Goal (exec_return L e) (Runs (Return e) ∷ k) f k v cs
   return_ran None f k v cs w = there P 2 _ refl
   return_ran (Some e) f k v cs w = next P _ (bind P (landed P f k v cs) _ _ (eval_ran P L b sound.calls e false f (Works (Ends true) ∷ k) v cs w refl) (λ u w. there P 1 _ refl))
 

@@ -1,7 +1,8 @@
--- Structural runs of a program, and that they are the runs by steps.
-use Rattle.std.specs.Prelude.{ℕ, ℤ, List, map}
+-- Structural runs of a program, and that they behave as the runs by steps do.
+use Rattle.std.specs.Prelude.{ℕ, ℤ, List, map, true, ◌≡◌}
 use Rattle.c_tree.specs.declared.tree.Program.{Program}
 use Rattle.c_tree.specs.Everywhere.{Everywhere}
+use Rattle.c_tree.specs.Jumps.{is_plain_program}
 use Rattle.jump_meaning.specs.Values.{Value, Integer, integer}
 use Rattle.jump_meaning.specs.Code.{Code, code_of, items_of}
 use Rattle.jump_meaning.specs.World.{World, push, world_at_start}
@@ -27,14 +28,18 @@ stands (Spent w) = More w.events
 abbrev pub structural_run : Code → List ℕ → List ℤ → List ℕ → List ℤ → ℕ → Shown
 structural_run p m arguments input answers n = stands (entry_call p (with_fuel p n) m arguments (world_at_start p input answers))
 
--- no function has a goto, label, jump or nested case label
+-- no goto, label, jump or nested case label stands in a function (this profile)
 abbrev pub IsCodeStructured : Code → Type 0
 IsCodeStructured p = (m : List ℕ) → Everywhere IsStructured (items_of (p.functions m))
 
--- on programs without jumps both meanings agree: from each entry, on each input and all answers, the run by
--- steps and the structural run behave the same
-pub record MeaningsAgree : Type 0 where
-  pub of_codes : (p : Code) → IsCodeStructured p → (m : List ℕ) (arguments : List ℤ) (input : List ℕ) (answers : List ℤ)
+-- the run by steps and the structural run behave the same: from each entry, on each input and all answers (5.1.2.3)
+pub record MeaningsAgreeOn (p : Code) : Type 0 where
+  pub runs : (m : List ℕ) (arguments : List ℤ) (input : List ℕ) (answers : List ℤ)
       → AreSameRuns (jump_run p m arguments input answers) (structural_run p m arguments input answers)
-  pub of_programs : (q : Program) → IsProgramStructured q → (m : List ℕ) (arguments : List ℤ) (input : List ℕ) (answers : List ℤ)
-      → AreSameRuns (jump_run (code_of q) m arguments input answers) (structural_run (code_of q) m arguments input answers)
+
+-- both meanings agree on programs without jumps (this profile)
+pub record MeaningsAgree : Type 0 where
+  pub of_codes : (p : Code) → IsCodeStructured p → MeaningsAgreeOn p
+  pub of_programs : (q : Program) → IsProgramStructured q → MeaningsAgreeOn (code_of q)
+  -- on plain programs above all
+  pub of_plain_programs : (q : Program) → is_plain_program q ≡ true → MeaningsAgreeOn (code_of q)
