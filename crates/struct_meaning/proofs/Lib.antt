@@ -1,7 +1,7 @@
 pub mod PlainBodies
 pub mod Ran
 pub mod Expressions
-pub mod Cuts
+pub mod Unfound
 pub mod Statements
 pub mod Fuel
 pub mod Agreement

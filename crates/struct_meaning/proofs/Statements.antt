@@ -19,10 +19,11 @@ use Rattle.jump_meaning.specs.Effects as E
 use Rattle.jump_meaning.specs.Tasks.{Task, Runs, Works, Asks, Branches, Turns, Loops, Heads, AsksSelector, Enters, WhileLoop, DoLoop, ForLoop, items, end_of, tail_tasks, cut, cut_to}
 use Rattle.jump_meaning.specs.Search.{ToCase, ToDefault, is_case, or_else, seek, seek_sections, first_of_three}
 use Rattle.jump_meaning.specs.Step.{no_guards, Frame, State, At, is_dropped, perform, switch_kind}
+use Rattle.jump_meaning.proofs.TaskFacts.{cut_items, cut_to_items, cut_end, cut_to_end, cut_tail, cut_to_tail}
 use Rattle.struct_meaning.specs.Structured.{IsStructured}
 use Rattle.struct_meaning.specs.Structural.{Evaluation, Yields, Faults, Quits, Spent, Completion, Normal, Broken, Continued, Returned, Meaning, LessFuel, and_then, chosen, body_then, switched, seq, nothing, eval_test, eval_selector, initialise, exec_return, declare, third_part, for_turn, unless_end, fall, here_or, entered, exec, execs, from_section, from_case, from_default}
 use Rattle.struct_meaning.proofs.Ran.{Ran, To, target, valued, landed, Reaches, sooner, next, there, once, bind}
-use Rattle.struct_meaning.proofs.Cuts.{cut-items, cut_to-items, cut-end, cut_to-end, cut-tail, cut_to-tail, unfound}
+use Rattle.struct_meaning.proofs.Unfound.{unfound}
 use Rattle.struct_meaning.proofs.Expressions.{CallsRun, eval_ran}
 
 -- the meaning with one less of fuel is met after at least b steps
@@ -165,14 +166,14 @@ module _ (P : Code) (L : LessFuel) (b : ℕ) (sound : Sound P L b) where
 
   end_ran : (ends : Bool) (c : Sections) (f : List ℕ) (k : List Task) (v : List Value) (cs : List Frame)
       → Tail (from_section L c) (tail_tasks c k) f k v cs → Tail (unless_end ends (from_section L c)) (end_of ends (tail_tasks c k)) f k v cs
-  end_ran true c f k v cs h w = there P 1 _ (ap (λ z. At f no_guards z v cs w) (cut-tail c k))
+  end_ran true c f k v cs h w = there P 1 _ (ap (λ z. At f no_guards z v cs w) (cut_tail c k))
   end_ran false c f k v cs h w = h w
 
   section_ran : (a : Forest) (ends : Bool) (c : Sections) (f : List ℕ) (k : List Task) (v : List Value) (cs : List Frame)
       → Goal (execs L a) (items a (end_of ends (tail_tasks c k))) f (end_of ends (tail_tasks c k)) v cs → Tail (from_section L c) (tail_tasks c k) f k v cs
       → Tail (fall (execs L a) ends (from_section L c)) (items a (end_of ends (tail_tasks c k))) f k v cs
   section_ran a ends c f k v cs g h w =
-      switch_bind P f v cs k (execs L a w) _ (cut-end ends (tail_tasks c k) ∙ cut-tail c k) (cut_to-end ends (tail_tasks c k) ∙ cut_to-tail c k) (g w) (end_ran ends c f k v cs h)
+      switch_bind P f v cs k (execs L a w) _ (cut_end ends (tail_tasks c k) ∙ cut_tail c k) (cut_to_end ends (tail_tasks c k) ∙ cut_to_tail c k) (g w) (end_ran ends c f k v cs h)
 
   mutual
     pub exec_ran : (x : Tree) → EverywhereOf IsStructured x → (f : List ℕ) (k : List Task) (v : List Value) (cs : List Frame) → Goal (exec L x) (Runs x ∷ k) f k v cs
@@ -209,7 +210,7 @@ module _ (P : Code) (L : LessFuel) (b : ℕ) (sound : Sound P L b) where
 
     pub execs_ran : (xs : Forest) → Everywhere IsStructured xs → (f : List ℕ) (k : List Task) (v : List Value) (cs : List Frame) → Goal (execs L xs) (items xs k) f k v cs
     execs_ran Nil s f k v cs w = there P 0 _ refl
-    execs_ran (Then x xs) s f k v cs w = seq_bind P f v cs k (exec L x w) (execs L xs) (cut-items xs k) (cut_to-items xs k) (exec_ran x s.0 f (items xs k) v cs w) (execs_ran xs s.1 f k v cs)
+    execs_ran (Then x xs) s f k v cs w = seq_bind P f v cs k (exec L x w) (execs L xs) (cut_items xs k) (cut_to_items xs k) (exec_ran x s.0 f (items xs k) v cs w) (execs_ran xs s.1 f k v cs)
 
     tail_ran : (c : Sections) → EverywhereIn IsStructured c → (f : List ℕ) (k : List Task) (v : List Value) (cs : List Frame) → Tail (from_section L c) (tail_tasks c k) f k v cs
     tail_ran NoSection s f k v cs w = there P 1 _ refl
