@@ -1,21 +1,21 @@
 -- On programs without jumps the run by steps and the structural run are the same.
-use Rattle.std.proofs.Common.{ℕ, suc, ◌+◌, ◌≤◌, ℤ, Bool, true, false, cond, List, [], map, ◌⊎◌, inl, inr, Some, None, Result, Ok, Err, ◌≡◌, refl, ap, sym, ◌∙◌, subst, arith}
+use Rattle.std.proofs.Common.{ℕ, suc, ◌+◌, ◌≤◌, ℤ, Bool, true, false, cond, List, [], map, ◌⊎◌, inl, inr, Result, Ok, Err, ◌≡◌, refl, ap, sym, ◌∙◌, subst, arith}
 use Rattle.c_types.specs.declared.trap.Trap.{Trap}
 use Rattle.jump_meaning.specs.Values.{Value, Integer}
 use Rattle.jump_meaning.specs.World.{World, Traps, Exits, push, world_at_start}
 use Rattle.jump_meaning.specs.Code.{Code, items_of}
-use Rattle.jump_meaning.specs.Calls.{returned, fallen, lacks, leave_entry}
+use Rattle.jump_meaning.specs.Calls.{lacks, leave_entry}
 use Rattle.jump_meaning.specs.Step.{State, HasEnded, HasTrapped, begin_call}
 use Rattle.jump_meaning.specs.Behaviour.{Shown, Covers, AreSameRuns}
 use Rattle.jump_meaning.specs.Runs.{run, shows, start, jump_run, IsOver}
 use Rattle.jump_meaning.proofs.Covering.{covers_refl}
 use Rattle.jump_meaning.proofs.RunFacts.{run_add, run_stays, run_grows}
-use Rattle.struct_meaning.specs.Structural.{Evaluation, Yields, Faults, Quits, Spent, Completion, Normal, Broken, Continued, Returned, given, execs, value_left, call_body, with_fuel}
+use Rattle.struct_meaning.specs.Structural.{Evaluation, Yields, Faults, Quits, Spent, given, execs, value_left, call_body, with_fuel}
 use Rattle.struct_meaning.specs.Runs.{entry_call, stands, structural_run, IsCodeStructured}
-use Rattle.struct_meaning.proofs.Ran.{Ran, target, valued, landed, sooner, there, bind, settled}
+use Rattle.struct_meaning.proofs.Ran.{Ran, target, valued, there, bind, settled}
 use Rattle.struct_meaning.proofs.Expressions.{AllYield, yields_bind}
 use Rattle.struct_meaning.proofs.Statements.{execs_ran}
-use Rattle.struct_meaning.proofs.Fuel.{sound}
+use Rattle.struct_meaning.proofs.Fuel.{over_ran, sound}
 
 -- the entry yields no value: it ends the run
 leaves_none : (y : Bool) (t : Trap) (n : ℤ) (w : World) → AllYield (λ (x : Value). ⊥) (given (cond y (Traps t w) (Exits n w)))
@@ -23,18 +23,11 @@ leaves_none true t n w = tt
 leaves_none false t n w = tt
 
 module _ (P : Code) (structured : IsCodeStructured P) where
-  completed_ran : {b : ℕ} (c : Completion) (m : List ℕ) (w : World)
-      → Ran P b (target (valued [] [] [] []) (given (leave_entry (P.functions m) (value_left m (P.functions m) c) w))) (landed P m [] [] [] c w)
-  completed_ran Normal m w = sooner P 1 _ refl (settled P (leave_entry (P.functions m) (fallen m) w) [] [] [] [])
-  completed_ran Broken m w = sooner P 1 _ refl (settled P (leave_entry (P.functions m) (fallen m) w) [] [] [] [])
-  completed_ran Continued m w = sooner P 1 _ refl (settled P (leave_entry (P.functions m) (fallen m) w) [] [] [] [])
-  completed_ran (Returned None) m w = settled P (leave_entry (P.functions m) (fallen m) w) [] [] [] []
-  completed_ran (Returned (Some x)) m w = settled P (leave_entry (P.functions m) (returned (P.functions m) x) w) [] [] [] []
-
   entry_ran : (n : ℕ) (m : List ℕ) (r : Result World Trap) (w : World)
       → Ran P (suc n) (target (valued [] [] [] []) (call_body (execs (with_fuel P n) (items_of (P.functions m))) (λ c w. leave_entry (P.functions m) (value_left m (P.functions m) c) w) w r))
       (begin_call m (items_of (P.functions m)) r [] w)
-  entry_ran n m (Ok u) w = bind P (valued [] [] [] []) _ _ (execs_ran P (with_fuel P n) n (sound P structured n) (items_of (P.functions m)) (structured m) m [] [] [] u) (λ c w. completed_ran c m w)
+  entry_ran n m (Ok u) w = bind P (valued [] [] [] []) _ _ (execs_ran P (with_fuel P n) n (sound P structured n) (items_of (P.functions m)) (structured m) m [] [] [] u)
+      (λ c w. over_ran P c m [] w (settled P (leave_entry (P.functions m) (value_left m (P.functions m) c) w) [] [] [] []))
   entry_ran n m (Err t) w = there P 0 _ refl
 
   entry_over : (n : ℕ) (m : List ℕ) (r : Result World Trap) (w : World)

@@ -8,14 +8,14 @@ use Rattle.jump_meaning.specs.Values.{Value}
 use Rattle.jump_meaning.specs.World.{World, push}
 use Rattle.jump_meaning.specs.Code.{Code}
 use Rattle.jump_meaning.specs.Known.{call_without_body}
-use Rattle.jump_meaning.specs.Calls.{returned, fallen, leave_call, without_last}
+use Rattle.jump_meaning.specs.Calls.{leave_call, without_last}
 use Rattle.jump_meaning.specs.Effects.{Calls}
 use Rattle.jump_meaning.specs.Tasks.{Task, Works}
-use Rattle.jump_meaning.specs.Step.{no_guards, Frame, Waits, At, is_dropped, settle, begin_call, invoke}
+use Rattle.jump_meaning.specs.Step.{no_guards, Frame, Waits, At, is_dropped, settle, leave, begin_call, invoke}
 use Rattle.struct_meaning.specs.Structured.{IsStructured}
 use Rattle.struct_meaning.specs.Structural.{Completion, Normal, Broken, Continued, Returned, LessFuel, given, execs, value_left, call_body, called, call, with_fuel}
 use Rattle.struct_meaning.specs.Runs.{IsCodeStructured}
-use Rattle.struct_meaning.proofs.Ran.{Ran, target, valued, landed, sooner, next, there, bind, settled}
+use Rattle.struct_meaning.proofs.Ran.{Ran, Target, target, valued, landed, sooner, next, there, bind, settled}
 use Rattle.struct_meaning.proofs.Expressions.{pushed, last_pushed, below_pushed}
 use Rattle.struct_meaning.proofs.Statements.{Sound, for_ran, exec_ran, execs_ran}
 
@@ -27,18 +27,19 @@ module _ (P : Code) where
       subst (λ y. Ran P b (target (valued f k v cs) (given (leave_call y (P.functions m) x w))) (settle (leave_call (is_dropped k) (P.functions m) x w) f no_guards k v cs)) e
       (settled P (leave_call (is_dropped k) (P.functions m) x w) f k v cs)
 
-  completed_ran : {b : ℕ} (c : Completion) (d : Bool) (m f : List ℕ) (k : List Task) (v : List Value) (cs : List Frame) (w : World) → is_dropped k ≡ d
-      → Ran P b (target (valued f k v cs) (given (leave_call d (P.functions m) (value_left m (P.functions m) c) w))) (landed P m [] [] (Waits f no_guards k v ∷ cs) c w)
-  completed_ran Normal d m f k v cs w e = sooner P 1 _ refl (left_ran (fallen m) d m f k v cs w e)
-  completed_ran Broken d m f k v cs w e = sooner P 1 _ refl (left_ran (fallen m) d m f k v cs w e)
-  completed_ran Continued d m f k v cs w e = sooner P 1 _ refl (left_ran (fallen m) d m f k v cs w e)
-  completed_ran (Returned None) d m f k v cs w e = left_ran (fallen m) d m f k v cs w e
-  completed_ran (Returned (Some x)) d m f k v cs w e = left_ran (returned (P.functions m) x) d m f k v cs w e
+  -- however a body completes, its call is over after one more step at the most
+  pub over_ran : {b : ℕ} {t : Target} (c : Completion) (m : List ℕ) (cs : List Frame) (w : World)
+      → Ran P b t (leave (P.functions m) (value_left m (P.functions m) c) cs w) → Ran P b t (landed P m [] [] cs c w)
+  over_ran Normal m cs w r = sooner P 1 _ refl r
+  over_ran Broken m cs w r = sooner P 1 _ refl r
+  over_ran Continued m cs w r = sooner P 1 _ refl r
+  over_ran (Returned None) m cs w r = r
+  over_ran (Returned (Some x)) m cs w r = r
 
   module _ (L : LessFuel) (b : ℕ) (sound : Sound P L b) where
     body_ran : (a : Forest) → Everywhere IsStructured a → (r : Result World Trap) (d : Bool) (m f : List ℕ) (k : List Task) (v : List Value) (cs : List Frame) (w : World) → is_dropped k ≡ d
         → Ran P (suc b) (target (valued f k v cs) (call_body (execs L a) (λ c w. leave_call d (P.functions m) (value_left m (P.functions m) c) w) w r)) (begin_call m a r (Waits f no_guards k v ∷ cs) w)
-    body_ran a s (Ok u) d m f k v cs w e = bind P (valued f k v cs) _ _ (execs_ran P L b sound a s m [] [] (Waits f no_guards k v ∷ cs) u) (λ c w. completed_ran c d m f k v cs w e)
+    body_ran a s (Ok u) d m f k v cs w e = bind P (valued f k v cs) _ _ (execs_ran P L b sound a s m [] [] (Waits f no_guards k v ∷ cs) u) (λ c w. over_ran c m (Waits f no_guards k v ∷ cs) w (left_ran (value_left m (P.functions m) c) d m f k v cs w e))
     body_ran a s (Err t) d m f k v cs w e = there P 0 _ refl
 
     called_ran : (o : Option Forest) → Everywhere IsStructured (option_map_or (λ a. a) o Nil) → (d : Bool) (m : List ℕ) (vs : List Value) (f : List ℕ) (k : List Task) (v : List Value) (cs : List Frame) (w : World) → is_dropped k ≡ d

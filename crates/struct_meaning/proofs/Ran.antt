@@ -88,6 +88,13 @@ module _ (P : Code) where
   bind to (Quits n w) m r h = r
   bind to (Spent w) m r h = r
 
+  pub bind_twice : {A B C : Type 0} {b : ℕ} {c : State} {go : A → World → State} (to : C → World → State) (x : Evaluation A) (m : A → World → Evaluation B) (n : B → World → Evaluation C)
+      → Ran P b (target go x) c → ((a : A) (w : World) → Ran P b (target to (and_then (m a w) n)) (go a w)) → Ran P b (target to (and_then (and_then x m) n)) c
+  bind_twice {c = c} to (Yields a w) m n r h = sooner r.steps c r.fits (h a w)
+  bind_twice to (Faults t w) m n r h = r
+  bind_twice to (Quits i w) m n r h = r
+  bind_twice to (Spent w) m n r h = r
+
   -- an outcome, where it is left with the values and where it settles
   pub left_ran : {b : ℕ} (o : Outcome) (f : List ℕ) (k : List Task) (v : List Value) (cs : List Frame) → Ran P b (target (valued f k v cs) (given o)) (perform P (left o v) f no_guards k cs)
   left_ran (Gives x w) f k v cs = there 0 _ refl

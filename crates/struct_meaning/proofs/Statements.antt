@@ -18,11 +18,11 @@ use Rattle.jump_meaning.specs.Effects.{Computes, Drops, Converts, Ends, Sets, Cl
 use Rattle.jump_meaning.specs.Effects as E
 use Rattle.jump_meaning.specs.Tasks.{Task, Runs, Works, Asks, Branches, Turns, Loops, Heads, AsksSelector, Enters, WhileLoop, DoLoop, ForLoop, items, end_of, tail_tasks, cut, cut_to}
 use Rattle.jump_meaning.specs.Search.{ToCase, ToDefault, is_case, or_else, seek, seek_sections, first_of_three}
-use Rattle.jump_meaning.specs.Step.{no_guards, Frame, State, At, is_dropped, perform, switch_kind}
+use Rattle.jump_meaning.specs.Step.{no_guards, Frame, At, is_dropped, perform, switch_kind}
 use Rattle.jump_meaning.proofs.TaskFacts.{cut_items, cut_to_items, cut_end, cut_to_end, cut_tail, cut_to_tail}
 use Rattle.struct_meaning.specs.Structured.{IsStructured}
-use Rattle.struct_meaning.specs.Structural.{Evaluation, Yields, Faults, Quits, Spent, Completion, Normal, Broken, Continued, Returned, Meaning, LessFuel, and_then, chosen, body_then, switched, seq, nothing, eval_test, eval_selector, initialise, exec_return, declare, third_part, for_turn, unless_end, fall, here_or, entered, exec, execs, from_section, from_case, from_default}
-use Rattle.struct_meaning.proofs.Ran.{Ran, To, target, valued, landed, Reaches, sooner, next, there, once, bind}
+use Rattle.struct_meaning.specs.Structural.{Yields, Completion, Normal, Broken, Continued, Returned, Meaning, LessFuel, and_then, chosen, followed, turned, switched, nothing, eval_test, eval_selector, initialise, exec_return, declare, third_part, for_turn, unless_end, fall, here_or, entered, exec, execs, from_section, from_case, from_default}
+use Rattle.struct_meaning.proofs.Ran.{Ran, target, valued, landed, Reaches, sooner, next, there, once, bind, bind_twice}
 use Rattle.struct_meaning.proofs.Unfound.{unfound}
 use Rattle.struct_meaning.proofs.Expressions.{CallsRun, eval_ran}
 
@@ -32,43 +32,35 @@ pub record Sound (P : Code) (L : LessFuel) (b : ℕ) : Type 0 where
   pub again_for : (t u : Option ExpressionTree) (a : Forest) → Everywhere IsStructured a → (f : List ℕ) (k : List Task) (v : List Value) (cs : List Frame) → Reaches P b (L.again_for t u a) (Heads t u a ∷ k) f k v cs
   pub calls : CallsRun P L b
 
--- one completion after another
+-- what follows a completion, from the tasks k behind the statement to the tasks j behind the whole
 
-module _ (P : Code) {b : ℕ} (f : List ℕ) (v : List Value) (cs : List Frame) where
-  seq_bind : {k : List Task} {c : State} (j : List Task) (x : Evaluation Completion) (m : Meaning) → cut k ≡ cut j → cut_to k ≡ cut_to j
-      → Ran P b (target (landed P f k v cs) x) c → ((w : World) → Ran P b (target (landed P f j v cs) (m w)) (At f no_guards k v cs w)) → Ran P b (target (landed P f j v cs) (seq x m)) c
-  seq_bind {k} {c} j (Yields Normal w) m p q r h = sooner P r.steps c r.fits (h w)
-  seq_bind {k} {c} j (Yields Broken w) m p q r h = subst (λ z. Ran P b (To (At f no_guards z v cs w)) c) p r
-  seq_bind {k} {c} j (Yields Continued w) m p q r h = subst (λ z. Ran P b (To (At f no_guards z v cs w)) c) q r
-  seq_bind j (Yields (Returned None) w) m p q r h = r
-  seq_bind j (Yields (Returned (Some x)) w) m p q r h = r
-  seq_bind j (Faults t w) m p q r h = r
-  seq_bind j (Quits n w) m p q r h = r
-  seq_bind j (Spent w) m p q r h = r
+module _ (P : Code) {b : ℕ} (f : List ℕ) (v : List Value) (cs : List Frame) {k : List Task} (j : List Task) where
+  -- of a statement in a list
+  followed_ran : (m : Meaning) → cut k ≡ cut j → cut_to k ≡ cut_to j → ((w : World) → Ran P b (target (landed P f j v cs) (m w)) (At f no_guards k v cs w))
+      → (c : Completion) (w : World) → Ran P b (target (landed P f j v cs) (followed m c w)) (landed P f k v cs c w)
+  followed_ran m p q h Normal w = h w
+  followed_ran m p q h Broken w = there P 0 _ (ap (λ z. At f no_guards z v cs w) p)
+  followed_ran m p q h Continued w = there P 0 _ (ap (λ z. At f no_guards z v cs w) q)
+  followed_ran m p q h (Returned None) w = there P 0 _ refl
+  followed_ran m p q h (Returned (Some x)) w = there P 0 _ refl
 
-  loop_bind : {k : List Task} {c : State} (j : List Task) (x : Evaluation Completion) (m : Meaning) → cut k ≡ j → cut_to k ≡ k
-      → Ran P b (target (landed P f k v cs) x) c → ((w : World) → Ran P b (target (landed P f j v cs) (m w)) (At f no_guards k v cs w))
-      → Ran P b (target (landed P f j v cs) (body_then x m)) c
-  loop_bind {k} {c} j (Yields Normal w) m p q r h = sooner P r.steps c r.fits (h w)
-  loop_bind {k} {c} j (Yields Broken w) m p q r h = subst (λ z. Ran P b (To (At f no_guards z v cs w)) c) p r
-  loop_bind {k} {c} j (Yields Continued w) m p q r h = sooner P r.steps c (r.fits ∙ ap (λ z. At f no_guards z v cs w) q) (h w)
-  loop_bind j (Yields (Returned None) w) m p q r h = r
-  loop_bind j (Yields (Returned (Some x)) w) m p q r h = r
-  loop_bind j (Faults t w) m p q r h = r
-  loop_bind j (Quits n w) m p q r h = r
-  loop_bind j (Spent w) m p q r h = r
+  -- of the body of a loop
+  turned_ran : (m : Meaning) → cut k ≡ j → cut_to k ≡ k → ((w : World) → Ran P b (target (landed P f j v cs) (m w)) (At f no_guards k v cs w))
+      → (c : Completion) (w : World) → Ran P b (target (landed P f j v cs) (turned m c w)) (landed P f k v cs c w)
+  turned_ran m p q h Normal w = h w
+  turned_ran m p q h Broken w = there P 0 _ (ap (λ z. At f no_guards z v cs w) p)
+  turned_ran m p q h Continued w = sooner P 0 _ (ap (λ z. At f no_guards z v cs w) q) (h w)
+  turned_ran m p q h (Returned None) w = there P 0 _ refl
+  turned_ran m p q h (Returned (Some x)) w = there P 0 _ refl
 
-  switch_bind : {k : List Task} {c : State} (j : List Task) (x : Evaluation Completion) (m : Meaning) → cut k ≡ j → cut_to k ≡ cut_to j
-      → Ran P b (target (landed P f k v cs) x) c → ((w : World) → Ran P b (target (landed P f j v cs) (and_then (m w) switched)) (At f no_guards k v cs w))
-      → Ran P b (target (landed P f j v cs) (and_then (seq x m) switched)) c
-  switch_bind {k} {c} j (Yields Normal w) m p q r h = sooner P r.steps c r.fits (h w)
-  switch_bind {k} {c} j (Yields Broken w) m p q r h = subst (λ z. Ran P b (To (At f no_guards z v cs w)) c) p r
-  switch_bind {k} {c} j (Yields Continued w) m p q r h = subst (λ z. Ran P b (To (At f no_guards z v cs w)) c) q r
-  switch_bind j (Yields (Returned None) w) m p q r h = r
-  switch_bind j (Yields (Returned (Some x)) w) m p q r h = r
-  switch_bind j (Faults t w) m p q r h = r
-  switch_bind j (Quits n w) m p q r h = r
-  switch_bind j (Spent w) m p q r h = r
+  -- of the list of a section
+  section_followed_ran : (m : Meaning) → cut k ≡ j → cut_to k ≡ cut_to j → ((w : World) → Ran P b (target (landed P f j v cs) (and_then (m w) switched)) (At f no_guards k v cs w))
+      → (c : Completion) (w : World) → Ran P b (target (landed P f j v cs) (and_then (followed m c w) switched)) (landed P f k v cs c w)
+  section_followed_ran m p q h Normal w = h w
+  section_followed_ran m p q h Broken w = there P 0 _ (ap (λ z. At f no_guards z v cs w) p)
+  section_followed_ran m p q h Continued w = there P 0 _ (ap (λ z. At f no_guards z v cs w) q)
+  section_followed_ran m p q h (Returned None) w = there P 0 _ refl
+  section_followed_ran m p q h (Returned (Some x)) w = there P 0 _ refl
 
 module _ (P : Code) (L : LessFuel) (b : ℕ) (sound : Sound P L b) where
   -- a statement or a list, from tasks j
@@ -122,11 +114,11 @@ module _ (P : Code) (L : LessFuel) (b : ℕ) (sound : Sound P L b) where
 
   pub for_ran : (t u : Option ExpressionTree) (a : Forest) → Everywhere IsStructured a → (m : Meaning) (f : List ℕ) (k : List Task) (v : List Value) (cs : List Frame)
       → Goal m (items a (Loops (ForLoop t u a) ∷ k)) f (Loops (ForLoop t u a) ∷ k) v cs → Goal (for_turn L t u a m) (Heads t u a ∷ k) f k v cs
-  for_ran None u a s m f k v cs h w = next P _ (loop_bind P f v cs k (m w) _ refl refl (h w) (third_ran None u a s f k v cs))
+  for_ran None u a s m f k v cs h w = next P _ (bind P (landed P f k v cs) (m w) _ (h w) (turned_ran P f v cs k _ refl refl (third_ran None u a s f k v cs)))
   for_ran (Some t) u a s m f k v cs h w =
       next P _ (bind P (landed P f k v cs) _ _ (eval_ran P L b sound.calls t false f (Turns (ForLoop (Some t) u a) ∷ k) v cs w refl)
       (λ x w. next P _ (chosen_ran (holds x) _ nothing (items a (Loops (ForLoop (Some t) u a) ∷ k)) k f k v cs
-      (λ w. loop_bind P f v cs k (m w) _ refl refl (h w) (third_ran (Some t) u a s f k v cs)) (λ w. there P 0 _ refl) w)))
+      (λ w. bind P (landed P f k v cs) (m w) _ (h w) (turned_ran P f v cs k _ refl refl (third_ran (Some t) u a s f k v cs))) (λ w. there P 0 _ refl) w)))
 
   do_again : (a : Forest) (t : TestTree) → EverywhereOf IsStructured (Do a t) → (y : Bool) (f : List ℕ) (k : List Task) (v : List Value) (cs : List Frame)
       → Reaches P b (chosen y (L.again (Do a t)) nothing) (cond y (Runs (Do a t) ∷ k) k) f k v cs
@@ -173,7 +165,8 @@ module _ (P : Code) (L : LessFuel) (b : ℕ) (sound : Sound P L b) where
       → Goal (execs L a) (items a (end_of ends (tail_tasks c k))) f (end_of ends (tail_tasks c k)) v cs → Tail (from_section L c) (tail_tasks c k) f k v cs
       → Tail (fall (execs L a) ends (from_section L c)) (items a (end_of ends (tail_tasks c k))) f k v cs
   section_ran a ends c f k v cs g h w =
-      switch_bind P f v cs k (execs L a w) _ (cut_end ends (tail_tasks c k) ∙ cut_tail c k) (cut_to_end ends (tail_tasks c k) ∙ cut_to_tail c k) (g w) (end_ran ends c f k v cs h)
+      bind_twice P (landed P f k v cs) (execs L a w) _ switched (g w)
+      (section_followed_ran P f v cs k _ (cut_end ends (tail_tasks c k) ∙ cut_tail c k) (cut_to_end ends (tail_tasks c k) ∙ cut_to_tail c k) (end_ran ends c f k v cs h))
 
   mutual
     pub exec_ran : (x : Tree) → EverywhereOf IsStructured x → (f : List ℕ) (k : List Task) (v : List Value) (cs : List Frame) → Goal (exec L x) (Runs x ∷ k) f k v cs
@@ -185,13 +178,13 @@ module _ (P : Code) (L : LessFuel) (b : ℕ) (sound : Sound P L b) where
     exec_ran (While t a) s f k v cs w =
         next P _ (bind P (landed P f k v cs) _ _ (test_ran t f (Turns (WhileLoop t a) ∷ k) v cs w refl)
         (λ x w. next P _ (chosen_ran (holds x) _ nothing (items a (Loops (WhileLoop t a) ∷ k)) k f k v cs
-        (λ w. loop_bind P f v cs k (execs L a w) _ refl refl (execs_ran a s.1 f (Loops (WhileLoop t a) ∷ k) v cs w) (λ w. once P _ (sound.again (While t a) s f k v cs w)))
+        (λ w. bind P (landed P f k v cs) (execs L a w) _ (execs_ran a s.1 f (Loops (WhileLoop t a) ∷ k) v cs w) (turned_ran P f v cs k _ refl refl (λ w. once P _ (sound.again (While t a) s f k v cs w))))
         (λ w. there P 0 _ refl) w)))
     exec_ran (Do a t) s f k v cs w =
-        next P _ (loop_bind P f v cs k (execs L a w) _ refl refl (execs_ran a s.1 f (Loops (DoLoop a t) ∷ k) v cs w) (do_ran a t s f k v cs))
+        next P _ (bind P (landed P f k v cs) (execs L a w) _ (execs_ran a s.1 f (Loops (DoLoop a t) ∷ k) v cs w) (turned_ran P f v cs k _ refl refl (do_ran a t s f k v cs)))
     exec_ran (For i t u a) s f k v cs w =
-        next P _ (seq_bind P f v cs k (execs L i w) _ refl refl (execs_ran i s.1 f (Heads t u a ∷ k) v cs w)
-        (for_ran t u a s.2 (execs L a) f k v cs (execs_ran a s.2 f (Loops (ForLoop t u a) ∷ k) v cs)))
+        next P _ (bind P (landed P f k v cs) (execs L i w) _ (execs_ran i s.1 f (Heads t u a ∷ k) v cs w)
+        (followed_ran P f v cs k _ refl refl (for_ran t u a s.2 (execs L a) f k v cs (execs_ran a s.2 f (Loops (ForLoop t u a) ∷ k) v cs))))
     exec_ran (Switch t c) s f k v cs w =
         next P _ (bind P (landed P f k v cs) _ _ (selector_ran t f (Enters (switch_kind t) c ∷ k) v cs w)
         (λ x w. next P _ (entered_ran (from_case L (switch_kind t) (integer x) c) (from_default L c) (seek_sections (ToCase (switch_kind t) (integer x)) c k) (seek_sections ToDefault c k) f k v cs
@@ -210,7 +203,8 @@ module _ (P : Code) (L : LessFuel) (b : ℕ) (sound : Sound P L b) where
 
     pub execs_ran : (xs : Forest) → Everywhere IsStructured xs → (f : List ℕ) (k : List Task) (v : List Value) (cs : List Frame) → Goal (execs L xs) (items xs k) f k v cs
     execs_ran Nil s f k v cs w = there P 0 _ refl
-    execs_ran (Then x xs) s f k v cs w = seq_bind P f v cs k (exec L x w) (execs L xs) (cut_items xs k) (cut_to_items xs k) (exec_ran x s.0 f (items xs k) v cs w) (execs_ran xs s.1 f k v cs)
+    execs_ran (Then x xs) s f k v cs w = bind P (landed P f k v cs) (exec L x w) _ (exec_ran x s.0 f (items xs k) v cs w)
+        (followed_ran P f v cs k _ (cut_items xs k) (cut_to_items xs k) (execs_ran xs s.1 f k v cs))
 
     tail_ran : (c : Sections) → EverywhereIn IsStructured c → (f : List ℕ) (k : List Task) (v : List Value) (cs : List Frame) → Tail (from_section L c) (tail_tasks c k) f k v cs
     tail_ran NoSection s f k v cs w = there P 1 _ refl
