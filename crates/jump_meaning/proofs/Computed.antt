@@ -8,7 +8,7 @@ use Rattle.jump_meaning.specs.Values.{Event, Byte, Called}
 use Rattle.jump_meaning.specs.Behaviour.{Shown, Ended, Trapped, More}
 use Rattle.jump_meaning.specs.Runs.{start, jump_run, TakesSteps}
 use Rattle.jump_meaning.proofs.RunFacts.{steps_of}
-use Rattle.jump_meaning.proofs.Examples.{empty, forever, into_block, into_loop, falls, nested_case, circuits, bad_index, late_zero, missing, prints, asks, quits, overflows, lends, counts, echoes, aborts, recursive, too_deep, armed, left_loop, lifted, picked, too_large}
+use Rattle.jump_meaning.proofs.Examples.{empty, forever, into_block, into_loop, falls, nested_case, circuits, bad_index, late_zero, updates, missing, prints, asks, judges, quits, overflows, lends, counts, echoes, aborts, recursive, too_deep, armed, left_loop, lifted, picked, too_large}
 
 -- after n steps there is more to come, and the next step ends the run
 abbrev IsOverAfter : (ℕ → Shown) → ℕ → List Event → Shown → Type 0
@@ -49,6 +49,10 @@ late_zero_run : IsOverAfter (jump_run late_zero (codes "main") [] [] []) 17 [] (
 unfolding converted arith_result digits
 late_zero_run = (refl, refl)
 
+updates_run : IsOverAfter (jump_run updates (codes "main") [] [] []) 20 [] (Ended (pos 9) [])
+unfolding converted arith_result digits
+updates_run = (refl, refl)
+
 missing_run : IsOverAfter (jump_run missing (codes "main") [] [] []) 21 (Byte 100 ∷ []) (Trapped Trap.NoValue (Byte 100 ∷ []))
 unfolding converted arith_result digits
 missing_run = (refl, refl)
@@ -60,6 +64,10 @@ prints_run = (refl, refl)
 asks_run : IsOverAfter (jump_run asks (codes "main") [] [] (pos 4294967300 ∷ [])) 16 (Called (codes "p") (pos 3 ∷ pos 44 ∷ []) ∷ []) (Trapped Trap.NoAnswer (Called (codes "p") (pos 3 ∷ pos 44 ∷ []) ∷ Called (codes "p") (pos 4 ∷ pos 0 ∷ []) ∷ []))
 unfolding converted arith_result digits
 asks_run = (refl, refl)
+
+judges_run : IsOverAfter (jump_run judges (codes "main") [] [] (pos 4294967296 ∷ [])) 7 (Called (codes "p") [] ∷ []) (Ended (pos 2) (Called (codes "p") [] ∷ []))
+unfolding converted arith_result digits
+judges_run = (refl, refl)
 
 quits_run : IsOverAfter (jump_run quits (codes "main") [] [] []) 18 (Byte 113 ∷ []) (Ended (pos 7) (Byte 113 ∷ []))
 unfolding converted arith_result digits

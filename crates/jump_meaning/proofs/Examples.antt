@@ -137,6 +137,18 @@ late_zero =
     ∷ []))
     ∷ [])
 
+-- `int main(void) { int x = 5; x -= 2; return x * x; }`
+abbrev pub updates : Code
+updates =
+    program
+    (defines (codes "main") (Some Int) 0 (slot Int ∷ [])
+    (forest
+    (Local 0 (Some (number 5 ∷ []))
+    ∷ Evaluate (int (Update Sub (Var (H.Slot 0)) (number 2)))
+    ∷ Return (Some (int (Binary (Arith Mul) (read 0) (read 0))))
+    ∷ []))
+    ∷ [])
+
 -- `int f(void) { } int main(void) { f(); (void)f(); putchar('d'); return f(); }`
 abbrev pub missing : Code
 missing =
@@ -174,6 +186,18 @@ asks =
     (forest
     (Local 0 (Some (int (Call (codes "p") (arguments (number 3 ∷ number 300 ∷ []))) ∷ []))
     ∷ Return (Some (int (Binary (Arith Add) (read 0) (int (Call (codes "p") (arguments (read 0 ∷ number 0 ∷ [])))))))
+    ∷ []))
+    ∷ [])
+
+-- `int p(void); int main(void) { if (p()) return 1; return 2; }`
+abbrev pub judges : Code
+judges =
+    program
+    (declares (codes "p") (Some Int) []
+    ∷ defines (codes "main") (Some Int) 0 []
+    (forest
+    (If (Source (int (Call (codes "p") NoArgument))) (one (Return (Some (number 1)))) Nil
+    ∷ Return (Some (number 2))
     ∷ []))
     ∷ [])
 

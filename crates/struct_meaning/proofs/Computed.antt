@@ -6,7 +6,7 @@ use Rattle.c_types.specs.declared.trap.Trap.{Trap}
 use Rattle.c_types.specs.Numbers.{converted, arith_result}
 use Rattle.jump_meaning.specs.Values.{Event, Byte, Called}
 use Rattle.jump_meaning.specs.Behaviour.{Shown, Ended, Trapped, More}
-use Rattle.jump_meaning.proofs.Examples.{empty, falls, circuits, bad_index, late_zero, missing, prints, asks, quits, overflows, lends, counts, echoes, aborts, recursive, too_deep, too_large}
+use Rattle.jump_meaning.proofs.Examples.{empty, falls, circuits, bad_index, late_zero, updates, missing, prints, asks, judges, quits, overflows, lends, counts, echoes, aborts, recursive, too_deep, too_large}
 use Rattle.struct_meaning.specs.Runs.{structural_run}
 
 -- with fuel n there is more to come, and one more of it ends the run
@@ -36,6 +36,10 @@ falls_run : IsOverAfter (structural_run falls (codes "main") [] [] []) 0 [] (End
 unfolding converted arith_result digits
 falls_run = (refl, refl)
 
+updates_run : structural_run updates (codes "main") [] [] [] 0 ≡ Ended (pos 9) []
+unfolding converted arith_result digits
+updates_run = refl
+
 missing_run : IsOverAfter (structural_run missing (codes "main") [] [] []) 0 [] (Trapped Trap.NoValue (Byte 100 ∷ []))
 unfolding converted arith_result digits
 missing_run = (refl, refl)
@@ -47,6 +51,10 @@ prints_run = (refl, refl)
 asks_run : IsOverAfter (structural_run asks (codes "main") [] [] (pos 4294967300 ∷ [])) 0 [] (Trapped Trap.NoAnswer (Called (codes "p") (pos 3 ∷ pos 44 ∷ []) ∷ Called (codes "p") (pos 4 ∷ pos 0 ∷ []) ∷ []))
 unfolding converted arith_result digits
 asks_run = (refl, refl)
+
+judges_run : IsOverAfter (structural_run judges (codes "main") [] [] (pos 4294967296 ∷ [])) 0 [] (Ended (pos 2) (Called (codes "p") [] ∷ []))
+unfolding converted arith_result digits
+judges_run = (refl, refl)
 
 quits_run : IsOverAfter (structural_run quits (codes "main") [] [] []) 1 (Byte 113 ∷ []) (Ended (pos 7) (Byte 113 ∷ []))
 unfolding converted arith_result digits
