@@ -8,7 +8,7 @@ use Rattle.jump_meaning.specs.Values.{Event, Byte, Called}
 use Rattle.jump_meaning.specs.Behaviour.{Shown, Ended, Trapped, More}
 use Rattle.jump_meaning.specs.Runs.{start, jump_run, TakesSteps}
 use Rattle.jump_meaning.proofs.RunFacts.{steps_of}
-use Rattle.jump_meaning.proofs.Examples.{empty, forever, into_block, into_loop, falls, nested_case, circuits, bad_index, late_zero, updates, missing, prints, asks, judges, quits, overflows, lends, counts, echoes, aborts, recursive, too_deep, armed, left_loop, lifted, picked, too_large}
+use Rattle.jump_meaning.proofs.Examples.{empty, forever, repeats, into_block, into_loop, falls, nested_case, circuits, bad_index, late_zero, updates, missing, prints, asks, judges, quits, overflows, lends, counts, echoes, aborts, recursive, too_deep, armed, left_loop, lifted, picked, too_large}
 
 -- after n steps there is more to come, and the next step ends the run
 abbrev IsOverAfter : (ℕ → Shown) → ℕ → List Event → Shown → Type 0
@@ -20,6 +20,10 @@ empty_run = (refl, refl)
 
 forever_goes_on : jump_run forever (codes "main") [] [] [] 1000 ≡ More []
 forever_goes_on = refl
+
+repeats_goes_on : jump_run repeats (codes "main") [] [] [] 1000 ≡ More []
+unfolding converted
+repeats_goes_on = refl
 
 into_block_run : IsOverAfter (jump_run into_block (codes "main") [] [] []) 9 (Byte 105 ∷ []) (Ended (pos 3) (Byte 105 ∷ []))
 unfolding converted arith_result digits

@@ -22,6 +22,22 @@ abbrev pub forever : Code
 forever =
     program (defines (codes "main") (Some Int) 0 [] (forest (Mark 0 ∷ Goto 0 ∷ [])) ∷ [])
 
+-- the same without a jump: `int main(void) { int goto_L = 0; do { goto_L = 0; goto_L = 1; } while (goto_L); }`
+abbrev pub repeats : Code
+repeats =
+    program
+    (defines (codes "main") (Some Int) 0 (slot Int ∷ [])
+    (forest
+    (Local 0 (Some (number 0 ∷ []))
+    ∷ Do
+    (forest
+    (Evaluate (int (Assign (Var (H.Slot 0)) (number 0)))
+    ∷ Evaluate (int (Assign (Var (H.Slot 0)) (number 1)))
+    ∷ []))
+    (Source (read 0))
+    ∷ []))
+    ∷ [])
+
 -- `int main(void) { goto in; putchar('x'); { if (0) { in: putchar('i'); } else putchar('e'); } return 3; }`
 abbrev pub into_block : Code
 into_block =
