@@ -1,0 +1,2 @@
+pub mod TaskWays
+pub mod TaskCores
