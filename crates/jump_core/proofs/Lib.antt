@@ -1,2 +1,3 @@
 pub mod TaskWays
 pub mod TaskCores
+pub mod Lookup
