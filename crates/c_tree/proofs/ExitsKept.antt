@@ -11,19 +11,19 @@ use Rattle.c_tree.specs.Moves.{Moved, guarded, later_guarded, SectionsLeft, left
 use Rattle.c_tree.specs.WellMade.{BindsNoExit}
 use Rattle.c_tree.proofs.KeptLemmas.{lands-jumps, left_jumps, sections_left_jumps, changed_jumps, sections_jumps, everywhere_front, everywhere_back, everywhere_join}
 
-breaks-join : (a b : Forest) → breaks (join a b) ≡ breaks a + breaks b
+pub breaks-join : (a b : Forest) → breaks (join a b) ≡ breaks a + breaks b
 breaks-join Nil b = omega arith
 breaks-join (Then x a) b = let h = breaks-join a b in omega arith
 
-continues-join : (a b : Forest) → continues (join a b) ≡ continues a + continues b
+pub continues-join : (a b : Forest) → continues (join a b) ≡ continues a + continues b
 continues-join Nil b = omega arith
 continues-join (Then x a) b = let h = continues-join a b in omega arith
 
-breaks-guarded : (l : ℕ) (a : Forest) → breaks (guarded l a) ≡ breaks a
+pub breaks-guarded : (l : ℕ) (a : Forest) → breaks (guarded l a) ≡ breaks a
 breaks-guarded l Nil = refl
 breaks-guarded l (Then x a) = omega arith
 
-continues-guarded : (l : ℕ) (a : Forest) → continues (guarded l a) ≡ continues a
+pub continues-guarded : (l : ℕ) (a : Forest) → continues (guarded l a) ≡ continues a
 continues-guarded l Nil = refl
 continues-guarded l (Then x a) = omega arith
 
@@ -39,33 +39,33 @@ continues-later l (Section cases default a false c) = let h = continues-guarded 
 
 -- the list that a Leap leaves
 
-breaks-left : (l : ℕ) (a b : Forest) → breaks (join a (guarded l b)) ≡ breaks (join a (Then (Leap l) b))
+pub breaks-left : (l : ℕ) (a b : Forest) → breaks (join a (guarded l b)) ≡ breaks (join a (Then (Leap l) b))
 breaks-left l a b = let p = breaks-join a (guarded l b) in let q = breaks-join a (Then (Leap l) b) in let r = breaks-guarded l b in omega arith
 
-continues-left : (l : ℕ) (a b : Forest) → continues (join a (guarded l b)) ≡ continues (join a (Then (Leap l) b))
+pub continues-left : (l : ℕ) (a b : Forest) → continues (join a (guarded l b)) ≡ continues (join a (Then (Leap l) b))
 continues-left l a b = let p = continues-join a (guarded l b) in let q = continues-join a (Then (Leap l) b) in let r = continues-guarded l b in omega arith
 
-breaks-chosen : (l : ℕ) (ends : Bool) (c : Sections) → breaks_in (cond ends c (later_guarded l c)) ≡ breaks_in c
+pub breaks-chosen : (l : ℕ) (ends : Bool) (c : Sections) → breaks_in (cond ends c (later_guarded l c)) ≡ breaks_in c
 breaks-chosen l true c = refl
 breaks-chosen l false c = breaks-later l c
 
-continues-chosen : (l : ℕ) (ends : Bool) (c : Sections) → continues_in (cond ends c (later_guarded l c)) ≡ continues_in c
+pub continues-chosen : (l : ℕ) (ends : Bool) (c : Sections) → continues_in (cond ends c (later_guarded l c)) ≡ continues_in c
 continues-chosen l true c = refl
 continues-chosen l false c = continues-later l c
 
-breaks-sections_left : (l : ℕ) {c d : Sections} → SectionsLeft l c d → breaks_in d ≡ breaks_in c
+pub breaks-sections_left : (l : ℕ) {c d : Sections} → SectionsLeft l c d → breaks_in d ≡ breaks_in c
 breaks-sections_left l (left_here cases default ends a b c) = let p = breaks-left l a b in let q = breaks-chosen l ends c in omega arith
 breaks-sections_left l (left_later cases default ends a r) = let p = breaks-sections_left l r in omega arith
 
-continues-sections_left : (l : ℕ) {c d : Sections} → SectionsLeft l c d → continues_in d ≡ continues_in c
+pub continues-sections_left : (l : ℕ) {c d : Sections} → SectionsLeft l c d → continues_in d ≡ continues_in c
 continues-sections_left l (left_here cases default ends a b c) = let p = continues-left l a b in let q = continues-chosen l ends c in omega arith
 continues-sections_left l (left_later cases default ends a r) = let p = continues-sections_left l r in omega arith
 
-breaks-entered : (l k : ℕ) {c d : Sections} → SectionsEntered l k c d → breaks_in d ≡ breaks_in c
+pub breaks-entered : (l k : ℕ) {c d : Sections} → SectionsEntered l k c d → breaks_in d ≡ breaks_in c
 breaks-entered l _ (entered_here cases default ends a c z) = omega arith
 breaks-entered l _ (entered_later cases default ends a r) = let p = breaks-entered l _ r in omega arith
 
-continues-entered : (l k : ℕ) {c d : Sections} → SectionsEntered l k c d → continues_in d ≡ continues_in c
+pub continues-entered : (l k : ℕ) {c d : Sections} → SectionsEntered l k c d → continues_in d ≡ continues_in c
 continues-entered l _ (entered_here cases default ends a c z) = omega arith
 continues-entered l _ (entered_later cases default ends a r) = let p = continues-entered l _ r in omega arith
 
