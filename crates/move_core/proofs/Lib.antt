@@ -2,3 +2,4 @@ pub mod Orders
 pub mod Lists
 pub mod Cores
 pub mod BetterLists
+pub mod Outward
