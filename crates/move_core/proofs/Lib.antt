@@ -3,3 +3,4 @@ pub mod Lists
 pub mod Cores
 pub mod BetterLists
 pub mod Outward
+pub mod Inward
