@@ -99,11 +99,10 @@ in_else m t u a b = inward m t (If u a b) (If (AndOff m u) a (Then (Leap m) b)) 
 
 -- a loop that a Leap goes into
 
-while_way : ℕ → TestTree → Forest → Bool → Way
+abbrev while_way : ℕ → TestTree → Forest → Bool → Way
 while_way l u a c = on_peeled (cond c (Known true) (peel (only l) u)) Lost ((cond c Lands Past ▷ walks l a) ▷ Lost) Past
 
 entered_while : (m : ℕ) (u : TestTree) (a : Forest) → Entered m (While u a) (While (OrOn m u) (Then (Leap m) a))
-unfolding while_way
 entered_while m u a = record {
   stops = refl;
   goes = refl;

@@ -4,3 +4,4 @@ pub mod Cores
 pub mod BetterLists
 pub mod Outward
 pub mod Inward
+pub mod Backward
