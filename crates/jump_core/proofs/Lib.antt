@@ -4,3 +4,4 @@ pub mod Lookup
 pub mod Reach
 pub mod Lawful
 pub mod Arrive
+pub mod Match

@@ -1,6 +1,7 @@
 -- Cuts and searches in a body and in its core come to the same.
 use mathlib.Core.Path.{ap₂}
 use Rattle.std.proofs.Common.{zero, suc, ◌+◌, ℕ, ℤ, Bool, true, false, cond, List, [], ◌∷◌, ◌≡◌, refl, ap, sym, ◌∙◌, Option, Some, None, option_map}
+use Rattle.std.specs.Option.{option_map_or}
 use Rattle.c_types.specs.declared.kinds.IntKind.{IntKind}
 use Rattle.c_tree.specs.ExpressionTrees.{ExpressionTree}
 use Rattle.c_tree.specs.TestTrees.{Source, Selects}
@@ -8,12 +9,13 @@ use Rattle.c_tree.specs.Trees.{Tree, Forest, Nil, Then, Sections, NoSection, Sec
 use Rattle.c_tree.specs.Cases.{selector_source}
 use Rattle.c_tree.specs.Changed.{one}
 use Rattle.c_tree.specs.Exits.{breaks, continues}
+use Rattle.jump_meaning.specs.Code.{FunctionTree, items_of}
 use Rattle.jump_meaning.specs.Tasks.{Loop, WhileLoop, DoLoop, ForLoop, Task, Runs, Works, Asks, Branches, Turns, Loops, Heads, Arms, AsksSelector, Enters, EndsSection, Out, items, end_of, tail_tasks, cut, cut_to}
 use Rattle.jump_meaning.specs.Search.{Goal, ToLabel, ToCase, ToDefault, is_goal, is_section_goal, enters_switches, or_else, seek, seek_in, seek_sections, first_of_three, find, entry}
 use Rattle.jump_meaning.specs.Step.{no_guards}
 use Rattle.jump_meaning.proofs.TaskFacts.{items_join, cut_items, cut_to_items}
 use Rattle.jump_core.specs.Ways.{Peeled, Ask, Known, peel, Way, Lands, Past, Lost, lost, before, after_do, after_section}
-use Rattle.jump_core.specs.Core.{constant, source_of, jump_if, core_if, core_do, core, core_of, core_sections, body_core}
+use Rattle.jump_core.specs.Core.{constant, source_of, jump_if, core_if, core_do, core, core_of, core_sections, body_core, core_function}
 use Rattle.jump_core.proofs.TaskWays.{task_way, follow_items, follow_section}
 use Rattle.jump_core.proofs.TaskCores.{core_do_loop, core_do_turn, task_core, core_items, core_end, core_section, core_tail}
 
@@ -264,6 +266,14 @@ first_core None None k = refl
 
 pub find_core : (l : ℕ) (a : Forest) → find l (body_core a) ≡ task_core (find l a)
 find_core l a = ap (λ o. first_of_three o None []) (seek_core (ToLabel l) a []) ∙ first_core (seek (ToLabel l) a []) None []
+
+-- in the body of a function
+pub find_in_core : (l : ℕ) (h : FunctionTree) → find l (items_of (core_function h)) ≡ task_core (find l (items_of h))
+find_in_core l h = at_body h.body
+  where
+    at_body : (b : Option Forest) → find l (option_map_or (λ a. a) (option_map body_core b) Nil) ≡ task_core (find l (option_map_or (λ a. a) b Nil))
+    at_body (Some a) = find_core l a
+    at_body None = find_core l Nil
 
 pub entry_core : (kind : IntKind) (n : ℤ) (c : Sections) (k : List Task) → entry kind n (core_sections c (task_way k)) (task_core k) ≡ task_core (entry kind n c k)
 entry_core kind n c k =
