@@ -5,3 +5,5 @@ pub mod BetterLists
 pub mod Outward
 pub mod Inward
 pub mod Backward
+mod Choice
+pub mod SwitchOut
