@@ -7,3 +7,6 @@ pub mod Inward
 pub mod Backward
 mod Choice
 pub mod SwitchOut
+pub mod SwitchIn
+pub mod MovedWhere
+pub mod BetterMoved
