@@ -5,3 +5,5 @@ pub mod Reach
 pub mod Lawful
 pub mod Arrive
 pub mod Match
+pub mod Pairs
+pub mod Same

@@ -71,7 +71,7 @@ leave_core h x [] w s = settle_core (leave_entry h x w) [] no_guards [] [] []
 leave_core h x (Waits f g k v ∷ cs) w s =
     ap (λ d. settle (leave_call d h x w) f no_guards (task_core k) v (core_frames cs)) s ∙ settle_core (leave_call (is_dropped k) h x w) f g k v cs
 
-begin_core : (m : List ℕ) (a : Forest) (r : Result World Trap) (cs : List Frame) (w : World) → begin_call m (body_core a) r (core_frames cs) w ≡ core_state (begin_call m a r cs w)
+pub begin_core : (m : List ℕ) (a : Forest) (r : Result World Trap) (cs : List Frame) (w : World) → begin_call m (body_core a) r (core_frames cs) w ≡ core_state (begin_call m a r cs w)
 begin_core m a (Ok w) cs w' = ap (λ k. At m no_guards k [] (core_frames cs) w) (sym (core_items a []))
 begin_core m a (Err t) cs w' = refl
 
@@ -99,7 +99,7 @@ leave_calm : (h : FunctionTree) (x : Value) (cs : List Frame) (w : World) → Ca
 leave_calm h x [] w c = settle_calm (leave_entry h x w) [] no_guards [] [] [] (λ l. refl) tt
 leave_calm h x (Waits f g k v ∷ cs) w c = settle_calm (leave_call (is_dropped k) h x w) f g k v cs c.0 c.1
 
-begin_calm : (m : List ℕ) (a : Forest) (r : Result World Trap) (cs : List Frame) (w : World) → CalmFrames cs → Calm (begin_call m a r cs w)
+pub begin_calm : (m : List ℕ) (a : Forest) (r : Result World Trap) (cs : List Frame) (w : World) → CalmFrames cs → Calm (begin_call m a r cs w)
 begin_calm m a (Ok w) cs w' c = ((λ l. refl), c)
 begin_calm m a (Err t) cs w' c = tt
 
