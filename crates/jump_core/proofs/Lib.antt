@@ -7,3 +7,4 @@ pub mod Arrive
 pub mod Match
 pub mod Pairs
 pub mod Same
+pub mod Order

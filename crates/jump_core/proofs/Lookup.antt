@@ -146,12 +146,12 @@ seek_join l (Then x a) b k =
     ∙ sym (or_assoc (seek_of l x (items a (items b k))) (seek l a (items b k)) (seek l b k))
 
 -- an item that is no label, whatever is sought
-no_goal : (x : Tree) → ((m : ℕ) → is_goal (ToLabel m) x ≡ false) → ((kind : IntKind) (n : ℤ) → is_goal (ToCase kind n) x ≡ false) → is_goal ToDefault x ≡ false → (l : Goal) → is_goal l x ≡ false
+pub no_goal : (x : Tree) → ((m : ℕ) → is_goal (ToLabel m) x ≡ false) → ((kind : IntKind) (n : ℤ) → is_goal (ToCase kind n) x ≡ false) → is_goal ToDefault x ≡ false → (l : Goal) → is_goal l x ≡ false
 no_goal x p q r (ToLabel m) = p m
 no_goal x p q r (ToCase kind n) = q kind n
 no_goal x p q r ToDefault = r
 
-seek_of_inner : (l : Goal) (x : Tree) (k : List Task) → is_goal l x ≡ false → seek_of l x k ≡ seek_in l x k
+pub seek_of_inner : (l : Goal) (x : Tree) (k : List Task) → is_goal l x ≡ false → seek_of l x k ≡ seek_in l x k
 seek_of_inner l x k e = ap (λ b. cond b (Some (Runs x ∷ k)) (seek_in l x k)) e
 
 -- an item that holds others, and its core, one item too

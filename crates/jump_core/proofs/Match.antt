@@ -37,9 +37,14 @@ core_state (At f g k v cs w) = At f no_guards (task_core k) v (core_frames cs) w
 core_state (HasEnded n es) = HasEnded n es
 core_state (HasTrapped t es) = HasTrapped t es
 
+-- the next task is no Arm
+abbrev pub IsNoArm : List Task → Type 0
+IsNoArm (Runs (Arm l e) ∷ k) = ⊥
+IsNoArm _ = Unit {0}
+
 -- the core is at no Arm, whose way would lead elsewhere
 abbrev pub SafeAt : State → Type 0
-SafeAt (At f g (Runs (Arm l e) ∷ k) v cs w) = ⊥
+SafeAt (At f g k v cs w) = IsNoArm k
 SafeAt _ = Unit {0}
 
 -- both go on, each by a step or more, to a calm state and its core
