@@ -10,3 +10,4 @@ pub mod SwitchOut
 pub mod SwitchIn
 pub mod MovedWhere
 pub mod BetterMoved
+pub mod Laws

@@ -1,6 +1,17 @@
-//! Each of the four rules makes a list at least as good as before: what leaves it and what leads through it
-//! stays, and so does its core.
+//! Each of the four rules makes a body at least as good as before: what leaves it stays, no way through it is
+//! worse, and its core is the same, but for Arms that become gotos.
+//!
+//! The definitions stand in specs/. Each function here runs no code: its contract is a law of them.
 #![tactic(auto)]
 
-/// Nothing yet: the crate holds lemmas alone.
-pub fn nothing() {}
+ghost use Rattle.move_core.specs.Laws.{BetterLaws, MoveLaws};
+
+/// To be at least as good is a preorder of lists, and holds of a whole where it holds of a part.
+pub fn better_laws()
+    ensures { BetterLaws }
+{}
+
+/// Each of the four rules makes a well made body at least as good.
+pub fn move_laws()
+    ensures { MoveLaws }
+{}
