@@ -1,3 +1,4 @@
+mod Tried
 pub mod Orders
 pub mod Lists
 pub mod Cores
