@@ -8,3 +8,4 @@ pub mod Match
 pub mod Pairs
 pub mod Same
 pub mod Order
+pub mod OrderRuns

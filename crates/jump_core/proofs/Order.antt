@@ -55,11 +55,11 @@ pub data LeState : State → State → Type 0 where
   le_ended : (n : ℤ) (es : List Event) → LeState (HasEnded n es) (HasEnded n es)
   le_trapped : (t : Trap) (es : List Event) → LeState (HasTrapped t es) (HasTrapped t es)
 
-items_le : {a a' : Forest} {k k' : List Task} → LeAll a a' → LeTasks k k' → LeTasks (items a k) (items a' k')
+pub items_le : {a a' : Forest} {k k' : List Task} → LeAll a a' → LeTasks k k' → LeTasks (items a k) (items a' k')
 items_le le_nil h = h
 items_le (le_then x a) h = le_task (le_runs x) (items_le a h)
 
-works_le : (os : List Op) {k k' : List Task} → LeTasks k k' → LeTasks (works os k) (works os k')
+pub works_le : (os : List Op) {k k' : List Task} → LeTasks k k' → LeTasks (works os k) (works os k')
 works_le [] h = h
 works_le (o ∷ os) h = le_task (le_works o) (works_le os h)
 
@@ -192,7 +192,7 @@ entry_le kind n p q = first_le (seek_sections_le (ToCase kind n) p q) (seek_sect
 
 -- ---- views
 
-data LeView : View → View → Type 0 where
+pub data LeView : View → View → Type 0 where
   le_finishes : LeView Finishes Finishes
   le_goes : {k k' : List Task} → LeTasks k k' → LeView (Goes k) (Goes k')
   le_guarding : (l : ℕ) (b : Bool) {k k' : List Task} → LeTasks k k' → LeView (Guarding l b k) (Guarding l b k')
@@ -240,7 +240,7 @@ module _ {b b' : Forest} (le : LeAll b b') (g : Guards) where
   selector_view (Selects e) q = le_goes (le_task (le_works _) (le_task (le_works _) q))
   selector_view (Pick l n s) q = cond_view (g l) (le_yields n q) (le_goes (le_task (le_selector s) q))
 
-  view_le : {k k' : List Task} → LeTasks k k' → IsNoArm k → LeView (view b g k) (view b' g k')
+  pub view_le : {k k' : List Task} → LeTasks k k' → IsNoArm k → LeView (view b g k) (view b' g k')
   view_le le_no_task z = le_finishes
   view_le (le_task (le_runs (le_leaf x h)) q) z = leaf_view x h q
   view_le (le_task (le_runs (le_arm l)) q) z = absurd z
@@ -267,12 +267,12 @@ module _ {b b' : Forest} (le : LeAll b b') (g : Guards) where
 
 -- ---- steps
 
-settle_le : (o : Outcome) (f : List ℕ) (g : Guards) (v : List Value) {k k' : List Task} {cs cs' : List Frame} → LeTasks k k' → LeFrames cs cs' → LeState (settle o f g k v cs) (settle o f g k' v cs')
+pub settle_le : (o : Outcome) (f : List ℕ) (g : Guards) (v : List Value) {k k' : List Task} {cs cs' : List Frame} → LeTasks k k' → LeFrames cs cs' → LeState (settle o f g k v cs) (settle o f g k' v cs')
 settle_le (Gives x w) f g v q r = le_at f g (x ∷ v) w q r
 settle_le (Traps t w) f g v q r = le_trapped t w.events
 settle_le (Exits n w) f g v q r = le_ended n w.events
 
-dropped_alike : {k k' : List Task} → LeTasks k k' → is_dropped k ≡ is_dropped k'
+pub dropped_alike : {k k' : List Task} → LeTasks k k' → is_dropped k ≡ is_dropped k'
 dropped_alike le_no_task = refl
 dropped_alike (le_task (le_runs x) q) = refl
 dropped_alike (le_task (le_works Drops) q) = refl
