@@ -12,3 +12,4 @@ pub mod SwitchIn
 pub mod MovedWhere
 pub mod BetterMoved
 pub mod Laws
+pub mod Simplified
