@@ -65,9 +65,9 @@ join_before m t z = turned m (Then (Land m) t) (Then (Land m) t)
 pub lifted : (m : ℕ) (x : Tree) (t : Forest) → breaks (Then x t) + continues (Then x t) ≡ 0 → Better (Then x (join t (one (Leap m)))) (one (Do (Then (Leap m) (Then x t)) (On m)))
 lifted m x t z = turned m (Then x t) (Then (Leap m) (Then x t))
     (record {
-    none = z;
-    none_then = omega arith;
-    at = λ l e. there_first l m (walks l (Then x t)) e;
-    other = λ l e. sym (ap (λ c. cond c Lands Past ▷ walks l (Then x t)) e);
-    cores = core_le (Then x t);
+      none = z;
+      none_then = omega arith;
+      at = λ l e. there_first l m (walks l (Then x t)) e;
+      other = λ l e. sym (ap (λ c. cond c Lands Past ▷ walks l (Then x t)) e);
+      cores = core_le (Then x t);
     })

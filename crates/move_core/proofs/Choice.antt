@@ -37,9 +37,10 @@ Apart (x ∷ xs) = (In x xs → ⊥) × Apart xs
 
 apart : {A : Type 0} (xs : List A) → AllPairs (λ x y. x ≢ y) xs → Apart xs
 apart [] h = tt
-apart (x ∷ xs) h =
-    ((λ i. let c = contained x xs i in h zero (suc c.0) x (omega arith) (let l = c.1 in omega arith) (sym c.2)),
-    apart xs (λ i j d l m. h (suc i) (suc j) d (omega arith) (omega arith)))
+apart (x ∷ xs) h = (
+  (λ i. let c = contained x xs i in h zero (suc c.0) x (omega arith) (let l = c.1 in omega arith) (sym c.2)),
+  apart xs (λ i j d l m. h (suc i) (suc j) d (omega arith) (omega arith)),
+)
 
 module _ {A B : Type 0} (f : A → B) where
   in_front : (x : B) (xs ys : List A) → In x (map f xs) → In x (map f (xs ++ ys))
@@ -104,9 +105,10 @@ IsChosen kind n k c = IsFirst (ToCase kind n) k c ⊎ (NoneHas (ToCase kind n) c
 
 none_free : (kind : IntKind) (n : ℤ) (c : Sections) → (In (Some n) (case_numbers kind c) → ⊥) → NoneHas (ToCase kind n) c
 none_free kind n NoSection h = tt
-none_free kind n (Section cases default a ends c) h =
-    (never (list_any (is_case kind n) cases) (λ e. h (in_front (case_number kind) (Some n) cases (all_cases c) (case_in kind n cases e))),
-    none_free kind n c (λ i. h (in_back (case_number kind) (Some n) cases (all_cases c) i)))
+none_free kind n (Section cases default a ends c) h = (
+  never (list_any (is_case kind n) cases) (λ e. h (in_front (case_number kind) (Some n) cases (all_cases c) (case_in kind n cases e))),
+  none_free kind n c (λ i. h (in_back (case_number kind) (Some n) cases (all_cases c) i)),
+)
 
 in_all : (kind : IntKind) (n : ℤ) (k : ℕ) (c : Sections) → In (Some n) (map (case_number kind) (cases_at k c)) → In (Some n) (case_numbers kind c)
 in_all kind n k NoSection h = h
@@ -118,10 +120,11 @@ first_case : (kind : IntKind) (n : ℤ) (k : ℕ) (c : Sections) (e : Expression
 first_case kind n k NoSection e es p q h = absurd (let z : [] ≡ e ∷ es = q in cc)
 first_case kind n zero (Section cases default a ends c) e es p q h =
     ap (list_any (is_case kind n)) q ∙ ap (λ b. b || list_any (is_case kind n) es) (eq_some n (case_number kind e) h)
-first_case kind n (suc k) (Section cases default a ends c) e es p q h =
-    (never (list_any (is_case kind n) cases)
-    (λ t. apart_both (case_number kind) (Some n) cases (all_cases c) p (case_in kind n cases t) (in_all kind n k c (subst (λ l. In (Some n) (map (case_number kind) l)) (sym q) (inl h)))),
-    first_case kind n k c e es (apart_back (case_number kind) cases (all_cases c) p) q h)
+first_case kind n (suc k) (Section cases default a ends c) e es p q h = (
+  never (list_any (is_case kind n) cases)
+      (λ t. apart_both (case_number kind) (Some n) cases (all_cases c) p (case_in kind n cases t) (in_all kind n k c (subst (λ l. In (Some n) (map (case_number kind) l)) (sym q) (inl h)))),
+  first_case kind n k c e es (apart_back (case_number kind) cases (all_cases c) p) q h,
+)
 
 -- a section without a case has the default
 has_default : (cases : List ExpressionTree) (default : Bool) → cases ≡ [] → (0 < length cases) ⊎ IsTrue default → default ≡ true
