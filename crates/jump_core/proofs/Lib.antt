@@ -9,3 +9,4 @@ pub mod Pairs
 pub mod Same
 pub mod Order
 pub mod OrderRuns
+pub mod All
