@@ -9,7 +9,7 @@ use Rattle.c_tree.proofs.ExitsKept.{breaks-join, continues-join}
 use Rattle.jump_core.specs.Ways.{Known, Way, Lands, Past, Lost, ◌▷◌, on_peeled, walks, do_end_way, Follow, before, after_do}
 use Rattle.jump_core.specs.Core.{core, core_do}
 use Rattle.jump_core.specs.Better.{LeWay, LeFollow, LeAll, le_nil, Better}
-use Rattle.move_core.proofs.Orders.{▷-Past, way_lands, way_same}
+use Rattle.move_core.proofs.Orders.{way_past, way_lands, way_same}
 use Rattle.move_core.proofs.Lists.{walks-join, core-join}
 use Rattle.move_core.proofs.Cores.{join_le, core_le}
 use Rattle.move_core.proofs.Outward.{leap_way, leap_off}
@@ -46,7 +46,7 @@ module _ (m : ℕ) (a b : Forest) (h : Turned m a b) where
       way : (l : ℕ) (c : Bool) → eqb l m ≡ c → LeWay (walks l (join a (one (Leap m)))) ((walks l b ▷ do_end_way l b (On m)) ▷ Past)
       way l true e = subst (λ y. LeWay (walks l (join a (one (Leap m)))) ((y ▷ do_end_way l b (On m)) ▷ Past)) (sym (h.at l e)) (way_lands _)
       way l false e = way_same
-          (walks-join l a (one (Leap m)) ∙ ap (λ y. walks l a ▷ y) (leap_off l m e) ∙ ap (λ y. y ▷ Past) (h.other l e) ∙ ap (λ y. walks l b ▷ y) (sym (end_other l e)) ∙ sym (▷-Past _))
+          (walks-join l a (one (Leap m)) ∙ ap (λ y. walks l a ▷ y) (leap_off l m e) ∙ ap (λ y. y ▷ Past) (h.other l e) ∙ ap (λ y. walks l b ▷ y) (sym (end_other l e)) ∙ sym (way_past _))
 
       after : (l : ℕ) (w w' : Follow) → LeWay (w l) (w' l) → (c : Bool) → eqb l m ≡ c → LeWay (leap_way l m ▷ w l) (do_end_way l b (On m) ▷ w' l)
       after l w w' k true e = subst (λ y. LeWay (leap_way l m ▷ w l) (y ▷ w' l)) (sym (end_at l e)) (way_lands _)

@@ -31,15 +31,10 @@ way_lands Lost = tt
 pub way_same : {x y : Way} → x ≡ y → LeWay x y
 way_same {x = x} e = subst (LeWay x) e (way_refl x)
 
-pub ▷-assoc : (a b c : Way) → (a ▷ b) ▷ c ≡ a ▷ (b ▷ c)
-▷-assoc Lands b c = refl
-▷-assoc Past b c = refl
-▷-assoc Lost b c = refl
-
-pub ▷-Past : (y : Way) → y ▷ Past ≡ y
-▷-Past Lands = refl
-▷-Past Past = refl
-▷-Past Lost = refl
+pub way_past : (y : Way) → y ▷ Past ≡ y
+way_past Lands = refl
+way_past Past = refl
+way_past Lost = refl
 
 pub way_then : (a a' b b' : Way) → LeWay a a' → LeWay b b' → LeWay (a ▷ b) (a' ▷ b')
 way_then Lost a' b b' p q = tt

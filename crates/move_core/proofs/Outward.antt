@@ -10,7 +10,8 @@ use Rattle.jump_meaning.specs.Step.{no_guards}
 use Rattle.jump_core.specs.Ways.{only, Peeled, Ask, Known, peel, on_peeled, Way, Lands, Past, Lost, ◌▷◌, walks, Follow, before, after_while, after_do}
 use Rattle.jump_core.specs.Core.{core}
 use Rattle.jump_core.specs.Better.{LeWay, LeFollow, LeAll, le_nil, le_while, Better}
-use Rattle.move_core.proofs.Orders.{▷-assoc, ▷-Past, way_lands, way_same, way_then, way_on, way_peeled}
+use Rattle.jump_core.proofs.TaskWays.{way_assoc}
+use Rattle.move_core.proofs.Orders.{way_past, way_lands, way_same, way_then, way_on, way_peeled}
 use Rattle.move_core.proofs.Lists.{walks-join, walks-guarded, core-join, core-guarded}
 use Rattle.move_core.proofs.Cores.{join_le, one_le, core_if_le, core_do_le, core_le}
 
@@ -112,7 +113,7 @@ module _ (m : ℕ) (a b : Forest) where
   out_then t c = record {
     stops = let e = breaks-left m a b in omega arith;
     goes = let e = continues-left m a b in omega arith;
-    ways = λ l. subst (λ x. LeWay x (on_peeled (peel (only l) t) Lost (walks l new) (walks l c) ▷ leap_way l m)) (sym (▷-Past _))
+    ways = λ l. subst (λ x. LeWay x (on_peeled (peel (only l) t) Lost (walks l new) (walks l c) ▷ leap_way l m)) (sym (way_past _))
         (subst (LeWay (on_peeled (peel (only l) t) Lost (walks l old) (walks l c))) (sym (peeled_then (peel (only l) t) (walks l new) (walks l c) (leap_way l m)))
         (way_peeled (peel (only l) t) _ _ _ _ (left_way l) (way_more l m (walks l c))));
     cores = λ w w' h. let i = behind_leap m w w' h in
@@ -123,7 +124,7 @@ module _ (m : ℕ) (a b : Forest) where
   out_else t c = record {
     stops = let e = breaks-left m a b in omega arith;
     goes = let e = continues-left m a b in omega arith;
-    ways = λ l. subst (λ x. LeWay x (on_peeled (peel (only l) t) Lost (walks l c) (walks l new) ▷ leap_way l m)) (sym (▷-Past _))
+    ways = λ l. subst (λ x. LeWay x (on_peeled (peel (only l) t) Lost (walks l c) (walks l new) ▷ leap_way l m)) (sym (way_past _))
         (subst (LeWay (on_peeled (peel (only l) t) Lost (walks l c) (walks l old))) (sym (peeled_then (peel (only l) t) (walks l c) (walks l new) (leap_way l m)))
         (way_peeled (peel (only l) t) _ _ _ _ (way_more l m (walks l c)) (left_way l)));
     cores = λ w w' h. let i = behind_leap m w w' h in
@@ -156,7 +157,7 @@ module _ (m : ℕ) (a b : Forest) where
   -- what follows the list in a loop
   loop_behind : (t : TestTree) (w w' : Follow) → LeFollow w w' → Behind m (λ l. test_old t l ▷ w l) (λ l. test_new t l ▷ (leap_way l m ▷ w' l))
   loop_behind t w w' h = record {
-    better = λ l. subst (LeWay (test_old t l ▷ w l)) (▷-assoc (test_new t l) (leap_way l m) (w' l)) (way_then _ _ _ _ (test_way t l) (h l));
+    better = λ l. subst (LeWay (test_old t l ▷ w l)) (way_assoc (test_new t l) (leap_way l m) (w' l)) (way_then _ _ _ _ (test_way t l) (h l));
     at = λ l e. ap (λ y. y ▷ (leap_way l m ▷ w' l)) (test_at t l e) ∙ ap (λ y. y ▷ w' l) (leap_at l m e);
   }
 
@@ -164,7 +165,7 @@ module _ (m : ℕ) (a b : Forest) where
   out_while t = record {
     stops = refl;
     goes = refl;
-    ways = λ l. subst (λ x. LeWay x (test_new t l ▷ leap_way l m)) (sym (▷-Past (test_old t l))) (test_way t l);
+    ways = λ l. subst (λ x. LeWay x (test_new t l ▷ leap_way l m)) (sym (way_past (test_old t l))) (test_way t l);
     cores = λ w w' h. one_le (le_while _ (left_cores (after_while t old w) (after_while (AndOff m t) new (before (one (Leap m)) w')) (loop_behind t w w' h)));
   }
 
@@ -180,17 +181,17 @@ module _ (m : ℕ) (a b : Forest) where
       way true e =
           subst (λ x. LeWay (x ▷ test_old t l) ((walks l new ▷ test_new t l) ▷ leap_way l m)) (sym (old-at l e))
           (subst (LeWay ((walks l a ▷ Lands) ▷ test_old t l))
-          (sym (ap (λ y. (walks l new ▷ y) ▷ leap_way l m) (test_at t l e) ∙ ap (λ y. (walks l new ▷ Past) ▷ y) (leap_at l m e) ∙ ap (λ y. y ▷ Lands) (▷-Past (walks l new)) ∙ ap (λ y. y ▷ Lands) (new-at l e)))
+          (sym (ap (λ y. (walks l new ▷ y) ▷ leap_way l m) (test_at t l e) ∙ ap (λ y. (walks l new ▷ Past) ▷ y) (leap_at l m e) ∙ ap (λ y. y ▷ Lands) (way_past (walks l new)) ∙ ap (λ y. y ▷ Lands) (new-at l e)))
           (there_do (walks l a) (test_old t l)))
       way false e =
-          subst (LeWay (walks l old ▷ test_old t l)) (sym (▷-assoc (walks l new) (test_new t l) (leap_way l m)))
+          subst (LeWay (walks l old ▷ test_old t l)) (sym (way_assoc (walks l new) (test_new t l) (leap_way l m)))
           (way_then _ _ _ _ (way_same (sym (new-other l e))) (test_way t l))
 
   pub out_do : (t : TestTree) → Better (one (Do old t)) (Then (Do new (AndOff m t)) (one (Leap m)))
   out_do t = record {
     stops = refl;
     goes = refl;
-    ways = λ l. subst (λ x. LeWay x ((walks l new ▷ test_new t l) ▷ leap_way l m)) (sym (▷-Past (walks l old ▷ test_old t l))) (do_way t l);
+    ways = λ l. subst (λ x. LeWay x ((walks l new ▷ test_new t l) ▷ leap_way l m)) (sym (way_past (walks l old ▷ test_old t l))) (do_way t l);
     cores = λ w w' h. join_le
         (core_do_le (peel no_guards t) (breaks old + continues old) (breaks new + continues new) (let x = breaks-left m a b in let y = continues-left m a b in omega arith)
         (left_cores (after_do old t w) (after_do new (AndOff m t) (before (one (Leap m)) w')) (loop_behind t w w' h)))

@@ -11,14 +11,15 @@ use Rattle.c_tree.specs.Cases.{selector_source}
 use Rattle.c_tree.specs.Changed.{one}
 use Rattle.c_tree.specs.WellMade.{IsMade}
 use Rattle.c_tree.proofs.ExitsKept.{breaks-join, continues-join}
+use Rattle.c_tree.proofs.TreeLaws.{join-nil}
 use Rattle.jump_meaning.specs.Search.{ToCase, ToDefault, first_of_three}
 use Rattle.jump_meaning.specs.Operations.{operand_kind}
 use Rattle.jump_meaning.specs.Step.{Guards, no_guards, switch_kind}
 use Rattle.jump_core.specs.Ways.{only, Peeled, Ask, Known, peel, on_peeled, PeeledSelector, KnownSelector, peel_selector, on_selector, Way, Past, Lost, ◌▷◌, walk, walks, section_way, Follow, before, after_while, after_do}
 use Rattle.jump_core.specs.Core.{core_if, core_do, source_of, core, core_of, core_sections}
 use Rattle.jump_core.specs.Better.{LeWay, LeAll, le_nil, le_while, le_switch, Better}
-use Rattle.move_core.proofs.Orders.{▷-Past, way_same, way_then, way_on}
-use Rattle.move_core.proofs.Lists.{join-Nil, walks-join, core-join}
+use Rattle.move_core.proofs.Orders.{way_past, way_same, way_then, way_on}
+use Rattle.move_core.proofs.Lists.{walks-join, core-join}
 use Rattle.move_core.proofs.Cores.{join_le, one_le, core_if_le, core_do_le, ArmsAmong, core_among, core_le, sections_le}
 use Rattle.move_core.proofs.BetterLists.{better_one}
 
@@ -144,13 +145,13 @@ neighbours m a b z = record {
   stops = let i = breaks-join a b in omega arith;
   goes = let i = continues-join a b in omega arith;
   ways = λ l. way_same (way l (eqb l m) refl);
-  cores = λ w w' h. subst (LeAll (join (core a (before (one (If (Off m) b Nil)) w)) (join (core b w) Nil))) (sym (join-Nil (core (join a b) w') ∙ core-join a b w'))
+  cores = λ w w' h. subst (LeAll (join (core a (before (one (If (Off m) b Nil)) w)) (join (core b w) Nil))) (sym (join-nil (core (join a b) w') ∙ core-join a b w'))
       (join_le (core_among (λ l. eqb l m ≡ false) a z (before (one (If (Off m) b Nil)) w) (before b w') (λ l n. after l w w' (h l) n))
-      (subst (λ x. LeAll x (core b w')) (sym (join-Nil (core b w))) (core_le b w w' h)));
+      (subst (λ x. LeAll x (core b w')) (sym (join-nil (core b w))) (core_le b w w' h)));
 }
   where
     after : (l : ℕ) (w w' : Follow) → LeWay (w l) (w' l) → eqb l m ≡ false → LeWay ((on_peeled (Known (not (eqb l m))) Lost (walks l b) Past ▷ Past) ▷ w l) (walks l b ▷ w' l)
-    after l w w' h e = subst (λ y. LeWay (y ▷ w l) (walks l b ▷ w' l)) (sym (ap (λ c. on_peeled (Known (not c)) Lost (walks l b) Past ▷ Past) e ∙ ▷-Past (walks l b))) (way_on (walks l b) _ _ h)
+    after l w w' h e = subst (λ y. LeWay (y ▷ w l) (walks l b ▷ w' l)) (sym (ap (λ c. on_peeled (Known (not c)) Lost (walks l b) Past ▷ Past) e ∙ way_past (walks l b))) (way_on (walks l b) _ _ h)
 
     way : (l : ℕ) (c : Bool) → eqb l m ≡ c
         → on_peeled (Known (not (eqb l m))) Lost (walks l a) Past ▷ (on_peeled (Known (not (eqb l m))) Lost (walks l b) Past ▷ Past) ≡ on_peeled (Known (not (eqb l m))) Lost (walks l (join a b)) Past ▷ Past
@@ -159,7 +160,7 @@ neighbours m a b z = record {
         ∙ sym (ap (λ c. on_peeled (Known (not c)) Lost (walks l (join a b)) Past ▷ Past) e)
     way l false e =
         ap (λ c. on_peeled (Known (not c)) Lost (walks l a) Past ▷ (on_peeled (Known (not c)) Lost (walks l b) Past ▷ Past)) e
-        ∙ ap (λ y. walks l a ▷ y) (▷-Past (walks l b)) ∙ sym (walks-join l a b) ∙ sym (▷-Past (walks l (join a b)))
+        ∙ ap (λ y. walks l a ▷ y) (way_past (walks l b)) ∙ sym (walks-join l a b) ∙ sym (way_past (walks l (join a b)))
         ∙ sym (ap (λ c. on_peeled (Known (not c)) Lost (walks l (join a b)) Past ▷ Past) e)
 
 -- ---- a made `if` in another
@@ -189,7 +190,7 @@ are_nested_and m t u r h g = nested_and (g m) (peel g t) (peel g u) (peel g r) (
 
 nested_way : (p q r : Peeled) (y : Way) → IsNested p q r → LeWay (on_peeled p Lost (on_peeled q Lost y Past ▷ Past) Past) (on_peeled r Lost y Past)
 nested_way (Ask e) q r y h = absurd h
-nested_way (Known true) q r y h = way_same (▷-Past (on_peeled q Lost y Past) ∙ ap (λ p. on_peeled p Lost y Past) (sym h))
+nested_way (Known true) q r y h = way_same (way_past (on_peeled q Lost y Past) ∙ ap (λ p. on_peeled p Lost y Past) (sym h))
 nested_way (Known false) q r y h = way_same (ap (λ p. on_peeled p Lost y Past) (sym h))
 
 known_same : (b c : Bool) → Known b ≡ Known c → b ≡ c
@@ -197,7 +198,7 @@ known_same b c e = cc
 
 nested_core : (p q r : Peeled) (a : Forest) → p ≡ Known true → IsNested p q r → core_if p (join (core_if q a Nil) Nil) Nil ≡ core_if r a Nil
 nested_core (Ask e) q r a z h = absurd h
-nested_core (Known true) q r a z h = join-Nil (core_if q a Nil) ∙ ap (λ p. core_if p a Nil) (sym h)
+nested_core (Known true) q r a z h = join-nil (core_if q a Nil) ∙ ap (λ p. core_if p a Nil) (sym h)
 nested_core (Known false) q r a z h = absurd (true≢false (sym (known_same false true z)))
 
 pub one_if : (t u r : TestTree) (a : Forest) → peel no_guards t ≡ Known true → AreNested t u r → Better (one (If t (one (If u a Nil)) Nil)) (one (If r a Nil))

@@ -12,7 +12,8 @@ use Rattle.jump_meaning.specs.Step.{switch_kind}
 use Rattle.jump_core.specs.Ways.{only, PeeledSelector, AskSelector, KnownSelector, peel_selector, on_selector, Way, Lands, Past, Lost, ◌▷◌, walk, walks, end_way, tail_way, section_way, Follow, before, after_section}
 use Rattle.jump_core.specs.Core.{core, core_sections}
 use Rattle.jump_core.specs.Better.{LeWay, LeFollow, LeAll, le_switch, LeSections, le_section, Better}
-use Rattle.move_core.proofs.Orders.{▷-assoc, ▷-Past, way_lands, way_trans, way_then, way_on}
+use Rattle.jump_core.proofs.TaskWays.{way_assoc}
+use Rattle.move_core.proofs.Orders.{way_past, way_lands, way_trans, way_then, way_on}
 use Rattle.move_core.proofs.Lists.{walks-guarded, core-guarded}
 use Rattle.move_core.proofs.Cores.{one_le, core_le, sections_le}
 use Rattle.move_core.proofs.Inward.{way_first}
@@ -63,7 +64,7 @@ module _ (m : ℕ) where
     where
       way : (c : Bool) → eqb l m ≡ c → LeWay (x ▷ w l) (y ▷ w' l)
       way true e = subst (λ z. LeWay (x ▷ w l) (y ▷ z)) (sym (b.at l e)) (there_sooner x y (w l) (subst (λ z. LeWay x (y ▷ z)) (leap_at l m e) h))
-      way false e = way_then _ _ _ _ (subst (LeWay x) (ap (λ z. y ▷ z) (leap_off l m e) ∙ ▷-Past y) h) (b.better l)
+      way false e = way_then _ _ _ _ (subst (LeWay x) (ap (λ z. y ▷ z) (leap_off l m e) ∙ way_past y) h) (b.better l)
 
   -- one way and then another, where at m the second leads past
   with_then : (l : ℕ) (x x' y y' : Way) → LeWay x (x' ▷ leap_way l m) → LeWay y (y' ▷ leap_way l m) → (eqb l m ≡ true → y' ≡ Past) → LeWay (x ▷ y) ((x' ▷ y') ▷ leap_way l m)
@@ -71,11 +72,11 @@ module _ (m : ℕ) where
     where
       way : (c : Bool) → eqb l m ≡ c → LeWay (x ▷ y) ((x' ▷ y') ▷ leap_way l m)
       way true e =
-          subst (LeWay (x ▷ y)) (sym (ap (λ z. (x' ▷ z) ▷ leap_way l m) (p e) ∙ ap (λ z. z ▷ leap_way l m) (▷-Past x') ∙ ap (λ z. x' ▷ z) (leap_at l m e)))
+          subst (LeWay (x ▷ y)) (sym (ap (λ z. (x' ▷ z) ▷ leap_way l m) (p e) ∙ ap (λ z. z ▷ leap_way l m) (way_past x') ∙ ap (λ z. x' ▷ z) (leap_at l m e)))
           (there_sooner x x' y (subst (λ z. LeWay x (x' ▷ z)) (leap_at l m e) h))
       way false e =
-          subst (LeWay (x ▷ y)) (sym (ap (λ z. (x' ▷ y') ▷ z) (leap_off l m e) ∙ ▷-Past (x' ▷ y')))
-          (way_then _ _ _ _ (subst (LeWay x) (ap (λ z. x' ▷ z) (leap_off l m e) ∙ ▷-Past x') h) (subst (LeWay y) (ap (λ z. y' ▷ z) (leap_off l m e) ∙ ▷-Past y') k))
+          subst (LeWay (x ▷ y)) (sym (ap (λ z. (x' ▷ y') ▷ z) (leap_off l m e) ∙ way_past (x' ▷ y')))
+          (way_then _ _ _ _ (subst (LeWay x) (ap (λ z. x' ▷ z) (leap_off l m e) ∙ way_past x') h) (subst (LeWay y) (ap (λ z. y' ▷ z) (leap_off l m e) ∙ way_past y') k))
 
   with_end : (ends : Bool) (l : ℕ) (x y : Way) → LeWay x (y ▷ leap_way l m) → LeWay (end_way ends x) (end_way ends y ▷ leap_way l m)
   with_end true l x y h = way_more l m Past
@@ -115,7 +116,7 @@ module _ (m : ℕ) where
   next_left : (cases : List ExpressionTree) (default ends : Bool) (a : Forest) (c c' : Sections) → LeftSections c c' → LeftSections (Section cases default a ends c) (Section cases default a ends c')
   next_left cases default ends a c c' o =
       section_left cases default ends a a c c' o refl
-      (λ l. subst (LeWay (walks l a ▷ end_way ends (tail_way l c))) (sym (▷-assoc (walks l a) (end_way ends (tail_way l c')) (leap_way l m)))
+      (λ l. subst (LeWay (walks l a ▷ end_way ends (tail_way l c))) (sym (way_assoc (walks l a) (end_way ends (tail_way l c')) (leap_way l m)))
       (way_on (walks l a) _ _ (with_end ends l _ _ (o.tails l))))
       (λ w w' b. core_le a (after_section ends c w) (after_section ends c' w') (follow_left cases default ends a a c c' o w w' b))
 
@@ -170,7 +171,7 @@ module _ (m : ℕ) where
       record {
         stops = refl;
         goes = let x = o.goes in omega arith;
-        ways = λ l. subst (λ x. LeWay x (walk l (Switch s d) ▷ leap_way l m)) (sym (▷-Past (walk l (Switch s c))))
+        ways = λ l. subst (λ x. LeWay x (walk l (Switch s d) ▷ leap_way l m)) (sym (way_past (walk l (Switch s c))))
             (with_selector (leap_way l m) (peel_selector (only l) s) _ _
             (λ n. with_first (leap_way l m) _ _ _ _ (o.entries l (ToCase (switch_kind s) n)) (o.entries l ToDefault) (way_more l m Past)));
         cores = λ w w' h. one_le (le_switch _ (o.cores w (before (one (Leap m)) w') (behind_leap m w w' h)));
