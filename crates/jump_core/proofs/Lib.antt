@@ -10,3 +10,5 @@ pub mod Same
 pub mod Order
 pub mod OrderRuns
 pub mod All
+pub mod Sides
+pub mod Converse
