@@ -15,7 +15,7 @@ use Rattle.jump_meaning.proofs.TaskFacts.{cut_tail}
 use Rattle.jump_core.specs.Ways.{only, Peeled, Ask, Known, peel, on_peeled, PeeledSelector, AskSelector, KnownSelector, peel_selector, on_selector, Way, Lands, Past, Lost, ◌▷◌, end_way, walks, walk, tail_way, section_way, do_end_way}
 use Rattle.jump_core.proofs.TaskWays.{loop_way, task_way, exit_way}
 use Rattle.jump_core.proofs.Lawful.{HasNoInnerCase, IsLanded, Lawful}
-use Rattle.jump_core.proofs.Reach.{Agree, body_in, Walks, landed, onward, IsMadeTest, quiet, IsMadeSelector, quiet_selector}
+use Rattle.jump_core.proofs.Reach.{Agree, reset_other, body_in, Walks, landed, onward, IsMadeTest, quiet, IsMadeSelector, quiet_selector}
 
 module _ (p : Code) (Inv : State → Type 0) (law : Lawful p Inv) (l : ℕ) (f : List ℕ) (alone : IsLanded p f l) (cs : List Frame) (w : World) where
   -- the run from these tasks lands
@@ -86,13 +86,6 @@ module _ (p : Code) (Inv : State → Type 0) (law : Lawful p Inv) (l : ℕ) (f :
       let on = λ (z : Inv (AfterLeap g v m k false)). subst (λ y. Walks p l f v cs w (AfterLeap g v m k y)) (sym (ag m ∙ e)) (h g v ag z) in
       onward _ _ _ ag tt (on (subst (λ y. Inv (AfterLeap g v m k y)) (ag m ∙ e) (law.next _ i)))
 
-  cleared : (g : Guards) (m : ℕ) → Agree g (only l) → eqb l m ≡ false → Agree (with_guard m false g) (only l)
-  cleared g m ag e x = at_x (eqb m x) refl
-    where
-      at_x : (b : Bool) → eqb m x ≡ b → cond b false (g x) ≡ eqb l x
-      at_x true q = sym (ap (λ z. eqb l z) (sym (eqb-true m x q)) ∙ e)
-      at_x false q = ag x
-
   at_land_of : (g : Guards) (v : List Value) (k : List Task) → Agree g (only l) → (m : ℕ) → l ≡ m → (IsLanded p f m → find m (body_in p f) ≡ Runs (Land m) ∷ k) → Walks p l f v cs w (At f g (Runs (Land m) ∷ k) v cs w)
   at_land_of g v k ag m e = subst (λ m. (IsLanded p f m → find m (body_in p f) ≡ Runs (Land m) ∷ k) → Walks p l f v cs w (At f g (Runs (Land m) ∷ k) v cs w)) e (λ r. landed g k ag (r alone))
 
@@ -101,7 +94,7 @@ module _ (p : Code) (Inv : State → Type 0) (law : Lawful p Inv) (l : ℕ) (f :
 
   go_land : (m : ℕ) (k : List Task) (b : Bool) → eqb l m ≡ b → Leads (cond b Lands Past) k → Arrives (Runs (Land m) ∷ k)
   go_land m k true e h g v ag i = at_land_of g v k ag m (eqb-true l m e) (law.at_land m f g k v cs w i)
-  go_land m k false e h g v ag i = onward _ _ _ ag (other_label m e) (h (with_guard m false g) v (cleared g m ag e) (law.next _ i))
+  go_land m k false e h g v ag i = onward _ _ _ ag (other_label m e) (h (with_guard m false g) v (reset_other l m g ag e) (law.next _ i))
 
   -- ---- switches
 

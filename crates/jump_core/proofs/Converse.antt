@@ -21,14 +21,14 @@ use Rattle.jump_core.proofs.Reach.{Agree, body_in}
 use Rattle.jump_core.proofs.All.{Plain}
 
 -- a further turn of a loop
-abbrev turn_way : ℕ → Loop → Way
+abbrev pub turn_way : ℕ → Loop → Way
 turn_way l (WhileLoop t a) = walks l a ▷ walk l (While t a)
 turn_way l (DoLoop a t) = walk l (Do a t)
 turn_way l (ForLoop t u a) = walks l a ▷ Lost
 
 -- the way through any tasks, by the values pending
 abbrev mutual
-  value_way : ℕ → List Task → List Value → Way
+  pub value_way : ℕ → List Task → List Value → Way
   value_way l [] v = Lost
   value_way l (Runs x ∷ k) v = walk l x ▷ value_way l k v
   value_way l (Works o ∷ k) v = Lost
@@ -43,19 +43,19 @@ abbrev mutual
   value_way l (EndsSection ∷ k) v = past_way l k v
   value_way l (Out ∷ k) v = value_way l k v
 
-  past_way : ℕ → List Task → List Value → Way
+  pub past_way : ℕ → List Task → List Value → Way
   past_way l [] v = Lost
   past_way l (Loops x ∷ k) v = value_way l k v
   past_way l (Out ∷ k) v = value_way l k v
   past_way l (_ ∷ k) v = past_way l k v
 
-past_cut : (l : ℕ) (k : List Task) (v : List Value) → past_way l k v ≡ value_way l (cut k) v
+pub past_cut : (l : ℕ) (k : List Task) (v : List Value) → past_way l k v ≡ value_way l (cut k) v
 past_cut l [] v = refl
 past_cut l (Loops x ∷ k) v = refl
 past_cut l (Out ∷ k) v = refl
 past_cut l (_ ∷ k) v = past_cut l k v
 
-items_value : (l : ℕ) (a : Forest) (k : List Task) (v : List Value) → value_way l (items a k) v ≡ walks l a ▷ value_way l k v
+pub items_value : (l : ℕ) (a : Forest) (k : List Task) (v : List Value) → value_way l (items a k) v ≡ walks l a ▷ value_way l k v
 items_value l Nil k v = refl
 items_value l (Then x a) k v = ap (λ r. walk l x ▷ r) (items_value l a k v) ∙ sym (way_assoc (walk l x) (walks l a) (value_way l k v))
 
@@ -153,7 +153,7 @@ enter_here : (l : ℕ) (k : List Task) (v : List Value) (b : Bool) (y : Way) (ts
 enter_here l k v true y ts inner a o h i q = inl h
 enter_here l k v false y ts inner a o h i q = enter_inner l k v a inner o i q
 
-enter_section : (l : ℕ) (goal : Goal) → enters_switches goal ≡ false → (c : Sections) (k : List Task) (v : List Value) → Enter l k v (section_way l goal c) (seek_sections goal c k)
+pub enter_section : (l : ℕ) (goal : Goal) → enters_switches goal ≡ false → (c : Sections) (k : List Task) (v : List Value) → Enter l k v (section_way l goal c) (seek_sections goal c k)
 enter_section l goal e NoSection k v = tt
 enter_section l goal e (Section cases default a ends c) k v =
     let behind = end_of ends (tail_tasks c k) in
@@ -169,7 +169,7 @@ enter_some l k v y ts q h = elim q as (λ _. y ▷ value_way l k v ≡ Lands) [
   | inr e ↦ lost_lands (value_way l ts v) e h
 ]
 
-enter_lands : (l : ℕ) (k : List Task) (v : List Value) (a b : Option Way) (o q : Option (List Task)) → Enter l k v a o → Enter l k v b q → value_way l (first_of_three o q k) v ≡ Lands → first_of_three a b Past ▷ value_way l k v ≡ Lands
+pub enter_lands : (l : ℕ) (k : List Task) (v : List Value) (a b : Option Way) (o q : Option (List Task)) → Enter l k v a o → Enter l k v b q → value_way l (first_of_three o q k) v ≡ Lands → first_of_three a b Past ▷ value_way l k v ≡ Lands
 enter_lands l k v (Some y) b (Some ts) q r s h = enter_some l k v y ts r h
 enter_lands l k v (Some y) b None q r s h = absurd r
 enter_lands l k v None b (Some ts) q r s h = lost_lands (value_way l ts v) r h

@@ -12,3 +12,4 @@ pub mod OrderRuns
 pub mod All
 pub mod Sides
 pub mod Converse
+pub mod Walked

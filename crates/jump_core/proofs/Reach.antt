@@ -1,5 +1,5 @@
 -- Runs step by step, the silent ways of runs, and tests and selectors that the guards decide.
-use Rattle.std.proofs.Common.{ℕ, ℤ, pos, Bool, true, false, not, cond, List, [], ◌∷◌, ◌≡◌, ap, sym, ◌∙◌, subst}
+use Rattle.std.proofs.Common.{ℕ, ℤ, pos, Bool, true, false, not, cond, eqb, List, [], ◌∷◌, ◌≡◌, refl, ap, sym, ◌∙◌, subst, eqb-true}
 use Rattle.c_tree.specs.Operators.{truth}
 use Rattle.c_tree.specs.TestTrees.{TestTree, Source, On, Off, AndOff, OrOn, SelectorTree, Selects, Pick}
 use Rattle.c_tree.specs.Trees.{Forest, Land}
@@ -8,12 +8,20 @@ use Rattle.jump_meaning.specs.Code.{Code, items_of}
 use Rattle.jump_meaning.specs.World.{World}
 use Rattle.jump_meaning.specs.Tasks.{Task, Runs, Asks, AsksSelector}
 use Rattle.jump_meaning.specs.Search.{find}
-use Rattle.jump_meaning.specs.Step.{Guards, no_guards, Frame, Waits, State, At, HasEnded, HasTrapped, Goes, Yields, move, step}
+use Rattle.jump_meaning.specs.Step.{Guards, no_guards, with_guard, Frame, Waits, State, At, HasEnded, HasTrapped, Goes, Yields, move, step}
 use Rattle.jump_meaning.specs.Steady.{IsSilentTask}
 use Rattle.jump_core.specs.Ways.{only, Known, peel, KnownSelector, peel_selector}
 
 abbrev pub Agree : Guards → Guards → Type 0
 Agree g h = (l : ℕ) → g l ≡ h l
+
+-- the guard of another label is reset
+pub reset_other : (l m : ℕ) (g : Guards) → Agree g (only l) → eqb l m ≡ false → Agree (with_guard m false g) (only l)
+reset_other l m g ag e x = at_x (eqb m x) refl
+  where
+    at_x : (b : Bool) → eqb m x ≡ b → cond b false (g x) ≡ eqb l x
+    at_x true q = sym (ap (λ z. eqb l z) (sym (eqb-true m x q)) ∙ e)
+    at_x false q = ag x
 
 -- no call that waits has a guard set
 abbrev pub CalmFrames : List Frame → Type 0
