@@ -13,3 +13,4 @@ pub mod All
 pub mod Sides
 pub mod Converse
 pub mod Walked
+pub mod Theorem
