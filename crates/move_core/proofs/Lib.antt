@@ -13,3 +13,6 @@ pub mod MovedWhere
 pub mod BetterMoved
 pub mod Laws
 pub mod Simplified
+pub mod BodiesMoved
+pub mod RangesKept
+pub mod ProgramsMoved
