@@ -1,9 +1,10 @@
 -- The laws that the functions of this crate state.
 use Rattle.c_tree.specs.Trees.{trees_of}
 use Rattle.c_tree.proofs.RuleChanges.{joins_changed, lifts_changed, moves_out_changed, moves_in_changed}
-use Rattle.move_core.specs.Laws.{BetterLaws, MoveLaws}
+use Rattle.move_core.specs.Laws.{BetterLaws, MoveLaws, ProgramLaws}
 use Rattle.move_core.proofs.BetterLists.{better_refl, better_trans, better_changed}
 use Rattle.move_core.proofs.BetterMoved.{moved_better}
+use Rattle.move_core.proofs.ProgramsMoved.{program_in_range, program_made, program_core}
 
 pub better_laws : BetterLaws
 better_laws = record { itself = better_refl; chain = λ xs ys zs p q. better_trans p q; anywhere = λ xs ys c. better_changed (λ xs ys h. h) c }
@@ -16,3 +17,6 @@ move_laws = record {
   moves_out = λ l outer last i old new to h w. moved_better (trees_of old) (trees_of new) (moves_out_changed l outer last i old new to h) w;
   moves_in = λ l n i j b steps old new to h w. moved_better (trees_of old) (trees_of new) (moves_in_changed l n i j b steps old new to h) w;
 }
+
+pub program_laws : ProgramLaws
+program_laws = record { ranged = program_in_range; made = program_made; core = program_core }

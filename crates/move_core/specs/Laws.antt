@@ -1,10 +1,11 @@
 -- What the functions of this crate state: to be at least as good is kept in every context, and each of the four
--- rules makes a well made body at least as good.
-use Rattle.std.specs.Prelude.{ℕ, ℤ, List}
+-- rules makes a well made body at least as good, in a program too.
+use Rattle.std.specs.Prelude.{ℕ, ℤ, List, All}
 use Rattle.c_tree.specs.declared.tree.Item.{Item}
 use Rattle.c_tree.specs.declared.tree.Branch.{Branch}
 use Rattle.c_tree.specs.declared.tree.Step.{Step}
 use Rattle.c_tree.specs.declared.tree.Path.{Path}
+use Rattle.c_tree.specs.declared.tree.Program.{Program}
 use Rattle.c_tree.specs.Trees.{Forest, trees_of}
 use Rattle.c_tree.specs.Changed.{Changed}
 use Rattle.c_tree.specs.Moves.{Moved}
@@ -13,7 +14,12 @@ use Rattle.c_tree.specs.Lift.{Lifts}
 use Rattle.c_tree.specs.Outward.{MovesOut}
 use Rattle.c_tree.specs.Inward.{MovesIn}
 use Rattle.c_tree.specs.WellMade.{IsWellMade}
-use Rattle.jump_core.specs.Better.{Better}
+use Rattle.c_tree.specs.InRange.{IsProgramInRange}
+use Rattle.jump_meaning.specs.Code.{code_of}
+use Rattle.jump_meaning.specs.Steady.{IsTopMadeWell}
+use Rattle.jump_core.specs.Core.{core_code}
+use Rattle.jump_core.specs.Better.{LeCode, Better}
+use Rattle.move_core.specs.Bodies.{OneBodyChanged, MovesWell}
 
 -- a preorder of lists, which holds of a whole where it holds of a part
 pub record BetterLaws : Type 0 where
@@ -35,3 +41,11 @@ pub record MoveLaws : Type 0 where
   pub lifts : (l i j : ℕ) (steps : List Step) (old new : List Item) (to : Path) → Lifts l i j steps old new to → MakesBetter old new
   pub moves_out : (l : ℕ) (outer : List Step) (last : Step) (i : ℕ) (old new : List Item) (to : Path) → MovesOut l outer last i old new to → MakesBetter old new
   pub moves_in : (l : ℕ) (n : ℤ) (i j : ℕ) (b : Branch) (steps : List Step) (old new : List Item) (to : Path) → MovesIn l n i j b steps old new to → MakesBetter old new
+
+-- a rule in one body of a program
+pub record ProgramLaws : Type 0 where
+  -- it stays in range, and made well
+  pub ranged : (p q : Program) → OneBodyChanged MovesWell p.tops q.tops → IsProgramInRange p → IsProgramInRange q
+  pub made : (p q : Program) → OneBodyChanged MovesWell p.tops q.tops → All IsTopMadeWell p.tops → All IsTopMadeWell q.tops
+  -- its core stays, but Arms may become gotos
+  pub core : (p q : Program) → OneBodyChanged MovesWell p.tops q.tops → LeCode (core_code (code_of p)) (core_code (code_of q))

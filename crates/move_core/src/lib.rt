@@ -4,7 +4,7 @@
 //! The definitions stand in specs/. Each function here runs no code: its contract is a law of them.
 #![tactic(auto)]
 
-ghost use Rattle.move_core.specs.Laws.{BetterLaws, MoveLaws};
+ghost use Rattle.move_core.specs.Laws.{BetterLaws, MoveLaws, ProgramLaws};
 
 /// To be at least as good is a preorder of lists, and holds of a whole where it holds of a part.
 pub fn better_laws()
@@ -14,4 +14,9 @@ pub fn better_laws()
 /// Each of the four rules makes a well made body at least as good.
 pub fn move_laws()
     ensures { MoveLaws }
+{}
+
+/// A program stays in range and made well where a rule changes one body, and its core is no worse.
+pub fn program_laws()
+    ensures { ProgramLaws }
 {}
