@@ -16,3 +16,4 @@ pub mod Simplified
 pub mod BodiesMoved
 pub mod RangesKept
 pub mod ProgramsMoved
+pub mod SteadyMoved
