@@ -45,23 +45,23 @@ breaks-left l a b = let p = breaks-join a (guarded l b) in let q = breaks-join a
 pub continues-left : (l : ℕ) (a b : Forest) → continues (join a (guarded l b)) ≡ continues (join a (Then (Leap l) b))
 continues-left l a b = let p = continues-join a (guarded l b) in let q = continues-join a (Then (Leap l) b) in let r = continues-guarded l b in omega arith
 
-pub breaks-chosen : (l : ℕ) (ends : Bool) (c : Sections) → breaks_in (cond ends c (later_guarded l c)) ≡ breaks_in c
+breaks-chosen : (l : ℕ) (ends : Bool) (c : Sections) → breaks_in (cond ends c (later_guarded l c)) ≡ breaks_in c
 breaks-chosen l true c = refl
 breaks-chosen l false c = breaks-later l c
 
-pub continues-chosen : (l : ℕ) (ends : Bool) (c : Sections) → continues_in (cond ends c (later_guarded l c)) ≡ continues_in c
+continues-chosen : (l : ℕ) (ends : Bool) (c : Sections) → continues_in (cond ends c (later_guarded l c)) ≡ continues_in c
 continues-chosen l true c = refl
 continues-chosen l false c = continues-later l c
 
-pub breaks-sections_left : (l : ℕ) {c d : Sections} → SectionsLeft l c d → breaks_in d ≡ breaks_in c
+breaks-sections_left : (l : ℕ) {c d : Sections} → SectionsLeft l c d → breaks_in d ≡ breaks_in c
 breaks-sections_left l (left_here cases default ends a b c) = let p = breaks-left l a b in let q = breaks-chosen l ends c in omega arith
 breaks-sections_left l (left_later cases default ends a r) = let p = breaks-sections_left l r in omega arith
 
-pub continues-sections_left : (l : ℕ) {c d : Sections} → SectionsLeft l c d → continues_in d ≡ continues_in c
+continues-sections_left : (l : ℕ) {c d : Sections} → SectionsLeft l c d → continues_in d ≡ continues_in c
 continues-sections_left l (left_here cases default ends a b c) = let p = continues-left l a b in let q = continues-chosen l ends c in omega arith
 continues-sections_left l (left_later cases default ends a r) = let p = continues-sections_left l r in omega arith
 
-pub breaks-entered : (l k : ℕ) {c d : Sections} → SectionsEntered l k c d → breaks_in d ≡ breaks_in c
+breaks-entered : (l k : ℕ) {c d : Sections} → SectionsEntered l k c d → breaks_in d ≡ breaks_in c
 breaks-entered l _ (entered_here cases default ends a c z) = omega arith
 breaks-entered l _ (entered_later cases default ends a r) = let p = breaks-entered l _ r in omega arith
 

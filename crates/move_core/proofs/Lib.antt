@@ -6,7 +6,7 @@ pub mod BetterLists
 pub mod Outward
 pub mod Inward
 pub mod Backward
-mod Choice
+pub mod Choice
 pub mod SwitchOut
 pub mod SwitchIn
 pub mod MovedWhere
