@@ -84,11 +84,11 @@ op_dropped _ k k' = refl
 
 -- ---- the nearest loop or switch behind a section
 
-kept_items : (a : Forest) (k : List Task) → HasKeptExit k → HasKeptExit (items a k)
+pub kept_items : (a : Forest) (k : List Task) → HasKeptExit k → HasKeptExit (items a k)
 kept_items Nil k h = h
 kept_items (Then x a) k h = kept_items a k h
 
-kept_end : (ends : Bool) (k : List Task) → HasKeptExit k → HasKeptExit (end_of ends k)
+pub kept_end : (ends : Bool) (k : List Task) → HasKeptExit k → HasKeptExit (end_of ends k)
 kept_end true k h = h
 kept_end false k h = h
 

@@ -14,3 +14,4 @@ pub mod Sides
 pub mod Converse
 pub mod Walked
 pub mod Theorem
+pub mod Places
