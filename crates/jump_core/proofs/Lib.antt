@@ -15,3 +15,4 @@ pub mod Converse
 pub mod Walked
 pub mod Theorem
 pub mod Places
+pub mod Made

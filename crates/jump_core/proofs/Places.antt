@@ -46,7 +46,7 @@ no_spot true c k e h = absurd (omega (arith, h))
 no_spot false true k e h = absurd (true≢false (sym e))
 no_spot false false k e h = refl
 
-both_none : (a b : Option (List Task)) → a ≡ None → b ≡ None → or_else a b ≡ None
+pub both_none : (a b : Option (List Task)) → a ≡ None → b ≡ None → or_else a b ≡ None
 both_none a b p q = ap (λ o. or_else o b) p ∙ q
 
 mutual
