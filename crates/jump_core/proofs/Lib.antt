@@ -16,3 +16,4 @@ pub mod Walked
 pub mod Theorem
 pub mod Places
 pub mod Made
+pub mod Programs

@@ -11,6 +11,7 @@ use Rattle.jump_meaning.specs.Code.{FunctionTree, Code, items_of}
 use Rattle.jump_meaning.specs.Steady.{IsUnarmed}
 use Rattle.jump_meaning.specs.Tasks.{WhileLoop, DoLoop, ForLoop, Task, Runs, Loops, items, end_of, tail_tasks}
 use Rattle.jump_meaning.specs.Search.{Goal, ToLabel, ToCase, ToDefault, is_goal, enters_switches, or_else, seek, seek_in, seek_sections}
+use Rattle.jump_core.specs.Laws.{IsMadeBody, HasMadeBodies}
 use Rattle.jump_core.proofs.Reach.{body_in}
 use Rattle.jump_core.proofs.Lawful.{HasNoInnerCase}
 use Rattle.jump_core.proofs.Lookup.{seek_of}
@@ -185,11 +186,7 @@ unarmed_owes b h _ z = tt
 
 -- ---- programs of such bodies
 
--- a body is well made, or has no Arm, Leap and Land
-abbrev pub IsMadeBody : Forest → Type 0
-IsMadeBody b = IsWellMade b ⊎ Everywhere IsUnarmed b
-
-pub placed : (p : Code) → ((m : List ℕ) → IsMadeBody (items_of (p.functions m))) → Placed p
+pub placed : (p : Code) → HasMadeBodies p → Placed p
 placed p made = record {
   body = λ f. elim (made f) as (λ _. AllIn (Here p) f (body_in p f) []) [
     | inl w ↦ placed_body p f (owes (body_in p f) (body_in p f) w.converted w.loops w.landed) (made_once (body_in p f) w)

@@ -1,3 +1,4 @@
 pub mod Ways
 pub mod Core
 pub mod Better
+pub mod Laws
