@@ -1,13 +1,16 @@
--- Programs that are equal but for the body of one function.
+-- Programs that are equal but for the body of one function, and what such a change keeps.
 use Rattle.std.specs.Prelude.{◌≡◌, List, ◌∷◌, Some}
 use Rattle.c_tree.specs.declared.tree.Item.{Item}
 use Rattle.c_tree.specs.declared.tree.Function.{Function}
 use Rattle.c_tree.specs.declared.tree.Top.{Top}
 use Rattle.c_tree.specs.declared.tree.Top.TheVariants as T
+use Rattle.c_tree.specs.declared.tree.Program.{Program}
 use Rattle.c_tree.specs.Trees.{trees_of}
 use Rattle.c_tree.specs.Changed.{Changed}
 use Rattle.c_tree.specs.Moves.{Moved}
 use Rattle.c_tree.specs.WellMade.{IsWellMade}
+use Rattle.jump_meaning.specs.Runs.{BehaveTheSame}
+use Rattle.jump_meaning.specs.Steady.{IsSteady}
 
 -- the function with another body
 abbrev pub with_body : Function → List Item → Function
@@ -22,3 +25,11 @@ pub data OneBodyChanged (R : List Item → List Item → Type 0) : List Top → 
 pub record MovesWell (a b : List Item) : Type 0 where
   pub made : IsWellMade (trees_of a)
   pub moved : Changed Moved (trees_of a) (trees_of b)
+
+-- a is the old list and b the new one
+abbrev pub IsExchange : List Item → List Item → List Item → List Item → Type 0
+IsExchange old new a b = (a ≡ old) × (b ≡ new)
+
+-- where a steady program has the old list as a body, it is steady with the new one in its place, and behaves the same
+pub record KeepsBehaviour (old new : List Item) : Type 0 where
+  pub programs : (p q : Program) → OneBodyChanged (IsExchange old new) p.tops q.tops → IsSteady p → IsSteady q × BehaveTheSame p q

@@ -1,5 +1,5 @@
--- What the functions of this crate state: to be at least as good is kept in every context, and each of the four
--- rules makes a well made body at least as good, in a program too.
+-- What the functions of this crate state: to be at least as good is kept in every context, each of the four rules
+-- makes a well made body at least as good, and so a steady program with it behaves the same.
 use Rattle.std.specs.Prelude.{ℕ, ℤ, List, All}
 use Rattle.c_tree.specs.declared.tree.Item.{Item}
 use Rattle.c_tree.specs.declared.tree.Branch.{Branch}
@@ -16,10 +16,11 @@ use Rattle.c_tree.specs.Inward.{MovesIn}
 use Rattle.c_tree.specs.WellMade.{IsWellMade}
 use Rattle.c_tree.specs.InRange.{IsProgramInRange}
 use Rattle.jump_meaning.specs.Code.{code_of}
-use Rattle.jump_meaning.specs.Steady.{IsTopMadeWell}
+use Rattle.jump_meaning.specs.Runs.{BehaveTheSame}
+use Rattle.jump_meaning.specs.Steady.{IsTopMadeWell, IsSteady}
 use Rattle.jump_core.specs.Core.{core_code}
 use Rattle.jump_core.specs.Better.{LeCode, Better}
-use Rattle.move_core.specs.Bodies.{OneBodyChanged, MovesWell}
+use Rattle.move_core.specs.Bodies.{OneBodyChanged, MovesWell, KeepsBehaviour}
 
 -- a preorder of lists, which holds of a whole where it holds of a part
 pub record BetterLaws : Type 0 where
@@ -49,3 +50,17 @@ pub record ProgramLaws : Type 0 where
   pub made : (p q : Program) → OneBodyChanged MovesWell p.tops q.tops → All IsTopMadeWell p.tops → All IsTopMadeWell q.tops
   -- its core stays, but Arms may become gotos
   pub core : (p q : Program) → OneBodyChanged MovesWell p.tops q.tops → LeCode (core_code (code_of p)) (core_code (code_of q))
+
+-- the rule that makes the body `new` of `old`, which is well made, keeps behaviour
+abbrev pub Keeps : List Item → List Item → Type 0
+Keeps old new = IsWellMade (trees_of old) → KeepsBehaviour old new
+
+-- a rule in one body of a steady program
+pub record BehaviourLaws : Type 0 where
+  -- it stays steady, and behaves the same
+  pub steady : (p q : Program) → OneBodyChanged MovesWell p.tops q.tops → IsSteady p → IsSteady q × BehaveTheSame p q
+  -- and so for each rule
+  pub joins : (l i j : ℕ) (steps : List Step) (old new : List Item) → Joins l i j steps old new → Keeps old new
+  pub lifts : (l i j : ℕ) (steps : List Step) (old new : List Item) (to : Path) → Lifts l i j steps old new to → Keeps old new
+  pub moves_out : (l : ℕ) (outer : List Step) (last : Step) (i : ℕ) (old new : List Item) (to : Path) → MovesOut l outer last i old new to → Keeps old new
+  pub moves_in : (l : ℕ) (n : ℤ) (i j : ℕ) (b : Branch) (steps : List Step) (old new : List Item) (to : Path) → MovesIn l n i j b steps old new to → Keeps old new

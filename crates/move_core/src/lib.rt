@@ -1,10 +1,11 @@
 //! Each of the four rules makes a body at least as good as before: what leaves it stays, no way through it is
-//! worse, and its core is the same, but for Arms that become gotos.
+//! worse, and its core is the same, but for Arms that become gotos. So a steady program stays steady and
+//! behaves the same.
 //!
 //! The definitions stand in specs/. Each function here runs no code: its contract is a law of them.
 #![tactic(auto)]
 
-ghost use Rattle.move_core.specs.Laws.{BetterLaws, MoveLaws, ProgramLaws};
+ghost use Rattle.move_core.specs.Laws.{BehaviourLaws, BetterLaws, MoveLaws, ProgramLaws};
 
 /// To be at least as good is a preorder of lists, and holds of a whole where it holds of a part.
 pub fn better_laws()
@@ -19,4 +20,9 @@ pub fn move_laws()
 /// A program stays in range and made well where a rule changes one body, and its core is no worse.
 pub fn program_laws()
     ensures { ProgramLaws }
+{}
+
+/// A steady program with the body stays steady and behaves the same.
+pub fn behaviour_laws()
+    ensures { BehaviourLaws }
 {}
