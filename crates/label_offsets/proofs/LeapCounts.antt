@@ -84,7 +84,7 @@ layer (Block a) i = held_length i B.Body a
 layer (Switch s cs) i = sections_length i 0 cs
 layer _ i = refl
 
-leaps_counted : (x : Item) → P x
+pub leaps_counted : (x : Item) (i : ℕ) → length (leaps_of x i) ≡ leaps_in x
 leaps_counted = ind-Item P Q
     (λ x y e. subst (λ (z : Item-F Item Section). P (roll-Item z)) e (λ i.
     ap (λ (f : ℕ → List Path). length (f i)) (fold-roll-Item (ℕ → List Path) (List Path) leaps_step section_step _) ∙ layer y i ∙ sym (fold-roll-Item ℕ ℕ leap_layer leap_section_layer _)))
