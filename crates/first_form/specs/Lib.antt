@@ -5,3 +5,4 @@ pub mod Names
 pub mod Sum
 pub mod Item
 pub mod Form
+pub mod Stretches
