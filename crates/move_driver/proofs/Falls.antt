@@ -35,7 +35,7 @@ joined_suc l i k xs x e one =
     let n = leaps_in_list-parts xs i x e in
     omega (arith, p, q, g, m, n, one)
 
-joined_is : (l i k j : ℕ) (xs : List Item) → i + 1 + k ≡ j
+pub joined_is : (l i k j : ℕ) (xs : List Item) → i + 1 + k ≡ j
     → joined l i j xs ≡ take i xs ++ guarded l (take k (drop (suc i) xs)) ++ drop k (drop (suc i) xs)
 joined_is l i k j xs e =
     let before : i < j = omega (arith, e) in
@@ -65,6 +65,7 @@ pub record Moved (body : List Item) (at : Path) (after : List Item) : Type 0 whe
   pub list_is : list_at body at.steps ≡ Some list
   pub item_is : slice_get list at.item ≡ Some item
   pub label_is : leap_label item ≡ Some label
+  pub between_is : position (is_land label) (drop (at.item + 1) list) ≡ Some between
   pub land_is : at.item + 1 + between ≡ land
   pub after_is : joined_at label at.item land at.steps body ≡ after
 
@@ -84,6 +85,7 @@ moved body at after e =
       list_is = p.1;
       item_is = q.1;
       label_is = r.1;
+      between_is = t.1;
       land_is = t.2;
       after_is = s.2;
     }

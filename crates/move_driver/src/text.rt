@@ -1,6 +1,7 @@
-ghost use Rattle.std.specs.Prelude.{◌≡◌, IfOk, true};
+ghost use Rattle.std.specs.Prelude.{◌≡◌, IfOk, Err, true};
 ghost use Rattle.c_tree.specs.Jumps.{is_plain_program};
 ghost use Rattle.c_types.specs.Stop.{Gives};
+ghost use Rattle.first_form.specs.Stretches.{IsFirstForm};
 ghost use Rattle.move_driver.specs.Text.{read_text, rewritten_program, restructured_text, output, IsPlainText};
 
 use crate::counts::{Counts, DriverStop};
@@ -48,13 +49,13 @@ fn rewrite(alloc: Global, program: Program) -> Result<(Program, Counts), ReadSto
 }
 
 /// Restructures a text: reads it, moves every jump to its label, and prints the program that is left.
-///
-/// Refused with reason 99 is exactly a text that isn't of the first form, or one of whose jumps can't
-/// be joined when its turn comes (docs/SUBSET.md).
-#[tactic(auto, unfolding(crate::specs::Text::restructured_text))]
+/// Refused with reason 99 is exactly a text that isn't of the first form (docs/SUBSET.md).
+#[tactic(auto, using(crate::proofs::FirstForms::accepted, crate::proofs::FirstForms::refused_other), unfolding(crate::specs::Text::restructured_text))]
 pub fn restructure_text(alloc: Global, text: &[u8]) -> Result<Written, ReadStop>
     ensures value { Gives output result (restructured_text text.now) }
     ensures plain { IfOk result (λ written. IsPlainText written.text) }
+    ensures accepted { IfOk result (λ written. IsFirstForm text.now) }
+    ensures refused { (refusal : Refusal) → result ≡ Err (ReadStop.Refused refusal) → ¬ IsFirstForm text.now }
 {
     let program = read_program(alloc, text)?;
     let (program, counts) = rewrite(alloc, program)?;

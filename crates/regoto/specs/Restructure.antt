@@ -1,7 +1,8 @@
 -- What `restructure FROM TO` does.
-use Rattle.std.specs.Prelude.{◌≡◌, ◌⊎◌, ℕ, List, length, nat_lt, Option, None, Some, Result, Ok, Err, option_map, if◌then◌else◌}
+use Rattle.std.specs.Prelude.{◌≡◌, ◌⊎◌, ℕ, ◌<◌, ◌≤◌, List, length, nat_lt, Option, None, Some, Result, Ok, Err, option_map, if◌then◌else◌}
 use Rattle.std.specs.FinMap.{get, insert}
 use Rattle.c_types.specs.declared.refusal.Refusal.{Refusal}
+use Rattle.first_form.specs.Stretches.{IsFirstForm}
 use Rattle.move_driver.specs.Text.{Output, restructured_text, IsPlainText}
 use Rattle.rg_ports.specs.Count.{Rose}
 use Rattle.rg_ports.specs.Files.{Files, HoldsPrefix}
@@ -30,14 +31,21 @@ Lacks (Some files) from = get files from ≡ None
 pub record IsDone (said : List ℕ → Type 0) (from to : List ℕ) (before after : Option Files) : Type 0 where
   pub output : Output
   pub text : HandsOver before from (λ text. restructuring text ≡ Ok output)
-  -- it is the printed text of a program without goto and label
+  -- the text that was read is of the first form
+  pub first_form : HandsOver before from IsFirstForm
+  -- the text that was written is the printed text of a program without goto and label
   pub plain : IsPlainText output.text
   pub written : after ≡ option_map (λ files. insert files to output.text) before
   pub line : said (counts_line output.counts)
 
+-- why a text is refused: it has more than 1,048,576 bytes, or else it isn't of the first form
+abbrev pub RefusedFor : Refusal → List ℕ → Type 0
+RefusedFor refusal text = ((1048576 < length text) × (refusal.reason ≡ 1)) ⊎ ((length text ≤ 1048576) × ¬ IsFirstForm text × (refusal.reason ≡ 99))
+
 -- the text is outside the subset, for this reason and at this place, and no file changed
 pub record IsRefused (said : List ℕ → Type 0) (from : List ℕ) (before after : Option Files) (refusal : Refusal) : Type 0 where
   pub text : HandsOver before from (λ text. restructuring text ≡ Err refusal)
+  pub reason : HandsOver before from (RefusedFor refusal)
   pub kept : after ≡ before
   pub line : said (refusal_line from refusal)
 
@@ -80,8 +88,9 @@ Restructures said from to before after reads reads' writes writes' status.Usage 
 Restructures said from to before after reads reads' writes writes' (status.Trapped trap) = ⊥
 Restructures said from to before after reads reads' writes writes' status.Spent = ⊥
 
--- Where the shelf holds a text that is restructured, and no read or write fails, the job is done or memory is refused.
+-- Where the shelf holds a text of the first form that has at most 1,048,576 bytes, and no read or write fails,
+-- the job is done or memory is refused.
 abbrev pub Completes : List ℕ → Option Files → ℕ → ℕ → ℕ → ℕ → Status → Type 0
 Completes from before reads reads' writes writes' result =
-    (files : Files) (text : List ℕ) (output : Output) → before ≡ Some files → get files from ≡ Some text → restructuring text ≡ Ok output
+    (files : Files) (text : List ℕ) → before ≡ Some files → get files from ≡ Some text → length text ≤ 1048576 → IsFirstForm text
     → ¬ Rose reads reads' → ¬ Rose writes writes' → (result ≡ status.Done) ⊎ (result ≡ status.Memory)
