@@ -5,3 +5,4 @@ pub mod Outlines
 pub mod Drawn
 pub mod FirstFound
 pub mod Still
+pub mod HeldLaws

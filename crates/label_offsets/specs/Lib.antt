@@ -1,3 +1,4 @@
 pub mod Leaps
 pub mod Offset
 pub mod Relation
+pub mod Marks

@@ -2,9 +2,11 @@
 #![tactic(auto)]
 
 mod first;
+mod marks;
 mod places;
 
 pub use first::first_leap;
+pub use marks::{first_land, has_land, holds, is_land, label_at, land_after};
 pub use places::{Rule, level, offset, relation};
 
 #[cfg(test)]

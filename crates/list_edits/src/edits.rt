@@ -1,0 +1,54 @@
+ghost use Rattle.std.specs.Prelude.{◌≡◌, ◌≤◌, ◌<◌, ◌+◌, ◌++◌, ◌∷◌, [], IfOk, OnOk, OnErr, insert, remove, slice_set, take, drop, slice_range, vec_len, vec_capacity};
+
+use c_types::Memory;
+
+/// Moves the items from one place up to another out. After `Memory` nothing has changed.
+pub fn cut<T: Drop>(items: &mut Vec<T>, from: usize, to: usize) -> Result<Vec<T>, Memory>
+    requires start_le_end { from ≤ to }
+    requires in_bounds { to ≤ vec_len items.old }
+    ensures cut { IfOk result (λ mid. mid.items ≡ slice_range items.old.items from to) }
+    ensures rest { OnOk result (items.new.items ≡ take from items.old.items ++ drop to items.old.items) }
+    ensures err { OnErr result (items.new.items ≡ items.old.items) }
+{
+    let mut mid = items.split_off(from)?;
+    match mid.split_off(to - from) {
+        Ok(mut tail) => match items.append(&mut tail) {
+            Ok(()) => Ok(mid),
+            Err(_) => unreachable!(),
+        },
+        Err(_) => match items.append(&mut mid) {
+            Ok(()) => Err(Memory),
+            Err(_) => unreachable!(),
+        },
+    }
+}
+
+/// Puts the item in the place of the one that stands there, which is let go.
+pub fn set_at<T: Drop>(items: &mut Vec<T>, at: usize, item: T)
+    requires { at < vec_len items.old }
+    ensures { items.new.items ≡ slice_set items.old.items at item }
+{
+    items[at] = item;
+}
+
+/// Lets the item at the place go; those behind it move up.
+pub fn drop_at<T: Drop>(items: &mut Vec<T>, at: usize)
+    requires { at < vec_len items.old }
+    ensures { items.new.items ≡ remove items.old.items at }
+{
+    items.remove(at);
+}
+
+/// Puts the item at the place, where there is room for one more; those from there on move down. It
+/// takes no memory.
+pub fn insert_at<T: Drop>(items: &mut Vec<T>, at: usize, item: T)
+    requires in_bounds { at ≤ vec_len items.old }
+    requires room { vec_len items.old < vec_capacity items.old }
+    ensures items { items.new.items ≡ insert items.old.items at item }
+    ensures len { vec_len items.new ≡ vec_len items.old + 1 }
+{
+    match items.insert(at, item) {
+        Ok(()) => {}
+        Err(_) => unreachable!(),
+    }
+}
