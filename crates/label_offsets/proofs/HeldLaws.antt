@@ -1,10 +1,10 @@
 -- The Lands of a label in an item, as they stand in its lists.
 use Rattle.std.proofs.Common.{◌≡◌, ℕ, zero, suc, ◌+◌, ◌<◌, ◌≤◌, ◌↔◌, List, [], ◌∷◌, Option, Some, None, Bool, true, false, cond, ◌==◌, length, take, drop, get_or, refl, sym, ap, ◌∙◌, arith, option_and_then}
 use Rattle.std.proofs.lemmas.List.{at_drop_more, at_drop_all}
-use Rattle.std.proofs.lemmas.Bool.{iff_false, false≢true}
-use Rattle.c_tree.specs.declared.tree.Item.{Item, Item-F, If, For, Leap, out-Item, out-roll-Item}
+use Rattle.std.proofs.lemmas.Bool.{iff_false, false≢true, eq-eqb, eqb-true}
+use Rattle.c_tree.specs.declared.tree.Item.{Item, Item-F, If, For, Leap, Land, out-Item, roll-Item, out-roll-Item, roll-out-Item}
 use Rattle.c_tree.specs.declared.tree.Item.TheOpen as O
-use Rattle.c_tree.specs.declared.tree.Item.TheVariants.{rolls-If, rolls-For, rolls-Leap}
+use Rattle.c_tree.specs.declared.tree.Item.TheVariants.{rolls-If, rolls-For, rolls-Leap, rolls-Land}
 use Rattle.c_tree.specs.declared.tree.Section.{Section}
 use Rattle.c_tree.specs.declared.tree.Test.{Test}
 use Rattle.c_tree.specs.declared.tree.Expression.{Expression}
@@ -101,7 +101,27 @@ held-If l t a b = ap (held l) (sym (rolls-If t a b)) ∙ ap (held_F l) (out-roll
 pub held-For : (l : ℕ) (f : List Item) (t u : Option Expression) (a : List Item) → held l (For f t u a) ≡ lands l (trees_of f) + lands l (trees_of a)
 held-For l f t u a = ap (held l) (sym (rolls-For f t u a)) ∙ ap (held_F l) (out-roll-Item (O.For f t u a))
 
--- Leaps by their labels
+-- Leaps and Lands by their labels
 
 pub leap_label-Leap : (l : ℕ) → leap_label (Leap l) ≡ Some l
 leap_label-Leap l = ap leap_label (sym (rolls-Leap l)) ∙ ap leap_label_F (out-roll-Item (O.Leap l))
+
+pub is_land-Land : (l : ℕ) → is_land l (Land l) ≡ true
+is_land-Land l = ap (is_land l) (sym (rolls-Land l)) ∙ ap (is_land_F l) (out-roll-Item (O.Land l)) ∙ eq-eqb l l refl
+
+pub is_land-Leap : (l m : ℕ) → is_land l (Leap m) ≡ false
+is_land-Leap l m = ap (is_land l) (sym (rolls-Leap m)) ∙ ap (is_land_F l) (out-roll-Item (O.Leap m))
+
+layer_leap : (l : ℕ) (y : Item-F Item Section) → leap_label_F y ≡ Some l → y ≡ O.Leap l
+layer_leap l (O.Leap m) e = let h : m ≡ l = cc in ap (λ (n : ℕ). O.Leap n) h
+layer_leap l _ e = cc
+
+pub leap-is : (l : ℕ) (x : Item) → leap_label x ≡ Some l → x ≡ Leap l
+leap-is l x e = sym (roll-out-Item x) ∙ ap roll-Item (layer_leap l (out-Item x) e) ∙ rolls-Leap l
+
+layer_land : (l : ℕ) (y : Item-F Item Section) → is_land_F l y ≡ true → y ≡ O.Land l
+layer_land l (O.Land m) e = ap (λ (n : ℕ). O.Land n) (eqb-true m l e)
+layer_land l _ e = cc
+
+pub land-is : (l : ℕ) (x : Item) → is_land l x ≡ true → x ≡ Land l
+land-is l x e = sym (roll-out-Item x) ∙ ap roll-Item (layer_land l (out-Item x) e) ∙ rolls-Land l

@@ -15,7 +15,8 @@ use Rattle.c_tree.specs.Join.{guarded, joined_after, joined_before, joined, join
 use Rattle.c_tree.proofs.PathLemmas.{and_then_some, map_some}
 use Rattle.label_offsets.specs.Leaps.{first, leaps_from}
 use Rattle.label_offsets.proofs.LeapCounts.{leaps_in, leaps_in_list, leaps_in_layer, leaps_in-out, leaps_in-roll, leaps_in_list-append, leaps_in_list-parts, leaps_in_list-cut, leaps_in_list-put, length-leaps_from}
-use Rattle.move_driver.specs.Moves.{leap_label_F, leap_label, is_land, land_after, joined_leap, moved_at, next, derivation, leap_count, derived}
+use Rattle.label_offsets.specs.Marks.{leap_label_F, leap_label, is_land, land_after}
+use Rattle.move_driver.specs.Moves.{joined_leap, moved_at, next, derivation, leap_count, derived}
 
 guarded_leaps : (l : ℕ) (xs : List Item) → leaps_in_list (guarded l xs) ≡ leaps_in_list xs
 guarded_leaps l [] = refl
@@ -66,6 +67,7 @@ pub record Moved (body : List Item) (at : Path) (after : List Item) : Type 0 whe
   pub item_is : slice_get list at.item ≡ Some item
   pub label_is : leap_label item ≡ Some label
   pub between_is : position (is_land label) (drop (at.item + 1) list) ≡ Some between
+  pub found : land_after label at.item list ≡ Some land
   pub land_is : at.item + 1 + between ≡ land
   pub after_is : joined_at label at.item land at.steps body ≡ after
 
@@ -86,6 +88,7 @@ moved body at after e =
       item_is = q.1;
       label_is = r.1;
       between_is = t.1;
+      found = s.1;
       land_is = t.2;
       after_is = s.2;
     }

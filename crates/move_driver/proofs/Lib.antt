@@ -6,3 +6,4 @@ pub mod Flattening
 pub mod Sketches
 pub mod Leftover
 pub mod FirstForms
+pub mod JoinLemmas

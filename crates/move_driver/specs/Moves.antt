@@ -1,33 +1,11 @@
 -- The moves of a body: the first Leap in text order is joined with its Land, until none is left.
-use Rattle.std.specs.Prelude.{ℕ, zero, suc, ◌+◌, Bool, false, ◌==◌, List, Option, Some, None, option_map, option_and_then, drop, length, slice_get}
-use Rattle.std.specs.List.{position}
-use Rattle.c_tree.specs.declared.tree.Item.{Item, Item-F, out-Item}
-use Rattle.c_tree.specs.declared.tree.Item.TheOpen.{Leap, Land}
-use Rattle.c_tree.specs.declared.tree.Section.{Section}
+use Rattle.std.specs.Prelude.{ℕ, zero, suc, List, Option, Some, option_map, option_and_then, length, slice_get}
+use Rattle.c_tree.specs.declared.tree.Item.{Item}
 use Rattle.c_tree.specs.declared.tree.Path.{Path}
 use Rattle.c_tree.specs.Paths.{list_at}
 use Rattle.c_tree.specs.Join.{joined_at}
 use Rattle.label_offsets.specs.Leaps.{first, leaps_from}
-
--- the label of a Leap
-abbrev pub leap_label_F : Item-F Item Section → Option ℕ
-leap_label_F (Leap l) = Some l
-leap_label_F _ = None
-
-abbrev pub leap_label : Item → Option ℕ
-leap_label x = leap_label_F (out-Item x)
-
--- whether an item is the Land of the label
-abbrev pub is_land_F : ℕ → Item-F Item Section → Bool
-is_land_F l (Land k) = k == l
-is_land_F l _ = false
-
-abbrev pub is_land : ℕ → Item → Bool
-is_land l x = is_land_F l (out-Item x)
-
--- the place of the first Land of the label after the place i of a list
-abbrev pub land_after : ℕ → ℕ → List Item → Option ℕ
-land_after l i xs = option_map (λ k. i + 1 + k) (position (is_land l) (drop (i + 1) xs))
+use Rattle.label_offsets.specs.Marks.{leap_label, land_after}
 
 -- the body after the Leap of the label at the place i of the list xs at a path was joined with the Land after it
 abbrev pub joined_leap : List Item → Path → List Item → ℕ → Option (List Item)

@@ -1,7 +1,6 @@
 //! Rule J: a jump whose label stands in the same list is joined with it.
 #![tactic(auto)]
 
-mod cut;
 mod siblings;
 
 pub use siblings::join;

@@ -1,36 +1,15 @@
-ghost use Rattle.std.specs.Prelude.{◌≡◌, ◌≤◌, ◌<◌, ◌≢◌, length, ◌++◌, ◌∷◌, [], IfOk, OnOk, OnErr, slice_set, take, drop, slice_range, vec_len, vec_capacity};
-ghost use Rattle.c_tree.specs.Join.{joined_after, joined_before, joined, joined_at, Holds};
+ghost use Rattle.std.specs.Prelude.{◌≡◌, ◌≤◌, ◌<◌, ◌≢◌, length, ◌++◌, ◌∷◌, [], IfSome, IfNone, Some, OnOk, OnErr, slice_set, slice_get, position, take, drop, slice_range, vec_len};
+ghost use Rattle.c_tree.specs.Join.{joined_after, joined_before, joined, joined_at, list_there, CanJoin};
 ghost use Rattle.c_tree.specs.Paths.{list_at};
+ghost use Rattle.c_tree.specs.Trees.{trees_of};
+ghost use Rattle.c_tree.specs.WellMade.{IsWellMade};
+ghost use Rattle.sibling_elim.specs.Sibling.{HasSibling, IsJoined, land_beside as the_land_beside};
 
-use crate::cut::{cut, drop_at, set_at};
-use c_tree::{Item, Path, Step, Test, replace_at};
+use c_tree::{Item, Path, Step, Test, find_list, replace_at};
 use c_types::{List, Memory};
+use label_offsets::{first_land, label_at, land_after};
+use list_edits::{cut, guard_between, set_at};
 use std::alloc::Global;
-
-fn join_after(
-    alloc: Global,
-    items: &mut Vec<Item>,
-    leap: usize,
-    land: usize,
-    label: u32,
-) -> Result<(), Memory>
-    requires order { leap < land }
-    requires in_bounds { land < vec_len items.old }
-    requires bound { vec_len items.old ≤ 4294967295 }
-    ensures ok { OnOk result (items.new.items ≡ joined_after label leap land items.old.items) }
-    ensures len { vec_len items.new ≤ vec_len items.old }
-    ensures err { OnErr result (items.new.items ≡ items.old.items) }
-{
-    let mid = cut(items, leap + 1, land)?;
-    if leap + 1 == land {
-        drop(mid);
-        drop_at(items, leap);
-    } else {
-        let made = Item::If(Test::Off(label), List::from_vec(mid), List::new(alloc));
-        set_at(items, leap, made);
-    }
-    Ok(())
-}
 
 fn join_before(items: &mut Vec<Item>, leap: usize, land: usize, label: u32) -> Result<(), Memory>
     requires order { land < leap }
@@ -62,7 +41,7 @@ fn join_items(
     ensures err { OnErr result (items.new.items ≡ items.old.items) }
 {
     if leap < land {
-        join_after(alloc, items, leap, land, label)
+        guard_between(alloc, items, leap, land, label)
     } else {
         join_before(items, leap, land, label)
     }
@@ -73,39 +52,64 @@ fn join_in(
     body: &mut List<Item>,
     steps: &[Step],
     leap: usize,
-    land: usize,
-    label: u32,
+    pair: Pair,
 ) -> Result<(), Memory>
-    requires leap_in { Holds (λ a. leap < length a) (list_at body.old steps.now) }
-    requires land_in { Holds (λ a. land < length a) (list_at body.old steps.now) }
-    requires differ { leap ≢ land }
-    ensures ok { OnOk result (body.new ≡ joined_at label leap land steps.now body.old) }
+    requires { CanJoin pair.label leap pair.land steps.now body.old }
+    ensures ok { OnOk result (body.new ≡ joined_at pair.label leap pair.land steps.now body.old) }
     ensures err { OnErr result (body.new ≡ body.old) }
 {
     let list = replace_at(body, steps, List::new(alloc));
     let mut items = list.into_vec();
-    let done = join_items(alloc, &mut items, leap, land, label);
+    let done = join_items(alloc, &mut items, leap, pair.land, pair.label);
     let empty = replace_at(body, steps, List::from_vec(items));
     drop(empty);
     done
 }
 
-/// Joins the Leap at a path with the Land of its label at the place `land` of the same list
-/// (docs/REWRITING, rule J): the items between them go under an `if` where the guard is not set,
-/// or into a `do` that runs again while it is set. After `Memory` the body is as it was.
-pub fn join(
-    alloc: Global,
-    body: &mut List<Item>,
-    at: &Path,
-    land: u32,
+fn land_beside(items: &[Item], leap: usize, label: u32) -> Option<usize>
+    requires { leap < length items.now }
+    ensures { result ≡ the_land_beside label leap items.now }
+{
+    match land_after(items, leap, label) {
+        Some(land) => Some(land),
+        None => first_land(items, label),
+    }
+}
+
+/// The label of a Leap, and the place of its Land in the same list.
+#[derive(Clone, Copy)]
+struct Pair {
     label: u32,
-) -> Result<(), Memory>
-    requires leap_in { Holds (λ a. at.now.item < length a) (list_at body.old at.now.steps) }
-    requires land_in { Holds (λ a. land < length a) (list_at body.old at.now.steps) }
-    requires differ { at.now.item ≢ land }
-    ensures ok { OnOk result (body.new ≡ joined_at label at.now.item land at.now.steps body.old) }
+    land: usize,
+}
+
+fn pair_at(body: &List<Item>, at: &Path) -> Pair
+    requires { HasSibling body.now at.now }
+    ensures applies { CanJoin result.label at.now.item result.land at.now.steps body.now }
+    ensures first { the_land_beside result.label at.now.item (list_there body.now at.now.steps) ≡ Some result.land }
+{
+    let Some(label) = label_at(body, at) else {
+        unreachable!();
+    };
+    let Some(list) = find_list(body, at.steps.as_slice()) else {
+        unreachable!();
+    };
+    let Some(land) = land_beside(list.as_slice(), at.item as usize, label) else {
+        unreachable!();
+    };
+    Pair { label, land }
+}
+
+/// Joins the Leap at a path with the Land of its label in its list (docs/REWRITING.md, rule J): the
+/// first Land of the label after it, else the first before it. The items between them go under an
+/// `if` where the guard is not set, or, with the Land, into a `do` that runs again while it is set.
+/// A body that was well made is well made then. After `Memory` the body is as it was.
+pub fn join(alloc: Global, body: &mut List<Item>, at: &Path) -> Result<(), Memory>
+    requires { HasSibling body.old at.now }
+    ensures ok { OnOk result (IsJoined at.now body.old body.new) }
+    ensures well_made { OnOk result (IsWellMade (trees_of body.old) → IsWellMade (trees_of body.new)) }
     ensures err { OnErr result (body.new ≡ body.old) }
 {
-    let steps = at.steps.as_slice();
-    join_in(alloc, body, steps, at.item as usize, land as usize, label)
+    let pair = pair_at(body, at);
+    join_in(alloc, body, at.steps.as_slice(), at.item as usize, pair)
 }

@@ -1,5 +1,5 @@
 use Rattle.std.proofs.Common.{rules, arith, ◌∙◌}
-use Rattle.sibling_elim.proofs.Edits.{joined_before-is}
+use Rattle.sibling_elim.proofs.PairLemmas.{joined_before-is}
 use Rattle.sibling_elim.proofs.siblings.join_before.Goals as goal
 
 pub returns-clause-ok : goal.returns-clause-ok
