@@ -1,13 +1,6 @@
-// A library with one function.
+//! Rule L: a jump is lifted before an earlier item that holds its label.
 #![tactic(auto)]
 
-ghost use Rattle.std.specs.Prelude.{◌≡◌};
-ghost use Rattle.goto_lifting.specs.Echo.{echo_of};
+mod lifting;
 
-// The `ensures` clause is the contract: what `echo` returns is `echo_of` of its argument, a definition
-// in `specs/Echo.antt`, which a caller's clause can cite too.
-pub fn echo(x: usize) -> usize
-    ensures { result ≡ echo_of x }
-{
-    x
-}
+pub use lifting::lift;

@@ -6,3 +6,4 @@ pub mod Drawn
 pub mod FirstFound
 pub mod Still
 pub mod HeldLaws
+pub mod MarkLaws

@@ -7,7 +7,7 @@ mod places;
 
 pub use first::first_leap;
 pub use marks::{first_land, has_land, holds, is_land, label_at, land_after};
-pub use places::{Rule, level, offset, relation};
+pub use places::{Rule, level, offset, path_into, relation};
 
 #[cfg(test)]
 mod tests;

@@ -1,9 +1,10 @@
-ghost use Rattle.std.specs.Prelude.{◌≡◌, length, min, map, sum, take};
+ghost use Rattle.std.specs.Prelude.{◌≡◌, [], ◌∷◌, ◌++◌, IfOk, length, min, map, sum, take};
 ghost use Rattle.label_offsets.specs.Relation.{same_branch, same_step, relation as the_relation};
 ghost use Rattle.label_offsets.specs.Offset.{count as the_count, counts as the_counts, section_count as the_section_count, section_counts as the_section_counts, before_branch as the_before_branch, before as the_before};
 
 use c_tree::{Branch, Item, Path, Section, Step, child};
-use c_types::List;
+use c_types::{List, Memory};
+use std::alloc::Global;
 
 /// How a jump stands to its label, which says the rule that moves it (docs/REWRITING.md).
 #[derive(Clone, Copy, Debug, PartialEq, Eq)]
@@ -170,4 +171,16 @@ pub fn offset(body: &List<Item>, at: &Path) -> u64
     ensures { result ≡ min (the_before body.now at.now.steps at.now.item) u64.MAX }
 {
     before(body, at.steps.as_slice(), at.item)
+}
+
+/// The path of the first item of the list that the step leads to, from the list at the steps.
+pub fn path_into(alloc: Global, steps: &[Step], step: Step) -> Result<Path, Memory>
+    ensures { IfOk result (λ to. to ≡ record { steps = steps.now ++ step ∷ []; item = 0 }) }
+{
+    let mut all = List::from_slice(alloc, steps)?;
+    all.push(step)?;
+    Ok(Path {
+        steps: all,
+        item: 0,
+    })
 }

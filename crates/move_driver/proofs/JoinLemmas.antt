@@ -39,5 +39,5 @@ joined_is_move body new after at h e =
     let same : m.label ≡ h.label = cc in
     let found : land_beside h.label at.item m.list ≡ Some m.land = ap (λ n. land_beside n at.item m.list) (sym same) ∙ beside m.label at.item m.land m.list m.found in
     let place : Some m.land ≡ Some h.place = sym found ∙ ap (land_beside h.label at.item) (sym there) ∙ h.first in
-    let where : m.land ≡ h.place = cc in
-    e ∙ ap Some (sym m.after_is ∙ ap (λ n. joined_at n at.item m.land at.steps body) same ∙ ap (λ n. joined_at h.label at.item n at.steps body) where ∙ sym h.joins.body)
+    let spot : m.land ≡ h.place = cc in
+    e ∙ ap Some (sym m.after_is ∙ ap (λ n. joined_at n at.item m.land at.steps body) same ∙ ap (λ n. joined_at h.label at.item n at.steps body) spot ∙ sym h.joins.body)

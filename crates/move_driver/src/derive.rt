@@ -22,7 +22,10 @@ fn joins(body: &List<Item>, at: &Path) -> bool
     let Some(list) = find_list(body, at.steps.as_slice()) else {
         return false;
     };
-    land_after(list.as_slice(), at.item as usize, label).is_some()
+    match land_after(list.as_slice(), at.item as usize, label) {
+        Some(_) => true,
+        None => false,
+    }
 }
 
 fn move_at(alloc: Global, body: &mut List<Item>, at: &Path) -> Result<(), DriverStop>

@@ -1,13 +1,8 @@
-// A library with one function.
+//! Rule O: a jump goes out of the construct in whose list it stands.
 #![tactic(auto)]
 
-ghost use Rattle.std.specs.Prelude.{◌≡◌};
-ghost use Rattle.outward_moves.specs.Echo.{echo_of};
+mod leaving;
+mod out;
+mod sections;
 
-// The `ensures` clause is the contract: what `echo` returns is `echo_of` of its argument, a definition
-// in `specs/Echo.antt`, which a caller's clause can cite too.
-pub fn echo(x: usize) -> usize
-    ensures { result ≡ echo_of x }
-{
-    x
-}
+pub use out::move_out;
