@@ -3,8 +3,9 @@ ghost use Rattle.c_tree.specs.Join.{joined_after};
 
 use crate::edits::{cut, drop_at, set_at};
 use c_tree::{Item, Test};
-use c_types::{List, Memory};
+use c_types::{Boxed, List, Memory};
 use std::alloc::Global;
+use std::mem;
 
 /// Takes the item at `from` away and puts the items after it, up to the place `to`, under an `if`
 /// where the guard of the label is not set; where there are none, no `if` is made. After `Memory`
@@ -32,4 +33,20 @@ pub fn guard_between(
         set_at(items, from, made);
     }
     Ok(())
+}
+
+/// Makes the test one that holds only where the guard of the label is not set. It takes no memory.
+pub fn and_off(test: &mut Test, label: u32, mut spare: Boxed<Test>)
+    ensures { test.new ≡ Test.AndOff label test.old }
+{
+    spare.set(mem::replace(test, Test::On(label)));
+    *test = Test::AndOff(label, spare);
+}
+
+/// Makes the test one that also holds where the guard of the label is set. It takes no memory.
+pub fn or_on(test: &mut Test, label: u32, mut spare: Boxed<Test>)
+    ensures { test.new ≡ Test.OrOn label test.old }
+{
+    spare.set(mem::replace(test, Test::On(label)));
+    *test = Test::OrOn(label, spare);
 }

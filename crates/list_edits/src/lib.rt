@@ -6,4 +6,4 @@ mod edits;
 mod guards;
 
 pub use edits::{cut, drop_at, insert_at, set_at};
-pub use guards::guard_between;
+pub use guards::{and_off, guard_between, or_on};

@@ -7,9 +7,8 @@ ghost use Rattle.outward_moves.specs.Fallen.{fallen_after};
 use crate::sections::{Room, count_later, leave_section, make_rooms};
 use c_tree::{Branch, Item, Test};
 use c_types::{Boxed, List, Memory};
-use list_edits::guard_between;
+use list_edits::{and_off, guard_between};
 use std::alloc::Global;
-use std::mem;
 
 /// Takes the Leap out of a list and puts the items after it under the guard.
 pub fn guard_rest(
@@ -27,13 +26,6 @@ pub fn guard_rest(
     let done = guard_between(alloc, &mut items, leap, end, label);
     list.put(items);
     done
-}
-
-fn strengthen(test: &mut Test, label: u32, mut spare: Boxed<Test>)
-    ensures { test.new ≡ Test.AndOff label test.old }
-{
-    spare.set(mem::replace(test, Test::On(label)));
-    *test = Test::AndOff(label, spare);
 }
 
 /// What a construct takes as a Leap goes out of it: a box for the test of a loop, and a `Vec` for
@@ -89,12 +81,12 @@ pub fn leave(
         (Branch::Else, Item::If(_, _, list)) => guard_rest(alloc, list, leap, label),
         (Branch::Body, Item::While(test, list)) => {
             guard_rest(alloc, list, leap, label)?;
-            strengthen(test, label, spare);
+            and_off(test, label, spare);
             Ok(())
         }
         (Branch::Body, Item::Do(list, test)) => {
             guard_rest(alloc, list, leap, label)?;
-            strengthen(test, label, spare);
+            and_off(test, label, spare);
             Ok(())
         }
         (Branch::Section(k), Item::Switch(_, sections)) => {
