@@ -2,7 +2,7 @@
 #![tactic(auto)]
 
 mod leaving;
-mod out;
+mod outward;
 mod sections;
 
-pub use out::move_out;
+pub use outward::move_out;
