@@ -104,13 +104,7 @@ fn binary_result(op: BinaryOp, j: IntKind, k: IntKind, a: i128, b: i128) -> Resu
     }
 }
 
-fn binary(
-    op: BinaryOp,
-    j: Option<IntKind>,
-    k: Option<IntKind>,
-    a: i128,
-    b: i128,
-) -> Option<i128>
+fn binary(op: BinaryOp, j: Option<IntKind>, k: Option<IntKind>, a: i128, b: i128) -> Option<i128>
     ensures { result ≡ binary_value (the_binary_result op) j k a b }
 {
     let Some(j) = j else {

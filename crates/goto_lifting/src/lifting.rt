@@ -59,13 +59,7 @@ fn lift_in(
 {
     let list = replace_at(body, steps, List::new(alloc));
     let mut items = list.into_vec();
-    let done = lift_items(
-        alloc,
-        &mut items,
-        leap,
-        found.place as usize,
-        found.label,
-    );
+    let done = lift_items(alloc, &mut items, leap, found.place as usize, found.label);
     let empty = replace_at(body, steps, List::from_vec(items));
     drop(empty);
     done

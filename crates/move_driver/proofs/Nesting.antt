@@ -20,7 +20,8 @@ use Rattle.label_offsets.proofs.Drawn.{run, drawn, drawn_section, drawn_layer, d
 use Rattle.label_offsets.proofs.LeapCounts.{leaps_in_list, length-leaps_from}
 use Rattle.label_offsets.proofs.FirstFound.{first_found}
 use Rattle.label_offsets.proofs.Still.{still_outline}
-use Rattle.move_driver.specs.Moves.{leap_label_F, leap_label, is_land_F, is_land, land_after, joined_leap, moved_at, derivation, leap_count, derived}
+use Rattle.label_offsets.specs.Marks.{leap_label_F, leap_label, is_land_F, is_land, land_after}
+use Rattle.move_driver.specs.Moves.{joined_leap, moved_at, derivation, leap_count, derived}
 use Rattle.move_driver.proofs.Falls.{moved, joined_is, count_falls}
 
 -- what is no Land of the label leaves the list without one

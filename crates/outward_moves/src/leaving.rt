@@ -47,12 +47,7 @@ fn rooms_for(item: &Item, branch: Branch) -> usize
     }
 }
 
-pub fn make_spare(
-    alloc: Global,
-    item: &Item,
-    branch: Branch,
-    label: u32,
-) -> Result<Spare, Memory>
+pub fn make_spare(alloc: Global, item: &Item, branch: Branch, label: u32) -> Result<Spare, Memory>
     ensures { IfOk result (λ s. vec_len s.rooms ≡ fallen_after branch item.now) }
 {
     let test = Boxed::new(alloc, Test::On(label))?;
@@ -75,7 +70,10 @@ pub fn leave(
     ensures ok { OnOk result (item.new ≡ left label branch leap item.old) }
     ensures err { OnErr result (item.new ≡ item.old) }
 {
-    let Spare { test: spare, mut rooms } = spare;
+    let Spare {
+        test: spare,
+        mut rooms,
+    } = spare;
     match (branch, item) {
         (Branch::Then, Item::If(_, list, _)) => guard_rest(alloc, list, leap, label),
         (Branch::Else, Item::If(_, _, list)) => guard_rest(alloc, list, leap, label),

@@ -107,12 +107,7 @@ fn guard_later(
     }
 }
 
-fn guard_first(
-    alloc: Global,
-    section: &mut Section,
-    leap: usize,
-    label: u32,
-) -> Result<(), Memory>
+fn guard_first(alloc: Global, section: &mut Section, leap: usize, label: u32) -> Result<(), Memory>
     requires { leap < length (list_of section.old) }
     ensures ok { OnOk result (section.new ≡ with_list (rest_guarded label leap (list_of section.old)) section.old) }
     ensures err { OnErr result (section.new ≡ section.old) }

@@ -19,8 +19,7 @@ pub loop-k-preserved : goal.loop-k-preserved
 loop-k-preserved c =
     let s = c.at_mut-section.result.now in
     let t = c.wrap_section.new.section in
-    let fewer = fallen_on c.loop-k.sections c.loop-k.k s t c.at_mut-section.ensures.value c.if-ends.false in
-    (
+    let fewer = fallen_on c.loop-k.sections c.loop-k.k s t c.at_mut-section.ensures.value c.if-ends.false in (
       later_on c.args.label c.loop-k.sections c.loop-k.k s t c.at_mut-section.ensures.value c.wrap_section.ensures c.if-ends.false ∙ c.loop-k.invariant.0,
       grind (arith, common_steps),
       omega (arith, fewer, c.loop-k.invariant.2, c.in-Some.ensures.len),
