@@ -4,6 +4,7 @@ ghost use Rattle.c_tree.specs.Labels.{lands_inside};
 ghost use Rattle.c_tree.specs.Lift.{lifted, lifted_at, CanLift};
 ghost use Rattle.c_tree.specs.Trees.{tree_of, trees_of};
 ghost use Rattle.c_tree.specs.WellMade.{IsWellMade};
+ghost use Rattle.move_core.specs.Laws.{Keeps};
 ghost use Rattle.goto_lifting.specs.Lifting.{IsHeldBefore, IsLifted};
 
 use c_tree::{Branch, Item, Path, Step, Test, find_list, replace_at};
@@ -106,6 +107,7 @@ pub fn lift(alloc: Global, body: &mut List<Item>, at: &Path) -> Result<Path, Mem
     requires { IsHeldBefore body.old at.now }
     ensures ok { IfOk result (λ to. IsLifted at.now body.old body.new to) }
     ensures well_made { OnOk result (IsWellMade (trees_of body.old) → IsWellMade (trees_of body.new)) }
+    ensures behaviour { OnOk result (Keeps body.old body.new) }
     ensures err { OnErr result (body.new ≡ body.old) }
 {
     let found = found_at(body, at);

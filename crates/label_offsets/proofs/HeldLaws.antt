@@ -1,5 +1,5 @@
 -- The Lands of a label in an item, as they stand in its lists.
-use Rattle.std.proofs.Common.{◌≡◌, ℕ, zero, suc, ◌+◌, ◌<◌, ◌≤◌, ◌↔◌, List, [], ◌∷◌, Option, Some, None, Bool, true, false, cond, ◌==◌, length, take, drop, get_or, refl, sym, ap, ◌∙◌, arith, option_and_then}
+use Rattle.std.proofs.Common.{◌≡◌, ℕ, zero, suc, ◌+◌, ◌<◌, ◌≤◌, ◌↔◌, List, ◌∷◌, Option, Some, Bool, true, false, cond, length, drop, get_or, refl, sym, ap, ◌∙◌, arith}
 use Rattle.std.proofs.lemmas.List.{at_drop_more, at_drop_all}
 use Rattle.std.proofs.lemmas.Bool.{iff_false, false≢true, eq-eqb, eqb-true}
 use Rattle.c_tree.specs.declared.tree.Item.{Item, Item-F, If, For, Leap, Land, out-Item, roll-Item, out-roll-Item, roll-out-Item}
@@ -9,7 +9,7 @@ use Rattle.c_tree.specs.declared.tree.Section.{Section}
 use Rattle.c_tree.specs.declared.tree.Test.{Test}
 use Rattle.c_tree.specs.declared.tree.Expression.{Expression}
 use Rattle.c_tree.specs.Paths.{list_of}
-use Rattle.c_tree.specs.Trees.{Tree, Forest, SectionTree, tree_of, trees_of, section_tree, sections_of}
+use Rattle.c_tree.specs.Trees.{SectionTree, tree_of, trees_of, sections_of}
 use Rattle.c_tree.specs.Everywhere.{total_in}
 use Rattle.c_tree.specs.Labels.{land_of, lands, lands_of, lands_inside}
 use Rattle.c_tree.proofs.TreeLaws.{trees-none, trees-more, sections-none, sections-more, section-parts}

@@ -1,5 +1,5 @@
 -- The Leap at a path.
-use Rattle.std.proofs.Common.{◌≡◌, ℕ, List, Option, Some, option_and_then, slice_get, sym, ap, ◌∙◌}
+use Rattle.std.proofs.Common.{◌≡◌, ℕ, List, Some, option_and_then, slice_get, sym, ap, ◌∙◌}
 use Rattle.c_tree.specs.declared.tree.Item.{Item, Leap}
 use Rattle.c_tree.specs.declared.tree.Path.{Path}
 use Rattle.c_tree.specs.declared.tree.Step.{Step}

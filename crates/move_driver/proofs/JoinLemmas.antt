@@ -1,5 +1,5 @@
 -- The move of a Leap whose Land stands after it in its list.
-use Rattle.std.proofs.Common.{◌≡◌, ℕ, List, [], Option, Some, None, IsSome, option_and_then, slice_get, unwrap_or, sym, ap, ◌∙◌}
+use Rattle.std.proofs.Common.{◌≡◌, ℕ, List, [], Some, option_and_then, slice_get, unwrap_or, sym, ap, ◌∙◌}
 use Rattle.std.specs.List.{position}
 use Rattle.c_tree.specs.declared.tree.Item.{Item, Leap}
 use Rattle.c_tree.specs.declared.tree.Path.{Path}

@@ -1,6 +1,5 @@
 -- The sections of a switch that a Leap leaves.
-use Rattle.std.proofs.Common.{◌≡◌, ℕ, zero, suc, ◌+◌, ◌<◌, ◌≤◌, List, [], ◌∷◌, ◌++◌, length, take, drop, get_or, slice_get, slice_set, Some, Bool, true, false, cond, refl, sym, ap, ◌∙◌, arith, add-one}
-use Rattle.std.proofs.lemmas.List.{at_drop_more, at_drop_all}
+use Rattle.std.proofs.Common.{◌≡◌, ℕ, zero, suc, ◌+◌, ◌<◌, List, [], ◌∷◌, ◌++◌, length, take, drop, slice_get, slice_set, Some, Bool, true, false, cond, sym, ap, ◌∙◌, arith, add-one}
 use Rattle.c_tree.specs.declared.tree.Section.{Section, out-Section}
 use Rattle.c_tree.specs.Paths.{list_of, with_list}
 use Rattle.c_tree.specs.Outward.{rest_guarded, section_guarded, later_guarded, sections_left}

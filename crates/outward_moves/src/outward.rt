@@ -5,6 +5,7 @@ ghost use Rattle.c_tree.specs.Outward.{left, moved_out, moved_out_at, path_outsi
 ghost use Rattle.c_tree.specs.Paths.{child as the_child};
 ghost use Rattle.c_tree.specs.Trees.{trees_of};
 ghost use Rattle.c_tree.specs.WellMade.{IsWellMade};
+ghost use Rattle.move_core.specs.Laws.{Keeps};
 ghost use Rattle.outward_moves.specs.Fallen.{fallen_after};
 ghost use Rattle.outward_moves.specs.Leaving.{IsHeldElsewhere, IsMovedOut};
 
@@ -113,6 +114,7 @@ pub fn move_out(alloc: Global, body: &mut List<Item>, at: &Path) -> Result<Path,
     requires { IsHeldElsewhere body.old at.now }
     ensures ok { IfOk result (λ to. IsMovedOut at.now body.old body.new to) }
     ensures well_made { OnOk result (IsWellMade (trees_of body.old) → IsWellMade (trees_of body.new)) }
+    ensures behaviour { OnOk result (Keeps body.old body.new) }
     ensures err { OnErr result (body.new ≡ body.old) }
 {
     let Some(label) = label_at(body, at) else {

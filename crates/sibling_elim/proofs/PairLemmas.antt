@@ -1,9 +1,8 @@
 -- The Land that a Leap is joined with.
-use Rattle.std.proofs.Common.{◌≡◌, ◌≢◌, ℕ, zero, suc, ◌+◌, ◌<◌, ◌≤◌, List, [], ◌∷◌, ◌++◌, Option, Some, None, Bool, true, false, cond, nat_lt, ◌⊎◌, inl, inr, length, take, drop, slice_range, get_or, slice_get, option_map, option_and_then, unwrap_or, zero-add, suc-add, refl, sym, ap, subst, ◌∙◌, arith}
+use Rattle.std.proofs.Common.{◌≡◌, ◌≢◌, ℕ, zero, suc, ◌+◌, ◌<◌, List, [], ◌∷◌, ◌++◌, Option, Some, None, Bool, true, cond, inl, inr, length, take, drop, slice_range, get_or, slice_get, option_and_then, zero-add, suc-add, refl, sym, ap, subst, ◌∙◌, arith}
 use Rattle.std.specs.List.{position, position_or_len}
 use Rattle.std.proofs.lemmas.Bool.{cases_lt, lt-ltb, false≢true}
 use Rattle.std.proofs.lemmas.List.Sums.{fails_before_first}
-use Rattle.std.proofs.lemmas.List.{get_or-drop}
 use Rattle.std.proofs.lemmas.List.Quantifiers.{position-Some}
 use Rattle.std.proofs.lemmas.Option.{slice_get_within, get_or_from_slice_get, slice_get-get_or}
 use Rattle.std.proofs.Math.ListN.{set}
@@ -11,11 +10,11 @@ use Rattle.c_tree.specs.declared.tree.Item.{Item, Do, Leap, Land}
 use Rattle.c_tree.specs.declared.tree.Test.{On}
 use Rattle.c_tree.specs.declared.tree.Step.{Step}
 use Rattle.c_tree.specs.declared.tree.Path.{Path}
-use Rattle.c_tree.specs.Paths.{list_at, item_at}
+use Rattle.c_tree.specs.Paths.{list_at}
 use Rattle.c_tree.specs.Join.{CanJoin, joined_before}
 use Rattle.list_edits.proofs.CutLemmas.{set_lap}
 use Rattle.c_tree.proofs.PathLemmas.{map_some}
-use Rattle.c_tree.proofs.RuleChanges.{Stands, stands}
+use Rattle.c_tree.proofs.RuleChanges.{stands}
 use Rattle.label_offsets.specs.Marks.{leap_label, label_at, is_land, land_after}
 use Rattle.label_offsets.proofs.HeldLaws.{leap_label-Leap, is_land-Land, is_land-Leap, land-is}
 use Rattle.sibling_elim.specs.Sibling.{HasSibling, or_else, land_beside}

@@ -3,6 +3,7 @@ ghost use Rattle.c_tree.specs.Join.{joined_after, joined_before, joined, joined_
 ghost use Rattle.c_tree.specs.Paths.{list_at};
 ghost use Rattle.c_tree.specs.Trees.{trees_of};
 ghost use Rattle.c_tree.specs.WellMade.{IsWellMade};
+ghost use Rattle.move_core.specs.Laws.{Keeps};
 ghost use Rattle.sibling_elim.specs.Sibling.{HasSibling, IsJoined, land_beside as the_land_beside};
 
 use c_tree::{Item, Path, Step, Test, find_list, replace_at};
@@ -108,6 +109,7 @@ pub fn join(alloc: Global, body: &mut List<Item>, at: &Path) -> Result<(), Memor
     requires { HasSibling body.old at.now }
     ensures ok { OnOk result (IsJoined at.now body.old body.new) }
     ensures well_made { OnOk result (IsWellMade (trees_of body.old) → IsWellMade (trees_of body.new)) }
+    ensures behaviour { OnOk result (Keeps body.old body.new) }
     ensures err { OnErr result (body.new ≡ body.old) }
 {
     let pair = pair_at(body, at);

@@ -1,4 +1,3 @@
-use Rattle.std.proofs.Common.{rules}
 use Rattle.label_offsets.proofs.HeldLaws.{held-is}
 use Rattle.label_offsets.proofs.marks.holds.Goals as goal
 

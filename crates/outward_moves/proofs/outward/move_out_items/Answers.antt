@@ -1,4 +1,4 @@
-use Rattle.std.proofs.Common.{slice_get, sym, ap, ◌∙◌}
+use Rattle.std.proofs.Common.{slice_get, ap, ◌∙◌}
 use Rattle.c_tree.specs.Outward.{moved_out, HasBranch}
 use Rattle.c_tree.proofs.RuleChanges.{held_some}
 use Rattle.outward_moves.proofs.OutLemmas.{moved_out-is}
