@@ -1,5 +1,5 @@
 -- The marks, and how a mark grows by a byte.
-use Rattle.std.specs.Prelude.{ℕ, Bool, true, false, cond, ◌==◌, List, Option, Some, None, codes}
+use Rattle.std.specs.Prelude.{ℕ, Bool, true, false, cond, ◌==◌, List, [], ◌∷◌, Option, Some, None, codes}
 use Rattle.c_lexer.specs.declared.mark.Mark.{Mark}
 use Rattle.c_lexer.specs.declared.mark.Mark.TheVariants.{OpenBracket, CloseBracket, OpenParenthesis, CloseParenthesis, OpenBrace, CloseBrace, Dot, Arrow, PlusPlus, MinusMinus, Ampersand, Star, Plus, Minus, Tilde, Exclamation, Slash, Percent, ShiftLeft, ShiftRight, Less, Greater, LessEquals, GreaterEquals, EqualsEquals, ExclamationEquals, Caret, Bar, AmpersandAmpersand, BarBar, Question, Colon, Semicolon, Ellipsis, Equals, StarEquals, SlashEquals, PercentEquals, PlusEquals, MinusEquals, ShiftLeftEquals, ShiftRightEquals, AmpersandEquals, CaretEquals, BarEquals, Comma}
 
@@ -104,3 +104,13 @@ is_slash _ = false
 abbrev pub is_dot : Mark → Bool
 is_dot Dot = true
 is_dot _ = false
+
+abbrev pub grown : Option Mark → List ℕ → Option Mark
+grown None bs = None
+grown (Some m) [] = Some m
+grown (Some m) (b ∷ bs) = grown (longer m b) bs
+
+-- the mark that these bytes are, other than `...`
+abbrev pub mark_of : List ℕ → Option Mark
+mark_of [] = None
+mark_of (b ∷ bs) = grown (mark_at b) bs

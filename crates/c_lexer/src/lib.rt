@@ -18,7 +18,7 @@ mod tests;
 mod token;
 mod word;
 
-pub use mark::Mark;
+pub use mark::{Mark, mark_of};
 pub use number::{Integer, integer_constant};
 pub use place::refusal_at;
 pub use read::{comments, tokens};

@@ -114,3 +114,15 @@ pub(crate) fn longer(mark: Mark, byte: u8) -> Option<Mark>
         _ => None,
     }
 }
+
+/// The mark that these bytes are, other than `...`. Takes no memory.
+pub fn mark_of(bytes: &[u8]) -> Option<Mark>
+    ensures { result ≡ marks.mark_of bytes.now }
+{
+    let (first, rest) = bytes.split_first()?;
+    let mut mark = mark_at(*first)?;
+    for byte in rest {
+        mark = longer(mark, *byte)?;
+    }
+    Some(mark)
+}

@@ -1,0 +1,12 @@
+pub mod Classes
+pub mod Counts
+pub mod Derives
+pub mod Events
+pub mod Expressions
+pub mod ExpressionSyntax
+pub mod Files
+pub mod FileSyntax
+pub mod Nodes
+pub mod Statements
+pub mod StatementSyntax
+pub mod TokenClasses
