@@ -1,6 +1,6 @@
 -- What the limits count in the derivations: the events of their tokens, behind these.
 use Rattle.std.specs.Prelude.{◌+◌, ℕ, Bool, true, false, cond, List, [], ◌∷◌, Option, Some, None}
-use Rattle.c_grammar.specs.Events.{Event, Uncounted, Counted, Ended, Opened}
+use Rattle.c_grammar.specs.Events.{Event, Uncounted, Counted, Outside, Opened}
 use Rattle.c_grammar.specs.Expressions.{Base, LongIntBase, NumberType, OfBase, SignedOf, UnsignedOf, Expression, One, More, Assignment, To, Value, Conditional, Choose, Only, Binary, Single, Both, Unary, Prefixed, StepTo, CastTo, CastVoid, Place, StepAfter, CallNone, CallWith, Number, Character, Within, Target, Variable, Cell, Round, Arguments, Last, Then, Argument, Given, Written, Texts, OneText, MoreTexts}
 use Rattle.c_grammar.specs.Statements.{Size, NoSize, Unsized, Sized, Initialiser, OneValue, ValueList, Declarator, Declared, Local, Locals, Label, NameLabel, CaseLabel, DefaultLabel, ForStart, StartLocal, StartValue, Block, Braces, Items, NoItems, LocalItem, StatementItem, Statement, Labelled, Unlabelled, Plain, Compound, Simple, If, IfElse, While, DoWhile, For, Switch, Goto, Break, Continue, Return, is_block}
 use Rattle.c_grammar.specs.Files.{Parameter, Typed, Parameters, NoParameters, VoidParameters, SomeParameters, Enumeration, Enumerated, Declaration, Declares, Function, Defined, Top, Line, OfEnum, OfDeclaration, OfFunction}
@@ -64,64 +64,53 @@ abbrev mutual
   texts_events OneText q = Uncounted ∷ q
   texts_events (MoreTexts n) q = texts_events n (Uncounted ∷ q)
 
--- ---- full expressions
-
-abbrev pub full_expression_events : Expression → List Event → List Event
-full_expression_events e q = Ended ∷ expression_events e q
-
-abbrev pub full_conditional_events : Conditional → List Event → List Event
-full_conditional_events d q = Ended ∷ conditional_events d q
-
-abbrev pub full_assignment_events : Assignment → List Event → List Event
-full_assignment_events a q = Ended ∷ assignment_events a q
+-- ---- declarations: the tokens of expressions and types stand inside, all others outside
 
 abbrev pub optional_events : Option Expression → List Event → List Event
 optional_events None q = q
-optional_events (Some e) q = full_expression_events e q
-
--- ---- declarations
+optional_events (Some e) q = expression_events e q
 
 abbrev pub word_events : Bool → List Event → List Event
 word_events false q = q
-word_events true q = Uncounted ∷ q
+word_events true q = Outside ∷ q
 
 abbrev pub more_events : {X : Type 0} → (X → List Event → List Event) → List X → List Event → List Event
 more_events k [] q = q
-more_events k (x ∷ xs) q = more_events k xs (k x (Uncounted ∷ q))
+more_events k (x ∷ xs) q = more_events k xs (k x (Outside ∷ q))
 
 abbrev pub rest_events : {X : Type 0} → (X → List Event → List Event) → List X → Bool → List Event → List Event
-rest_events k [] trailing q = Uncounted ∷ word_events trailing q
-rest_events k (x ∷ xs) trailing q = rest_events k xs trailing (k x (Uncounted ∷ q))
+rest_events k [] trailing q = Outside ∷ word_events trailing q
+rest_events k (x ∷ xs) trailing q = rest_events k xs trailing (k x (Outside ∷ q))
 
 abbrev pub size_events : Size → List Event → List Event
 size_events NoSize q = q
-size_events Unsized q = Uncounted ∷ Uncounted ∷ q
-size_events (Sized d) q = Uncounted ∷ full_conditional_events d (Uncounted ∷ q)
+size_events Unsized q = Outside ∷ Outside ∷ q
+size_events (Sized d) q = Outside ∷ conditional_events d (Outside ∷ q)
 
 abbrev pub initialiser_events : Initialiser → List Event → List Event
-initialiser_events (OneValue a) q = full_assignment_events a q
-initialiser_events (ValueList a xs trailing) q = rest_events full_assignment_events xs trailing (full_assignment_events a (Uncounted ∷ q))
+initialiser_events (OneValue a) q = assignment_events a q
+initialiser_events (ValueList a xs trailing) q = rest_events assignment_events xs trailing (assignment_events a (Outside ∷ q))
 
 abbrev pub value_events : Option Initialiser → List Event → List Event
 value_events None q = q
-value_events (Some i) q = initialiser_events i (Uncounted ∷ q)
+value_events (Some i) q = initialiser_events i (Outside ∷ q)
 
 abbrev pub declarator_events : Declarator → List Event → List Event
-declarator_events (Declared size value) q = value_events value (size_events size (Uncounted ∷ q))
+declarator_events (Declared size value) q = value_events value (size_events size (Outside ∷ q))
 
 abbrev pub local_events : Local → List Event → List Event
-local_events (Locals constant n d ds) q = Uncounted ∷ more_events declarator_events ds (declarator_events d (type_events n (word_events constant q)))
+local_events (Locals constant n d ds) q = Outside ∷ more_events declarator_events ds (declarator_events d (type_events n (word_events constant q)))
 
 -- ---- statements, in a list of this level
 
 abbrev pub label_events : Label → List Event → List Event
-label_events NameLabel q = Uncounted ∷ Uncounted ∷ q
-label_events (CaseLabel d) q = Uncounted ∷ full_conditional_events d (Uncounted ∷ q)
-label_events DefaultLabel q = Uncounted ∷ Uncounted ∷ q
+label_events NameLabel q = Outside ∷ Uncounted ∷ q
+label_events (CaseLabel d) q = Outside ∷ conditional_events d (Outside ∷ q)
+label_events DefaultLabel q = Outside ∷ Outside ∷ q
 
 abbrev pub for_start_events : ForStart → List Event → List Event
 for_start_events (StartLocal x) q = local_events x q
-for_start_events (StartValue o) q = Uncounted ∷ optional_events o q
+for_start_events (StartValue o) q = Outside ∷ optional_events o q
 
 -- a block as the list of a construct opens the level itself, any other statement with its first token
 abbrev pub level_within : ℕ → Statement → ℕ
@@ -133,7 +122,7 @@ opened_by level s q = cond (is_block s) q (Opened (level + 1) ∷ q)
 abbrev mutual
   -- the list of this block has this level
   pub block_events : ℕ → Block → List Event → List Event
-  block_events level (Braces xs) q = Uncounted ∷ items_events level xs (Uncounted ∷ Opened level ∷ q)
+  block_events level (Braces xs) q = Outside ∷ items_events level xs (Outside ∷ Opened level ∷ q)
 
   pub items_events : ℕ → Items → List Event → List Event
   items_events level NoItems q = q
@@ -146,57 +135,57 @@ abbrev mutual
 
   pub plain_events : ℕ → Plain → List Event → List Event
   plain_events level (Compound b) q = block_events (level + 1) b q
-  plain_events level (Simple o) q = Uncounted ∷ optional_events o q
-  plain_events level (If e s) q = statement_events (level_within level s) s (opened_by level s (Uncounted ∷ full_expression_events e (Uncounted ∷ Uncounted ∷ q)))
+  plain_events level (Simple o) q = Outside ∷ optional_events o q
+  plain_events level (If e s) q = statement_events (level_within level s) s (opened_by level s (Outside ∷ expression_events e (Outside ∷ Outside ∷ q)))
   plain_events level (IfElse e s t) q =
-      statement_events (level_within level t) t (opened_by level t (Uncounted ∷ statement_events (level_within level s) s (opened_by level s (Uncounted ∷ full_expression_events e (Uncounted ∷ Uncounted ∷ q)))))
-  plain_events level (While e s) q = statement_events (level_within level s) s (opened_by level s (Uncounted ∷ full_expression_events e (Uncounted ∷ Uncounted ∷ q)))
-  plain_events level (DoWhile s e) q = Uncounted ∷ Uncounted ∷ full_expression_events e (Uncounted ∷ Uncounted ∷ statement_events (level_within level s) s (opened_by level s (Uncounted ∷ q)))
+      statement_events (level_within level t) t (opened_by level t (Outside ∷ statement_events (level_within level s) s (opened_by level s (Outside ∷ expression_events e (Outside ∷ Outside ∷ q)))))
+  plain_events level (While e s) q = statement_events (level_within level s) s (opened_by level s (Outside ∷ expression_events e (Outside ∷ Outside ∷ q)))
+  plain_events level (DoWhile s e) q = Outside ∷ Outside ∷ expression_events e (Outside ∷ Outside ∷ statement_events (level_within level s) s (opened_by level s (Outside ∷ q)))
   plain_events level (For x t u s) q =
-      statement_events (level_within level s) s (opened_by level s (Uncounted ∷ optional_events u (Uncounted ∷ optional_events t (for_start_events x (Uncounted ∷ Uncounted ∷ q)))))
-  plain_events level (Switch e s) q = statement_events (level_within level s) s (opened_by level s (Uncounted ∷ full_expression_events e (Uncounted ∷ Uncounted ∷ q)))
-  plain_events level Goto q = Uncounted ∷ Uncounted ∷ Uncounted ∷ q
-  plain_events level Break q = Uncounted ∷ Uncounted ∷ q
-  plain_events level Continue q = Uncounted ∷ Uncounted ∷ q
-  plain_events level (Return o) q = Uncounted ∷ optional_events o (Uncounted ∷ q)
+      statement_events (level_within level s) s (opened_by level s (Outside ∷ optional_events u (Outside ∷ optional_events t (for_start_events x (Outside ∷ Outside ∷ q)))))
+  plain_events level (Switch e s) q = statement_events (level_within level s) s (opened_by level s (Outside ∷ expression_events e (Outside ∷ Outside ∷ q)))
+  plain_events level Goto q = Outside ∷ Outside ∷ Outside ∷ q
+  plain_events level Break q = Outside ∷ Outside ∷ q
+  plain_events level Continue q = Outside ∷ Outside ∷ q
+  plain_events level (Return o) q = Outside ∷ optional_events o (Outside ∷ q)
 
 -- ---- files
 
 abbrev pub constant_events : Option Conditional → List Event → List Event
 constant_events None q = q
-constant_events (Some d) q = full_conditional_events d (Uncounted ∷ q)
+constant_events (Some d) q = conditional_events d (Outside ∷ q)
 
 abbrev pub enumerator_events : Option Conditional → List Event → List Event
-enumerator_events value q = constant_events value (Uncounted ∷ q)
+enumerator_events value q = constant_events value (Outside ∷ q)
 
 abbrev pub enumeration_events : Enumeration → List Event → List Event
-enumeration_events (Enumerated x xs trailing) q = Uncounted ∷ rest_events enumerator_events xs trailing (enumerator_events x (Uncounted ∷ Uncounted ∷ q))
+enumeration_events (Enumerated x xs trailing) q = Outside ∷ rest_events enumerator_events xs trailing (enumerator_events x (Outside ∷ Outside ∷ q))
 
 abbrev pub parameter_events : Parameter → List Event → List Event
 parameter_events (Typed constant n named size) q = size_events size (word_events named (type_events n (word_events constant q)))
 
 abbrev pub parameters_events : Parameters → List Event → List Event
 parameters_events NoParameters q = q
-parameters_events VoidParameters q = Uncounted ∷ q
+parameters_events VoidParameters q = Outside ∷ q
 parameters_events (SomeParameters x xs) q = more_events parameter_events xs (parameter_events x q)
 
 abbrev pub result_events : Option NumberType → List Event → List Event
-result_events None q = Uncounted ∷ q
+result_events None q = Outside ∷ q
 result_events (Some n) q = type_events n q
 
 -- the list of a function's body has level 1
 abbrev pub body_events : Option Block → List Event → List Event
-body_events None q = Uncounted ∷ q
+body_events None q = Outside ∷ q
 body_events (Some b) q = block_events 1 b q
 
 abbrev pub function_events : Function → List Event → List Event
-function_events (Defined static n xs b) q = body_events b (Uncounted ∷ parameters_events xs (Uncounted ∷ Uncounted ∷ result_events n (word_events static q)))
+function_events (Defined static n xs b) q = body_events b (Outside ∷ parameters_events xs (Outside ∷ Outside ∷ result_events n (word_events static q)))
 
 abbrev pub declaration_events : Declaration → List Event → List Event
 declaration_events (Declares static x) q = local_events x (word_events static q)
 
 abbrev pub top_events : Top → List Event → List Event
-top_events Line q = Uncounted ∷ q
+top_events Line q = Outside ∷ q
 top_events (OfEnum x) q = enumeration_events x q
 top_events (OfDeclaration x) q = declaration_events x q
 top_events (OfFunction x) q = function_events x q

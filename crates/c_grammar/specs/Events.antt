@@ -2,12 +2,12 @@
 use Rattle.std.specs.Prelude.{ℕ, ◌+◌, cond, nat_lt, List, [], ◌∷◌, Option, Some, None}
 
 pub data Event : Type 0 where
-  -- a token that doesn't count
-  Uncounted : Event
   -- an operator, a comma operator, `(`, `[` or `?` of a full expression
   Counted : Event
-  -- a full expression has ended
-  Ended : Event
+  -- another token of an expression, a word of a type, or the name of a label
+  Uncounted : Event
+  -- any other token: the full expression before it has ended
+  Outside : Event
   -- the next token opens this level of nesting
   Opened : ℕ → Event
 
@@ -16,13 +16,14 @@ abbrev pub number_of : List Event → ℕ
 number_of [] = 0
 number_of (Uncounted ∷ q) = number_of q + 1
 number_of (Counted ∷ q) = number_of q + 1
+number_of (Outside ∷ q) = number_of q + 1
 number_of (_ ∷ q) = number_of q
 
 -- how many tokens count in the full expression that is open at the end
 abbrev pub count_of : List Event → ℕ
 count_of [] = 0
 count_of (Counted ∷ q) = count_of q + 1
-count_of (Ended ∷ q) = 0
+count_of (Outside ∷ q) = 0
 count_of (_ ∷ q) = count_of q
 
 -- the limit of levels, and of counted tokens in one full expression

@@ -1,0 +1,110 @@
+//! The whole list of tokens.
+
+ghost use Rattle.std.specs.Prelude.{◌≡◌, ◌<◌, ◌≤◌, All, length};
+ghost use Rattle.c_lexer.specs.Faults.{refusal_of};
+ghost use Rattle.c_types.specs.declared.refusal.ReadStop.TheVariants.{Refused as Stopped};
+ghost use Rattle.c_lexer.specs.Pieces.{IsWithin};
+ghost use Rattle.c_parser.specs.Machine as spec;
+
+use crate::frame::Frame;
+use crate::load::{Load, Role};
+use crate::step::step;
+use c_grammar::{Class, Syntax, class_of};
+use c_lexer::{Token, refusal_at};
+use c_types::{List, MOST, ReadStop, Stack};
+use std::alloc::Global;
+
+/// The greatest level of nesting, and the most counted tokens of one full expression.
+const LIMIT: u32 = 400;
+
+const UNEXPECTED: u32 = 10;
+
+const TOO_DEEP: u32 = 11;
+
+fn is_deep(level: Option<u32>) -> bool
+    ensures { result ≡ spec.is_deep level }
+{
+    match level {
+        Some(level) => level > LIMIT,
+        None => false,
+    }
+}
+
+fn is_long(role: Role, count: u32) -> bool
+    ensures { result ≡ spec.is_long role count }
+{
+    match role {
+        Role::Counted => count >= LIMIT,
+        Role::Uncounted | Role::Outside => false,
+    }
+}
+
+/// The token opens a level or counts past the limit.
+fn is_over(load: Load, count: u32) -> bool
+    ensures { result ≡ spec.is_over load count }
+{
+    is_deep(load.opens) || is_long(load.role, count)
+}
+
+fn refused(reason: u32, text: &[u8], at: u64) -> ReadStop
+    requires { at ≤ length text.now }
+    ensures { result ≡ Stopped (refusal_of reason text.now at) }
+{
+    ReadStop::Refused(refusal_at(reason, text, at))
+}
+
+/// How many tokens count so far in the full expression that is open.
+fn count_behind(role: Role, count: u32) -> u32
+    requires { count < 4294967295 }
+    ensures { result ≡ spec.count_behind role count }
+{
+    match role {
+        Role::Counted => count + 1,
+        Role::Uncounted => count,
+        Role::Outside => 0,
+    }
+}
+
+/// The tokens from a place on, in front of which the stack stands.
+fn run(alloc: Global, text: &[u8], tokens: &[Token]) -> Result<Syntax, ReadStop>
+    requires within { All (λ token. IsWithin text.now token.start token.end) tokens.now }
+    requires bound { length tokens.now < 4294967295 }
+{
+    let mut stack = Stack::new(alloc);
+    stack.push(Frame::Tops(List::new(alloc)))?;
+    let mut count: u32 = 0;
+    for i in 0..tokens.len() {
+        let class = class_of(text, tokens[i]);
+        match step(alloc, &mut stack, class, i as u32)? {
+            None => return Err(refused(UNEXPECTED, text, tokens[i].start)),
+            Some(load) => {
+                if is_over(load, count) {
+                    return Err(refused(TOO_DEEP, text, tokens[i].start));
+                }
+                count = count_behind(load.role, count);
+            }
+        }
+    }
+    match step(alloc, &mut stack, Class::End, tokens.len() as u32)? {
+        None => Err(refused(UNEXPECTED, text, text.len() as u64)),
+        Some(load) => {
+            if is_over(load, count) {
+                return Err(refused(TOO_DEEP, text, text.len() as u64));
+            }
+            match stack.pop() {
+                Some(Frame::Accepted(whole)) => Ok(whole),
+                _ => Err(refused(UNEXPECTED, text, text.len() as u64)),
+            }
+        }
+    }
+}
+
+/// The syntax of the tokens, or the first fault among them.
+pub fn parse(alloc: Global, text: &[u8], tokens: &List<Token>) -> Result<Syntax, ReadStop>
+    requires { All (λ token. IsWithin text.now token.start token.end) tokens.now }
+{
+    if tokens.len() >= MOST {
+        return Err(ReadStop::Memory);
+    }
+    run(alloc, text, tokens.as_slice())
+}
