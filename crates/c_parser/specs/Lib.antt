@@ -1,3 +1,4 @@
+pub mod Answers
 pub mod Machine
 pub mod Nodes
 pub mod Starts

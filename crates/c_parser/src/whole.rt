@@ -1,9 +1,11 @@
 //! The whole list of tokens.
 
-ghost use Rattle.std.specs.Prelude.{◌≡◌, ◌<◌, ◌≤◌, All, length};
+ghost use Rattle.std.specs.Prelude.{◌≡◌, ◌<◌, ◌≤◌, Some, None, All, MatchResult, length};
+ghost use Rattle.c_types.specs.Stop.{Gives};
 ghost use Rattle.c_lexer.specs.Faults.{refusal_of};
 ghost use Rattle.c_types.specs.declared.refusal.ReadStop.TheVariants.{Refused as Stopped};
 ghost use Rattle.c_lexer.specs.Pieces.{IsWithin};
+ghost use Rattle.c_parser.specs.Answers as answers;
 ghost use Rattle.c_parser.specs.Machine as spec;
 
 use crate::frame::Frame;
@@ -65,10 +67,33 @@ fn count_behind(role: Role, count: u32) -> u32
     }
 }
 
-/// The tokens from a place on, in front of which the stack stands.
+/// The file that was read, or the frame.
+fn file_in(frame: Frame) -> Result<Syntax, Frame>
+    ensures { MatchResult result (λ whole. answers.file_in frame ≡ Some whole) (λ _. answers.file_in frame ≡ None) }
+{
+    match frame {
+        Frame::Accepted(whole) => Ok(whole),
+        other => Err(other),
+    }
+}
+
+fn accepted(mut stack: Stack<Frame>) -> Option<Syntax>
+    ensures { result ≡ answers.accepted stack }
+{
+    match stack.pop() {
+        Some(frame) => match file_in(frame) {
+            Ok(whole) => Some(whole),
+            Err(_) => None,
+        },
+        None => None,
+    }
+}
+
+/// The whole list of tokens, and the end behind it.
 fn run(alloc: Global, text: &[u8], tokens: &[Token]) -> Result<Syntax, ReadStop>
     requires within { All (λ token. IsWithin text.now token.start token.end) tokens.now }
     requires bound { length tokens.now < 4294967295 }
+    ensures { Gives (λ x. x) result (answers.parsed text.now tokens.now) }
 {
     let mut stack = Stack::new(alloc);
     stack.push(Frame::Tops(List::new(alloc)))?;
@@ -91,17 +116,18 @@ fn run(alloc: Global, text: &[u8], tokens: &[Token]) -> Result<Syntax, ReadStop>
             if is_over(load, count) {
                 return Err(refused(TOO_DEEP, text, text.len() as u64));
             }
-            match stack.pop() {
-                Some(Frame::Accepted(whole)) => Ok(whole),
-                _ => Err(refused(UNEXPECTED, text, text.len() as u64)),
+            match accepted(stack) {
+                Some(whole) => Ok(whole),
+                None => Err(refused(UNEXPECTED, text, text.len() as u64)),
             }
         }
     }
 }
 
-/// The syntax of the tokens, or the first fault among them.
+/// The syntax of the tokens, or want of memory.
 pub fn parse(alloc: Global, text: &[u8], tokens: &List<Token>) -> Result<Syntax, ReadStop>
     requires { All (λ token. IsWithin text.now token.start token.end) tokens.now }
+    ensures read { Gives (λ x. x) result (answers.parsed text.now tokens.now) }
 {
     if tokens.len() >= MOST {
         return Err(ReadStop::Memory);
