@@ -1,2 +1,7 @@
+mod Wants
+mod Fronts
+mod Begins
+mod Keeps
+mod Tokens
 pub mod Resumes
 pub mod Runs
