@@ -2,6 +2,7 @@ mod Wants
 mod Fronts
 mod Begins
 mod Keeps
+mod Closing
 mod Tokens
 pub mod Resumes
 pub mod Runs
