@@ -1,5 +1,5 @@
 -- How a node goes on in front of a token, by what stands next in it.
-use Rattle.std.proofs.Common.{◌≡◌, ℕ, Bool, true, false, cond, List, [], ◌∷◌, Option, Some, None, Ok, ap, subst, ◌∙◌}
+use Rattle.std.proofs.Common.{◌≡◌, ℕ, Bool, false, cond, List, [], ◌∷◌, Option, Some, None, Ok, ap, subst, ◌∙◌}
 use Rattle.c_grammar.specs.declared.class.Class.{Class}
 use Rattle.c_parser.specs.declared.form.Form.{Form}
 use Rattle.c_parser.specs.declared.form.Want.{Want}

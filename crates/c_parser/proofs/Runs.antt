@@ -14,9 +14,9 @@ use Rattle.c_grammar.specs.TokenClasses.{class_of, classes_of, offset_of}
 use Rattle.c_parser.specs.declared.frame.Frame.{Frame}
 use Rattle.c_parser.specs.declared.frame.Frame.TheVariants as s
 use Rattle.c_parser.specs.declared.load.Load.{Load}
-use Rattle.c_parser.specs.Starts.{Frames, Next, Fails, Takes}
+use Rattle.c_parser.specs.Starts.{Frames, Next}
 use Rattle.c_parser.specs.Steps.{Steps}
-use Rattle.c_parser.specs.Machine.{Left, Unexpected, TooMany, count_behind, is_over, go_on, run, step}
+use Rattle.c_parser.specs.Machine.{Left, TooMany, count_behind, is_over, go_on, run, step}
 use Rattle.c_parser.specs.Answers.{accepted, file_in, whole, answer, parsed}
 use Rattle.c_parser.proofs.Resumes.{steps_taken, steps_failed}
 

@@ -1,5 +1,5 @@
 -- The parser: what each token does to the frames, and the run over all tokens.
-use Rattle.std.specs.Prelude.{◌+◌, ℕ, Bool, true, false, cond, not, ◌||◌, nat_lt, List, [], ◌∷◌, ◌++◌, Option, Some, None}
+use Rattle.std.specs.Prelude.{◌+◌, ℕ, Bool, false, cond, not, ◌||◌, nat_lt, List, [], ◌∷◌, ◌++◌, Option, Some, None}
 use Rattle.c_grammar.specs.declared.class.Class.{Class}
 use Rattle.c_grammar.specs.declared.class.Class.TheVariants as c
 use Rattle.c_grammar.specs.declared.syntax.Syntax.{Syntax}

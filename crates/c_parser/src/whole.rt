@@ -6,6 +6,7 @@ ghost use Rattle.c_lexer.specs.Faults.{refusal_of};
 ghost use Rattle.c_types.specs.declared.refusal.ReadStop.TheVariants.{Refused as Stopped};
 ghost use Rattle.c_lexer.specs.Pieces.{IsWithin};
 ghost use Rattle.c_parser.specs.Answers as answers;
+ghost use Rattle.c_parser.specs.Answers.{parsed};
 ghost use Rattle.c_parser.specs.Machine as spec;
 
 use crate::frame::Frame;
@@ -67,7 +68,7 @@ fn count_behind(role: Role, count: u32) -> u32
     }
 }
 
-/// The file that was read, or the frame.
+/// The file that the frame holds, or the frame itself.
 fn file_in(frame: Frame) -> Result<Syntax, Frame>
     ensures { MatchResult result (λ whole. answers.file_in frame ≡ Some whole) (λ _. answers.file_in frame ≡ None) }
 {
@@ -77,6 +78,7 @@ fn file_in(frame: Frame) -> Result<Syntax, Frame>
     }
 }
 
+/// The file that the frames hold once all tokens are taken.
 fn accepted(mut stack: Stack<Frame>) -> Option<Syntax>
     ensures { result ≡ answers.accepted stack }
 {
@@ -89,11 +91,11 @@ fn accepted(mut stack: Stack<Frame>) -> Option<Syntax>
     }
 }
 
-/// The whole list of tokens, and the end behind it.
+/// Takes the tokens one by one, and then the end behind them.
 fn run(alloc: Global, text: &[u8], tokens: &[Token]) -> Result<Syntax, ReadStop>
     requires within { All (λ token. IsWithin text.now token.start token.end) tokens.now }
     requires bound { length tokens.now < 4294967295 }
-    ensures { Gives (λ x. x) result (answers.parsed text.now tokens.now) }
+    ensures { Gives (λ syntax. syntax) result (parsed text.now tokens.now) }
 {
     let mut stack = Stack::new(alloc);
     stack.push(Frame::Tops(List::new(alloc)))?;
@@ -124,10 +126,15 @@ fn run(alloc: Global, text: &[u8], tokens: &[Token]) -> Result<Syntax, ReadStop>
     }
 }
 
-/// The syntax of the tokens, or want of memory.
+/// The syntax of the tokens of a text (ISO/IEC 9899:2011, 6.5 to 6.9; docs/SUBSET.md), from which
+/// the tree is built. Tokens that no file has are refused at their first fault: with reason 10 at
+/// the token that fits nowhere, or at the end of the text where a token is missing there; with
+/// reason 11 at the token that opens level 401 of nesting, or is counted token 401 of a full
+/// expression. The tokens may be any slices of the text.
 pub fn parse(alloc: Global, text: &[u8], tokens: &List<Token>) -> Result<Syntax, ReadStop>
     requires { All (λ token. IsWithin text.now token.start token.end) tokens.now }
-    ensures read { Gives (λ x. x) result (answers.parsed text.now tokens.now) }
+    // What reading the tokens one by one gives, or want of memory.
+    ensures read { Gives (λ syntax. syntax) result (parsed text.now tokens.now) }
 {
     if tokens.len() >= MOST {
         return Err(ReadStop::Memory);

@@ -1,4 +1,4 @@
-use Rattle.std.proofs.Common.{◌≡◌, ◌∙◌, ap, sym}
+use Rattle.std.proofs.Common.{◌∙◌, ap, sym}
 use Rattle.c_parser.specs.declared.frame.Found.TheVariants.{Whole}
 use Rattle.c_parser.specs.Machine as spec
 use Rattle.c_parser.proofs.Resumes.{resumes_begun, resumes_ended, steps_taken, steps_failed}

@@ -1,4 +1,4 @@
-use Rattle.std.proofs.Common.{◌≡◌, ◌<◌, ℕ, length, sym, ◌∙◌, Some, None, arith}
+use Rattle.std.proofs.Common.{sym, ◌∙◌, Some, None, arith}
 use Rattle.c_parser.proofs.Runs.{stops_unexpected, stops_over, stops_at_end, stops_over_at_end, left_at_end, stops_without_file}
 use Rattle.c_parser.proofs.whole.run.Goals as goal
 
@@ -30,5 +30,5 @@ returns-in-Some-accepted c =
 pub returns-in-None-accepted : goal.returns-in-None-accepted
 returns-in-None-accepted c =
     let left = left_at_end c.args.text.now c.args.tokens.now c.loop-i.stack c.loop-i.count c.loop-i.i (omega arith) c.loop-i.invariant.same
-        _ c.step-2.new.stack c.in_ok-step-2.ensures c.in-Some-2.load c.in-Some-2.is (sym c.is_over-in-Some-2.ensures ∙ c.if-is_over-2.false) None c.in-None-accepted.ensures in
+    _ c.step-2.new.stack c.in_ok-step-2.ensures c.in-Some-2.load c.in-Some-2.is (sym c.is_over-in-Some-2.ensures ∙ c.if-is_over-2.false) None c.in-None-accepted.ensures in
     stops_without_file c.args.text.now c.args.tokens.now left _ c.refused-in-None-accepted.ensures
