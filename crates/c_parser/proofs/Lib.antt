@@ -3,6 +3,12 @@ mod Fronts
 mod Begins
 mod Keeps
 mod Closing
-mod Tokens
+pub mod Tokens
 pub mod Resumes
 pub mod Runs
+pub mod Begun
+pub mod CompleteDeclarations
+pub mod CompleteExpressions
+pub mod CompleteStatements
+pub mod Founds
+pub mod Traces

@@ -87,6 +87,7 @@ is_bare c.Open = false
 is_bare c.OpenIndex = false
 is_bare _ = true
 
+-- what may stand behind an expression is no mark of a level, of an assignment or of a choice, and no text
 pub closer_level : (t : Class) → is_closer t ≡ true → level t ≡ 0
 closer_level c.Close h = refl
 closer_level _ h = cc
@@ -107,6 +108,7 @@ pub closer_text : (t : Class) → is_closer t ≡ true → is_text t ≡ false
 closer_text c.Close h = refl
 closer_text _ h = cc
 
+-- what neither calls nor indexes
 pub bare_open : (t : Class) → is_bare t ≡ true → is_open t ≡ false
 bare_open c.Close h = refl
 bare_open _ h = cc
@@ -115,6 +117,7 @@ pub bare_index : (t : Class) → is_bare t ≡ true → is_open_index t ≡ fals
 bare_index c.Close h = refl
 bare_index _ h = cc
 
+-- what may stand behind a unary expression
 pub quiet_bare : (t : Class) → is_quiet t ≡ true → is_bare t ≡ true
 quiet_bare c.Close h = refl
 quiet_bare _ h = cc
@@ -123,6 +126,7 @@ pub quiet_step : (t : Class) → is_quiet t ≡ true → is_step t ≡ false
 quiet_step c.Close h = refl
 quiet_step _ h = cc
 
+-- a mark of an assignment or of a level stands behind a whole operand
 pub assign_bare : (t : Class) → is_assign t ≡ true → is_bare t ≡ true
 assign_bare c.Equals h = refl
 assign_bare _ h = cc
@@ -133,6 +137,7 @@ mark_quiet c.Open h = absurd (omega (arith, h))
 mark_quiet c.OpenIndex h = absurd (omega (arith, h))
 mark_quiet _ h = refl
 
+-- no mark binds as tightly as a unary expression
 pub level_below : (t : Class) → level t < 14
 level_below c.Close = omega arith
 level_below _ = omega arith
