@@ -1,9 +1,13 @@
-mod Wants
-mod Fronts
 mod Begins
-mod Keeps
 mod Closing
 pub mod Tokens
+mod Ends
+mod Exact
+mod Fronts
+mod Keeps
+mod Outcomes
+pub mod Traces
+mod Wants
 pub mod Resumes
 pub mod Runs
 pub mod Begun
@@ -11,4 +15,3 @@ pub mod CompleteDeclarations
 pub mod CompleteExpressions
 pub mod CompleteStatements
 pub mod Founds
-pub mod Traces
