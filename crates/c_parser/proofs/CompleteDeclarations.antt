@@ -322,7 +322,8 @@ complete_local (Locals false n d ds) u zs at f ts q h =
     switch (at_local zs) (at_type (rest p.Local at 0 [] declarators ∷ zs)) starts_type at (not_const zs at) (type_tokens n (declarator_tokens d (more_tokens declarator_tokens ds (c.Semicolon ∷ ts)))) q (type_head n _)
     ∙ local_typed n d ds u.0 u.1 at [] zs at f ts q h
 
-type_local : (l : List Class) → HeadIs starts_type l → HeadIs starts_local l
+-- what begins a number type may begin a local declaration
+pub type_local : (l : List Class) → HeadIs starts_type l → HeadIs starts_local l
 type_local [] h = h
 type_local (c.Char ∷ l) h = refl
 type_local (c.Int ∷ l) h = refl

@@ -153,12 +153,13 @@ else_skipped level first parts v zs at [] q h = absurd h
 else_skipped level first parts v zs at (t ∷ ts) q h = rw (h refl)
 
 -- what was handed on is the last part
-last_part : (rule : Production) (first n : ℕ) (parts : List Syntax) (v : Syntax) (zs : Frames) (at : ℕ) (f : Class → Bool) (ts : List Class) (q : List Event) → HeadIs f ts
+pub last_part : (rule : Production) (first n : ℕ) (parts : List Syntax) (v : Syntax) (zs : Frames) (at : ℕ) (f : Class → Bool) (ts : List Class) (q : List Event) → HeadIs f ts
     → logged (s.Done (Whole v) ∷ rest rule first n parts [] ∷ zs) at ts q ≡ logged (s.Done (Whole (node rule first at (parts ++ v ∷ []))) ∷ zs) at ts q
 last_part rule first n parts v zs at f [] q h = absurd h
 last_part rule first n parts v zs at f (t ∷ ts) q h = refl
 
-next_part : (rule : Production) (first n : ℕ) (parts : List Syntax) (l : List Want) (v : Syntax) (zs : Frames) (at : ℕ) (f : Class → Bool) (ts : List Class) (q : List Event) → HeadIs f ts
+-- what was handed on is the next part
+pub next_part : (rule : Production) (first n : ℕ) (parts : List Syntax) (l : List Want) (v : Syntax) (zs : Frames) (at : ℕ) (f : Class → Bool) (ts : List Class) (q : List Event) → HeadIs f ts
     → logged (s.Done (Whole v) ∷ rest rule first n parts l ∷ zs) at ts q ≡ logged (rest rule first n (parts ++ v ∷ []) l ∷ zs) at ts q
 next_part rule first n parts l v zs at f [] q h = absurd h
 next_part rule first n parts l v zs at f (t ∷ ts) q h = refl

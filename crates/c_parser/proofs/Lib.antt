@@ -13,5 +13,6 @@ pub mod Runs
 pub mod Begun
 pub mod CompleteDeclarations
 pub mod CompleteExpressions
+pub mod CompleteFiles
 pub mod CompleteStatements
 pub mod Founds
