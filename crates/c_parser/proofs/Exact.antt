@@ -1,5 +1,5 @@
 -- What the run over a text's tokens answers is what the grammar says of them, given that the machine accepts each file that derives.
-use Rattle.std.proofs.Common.{◌≡◌, ◌≤◌, ◌+◌, ℕ, Bool, true, false, cond, List, [], ◌∷◌, ◌++◌, length, append_assoc, Option, Some, None, refl, arith, ap, sym, subst, ◌∙◌}
+use Rattle.std.proofs.Common.{◌≡◌, ◌+◌, ℕ, Bool, true, false, cond, List, [], ◌∷◌, ◌++◌, length, append_assoc, Option, Some, None, refl, arith, ap, sym, subst, ◌∙◌}
 use Rattle.std.proofs.lemmas.List.{append-nil}
 use Rattle.c_grammar.specs.declared.class.Class.{Class}
 use Rattle.c_grammar.specs.declared.class.Class.TheVariants as c
@@ -16,9 +16,9 @@ use Rattle.c_parser.specs.Machine.{step, is_over, start, Left, Unexpected, TooMa
 use Rattle.c_parser.proofs.Fronts.{Front, Ready, Goes}
 use Rattle.c_parser.proofs.Keeps.{keeps}
 use Rattle.c_parser.proofs.Closing.{closes}
-use Rattle.c_parser.proofs.Traces.{noted, Trace, Through, log_on, logged, number_noted, over_noted, place_behind, place_length, Halves, halves, stays}
+use Rattle.c_parser.proofs.Traces.{noted, Trace, Through, log_on, logged, number_noted, over_noted, place_behind, place_length, halves, stays}
 use Rattle.c_parser.proofs.Ends.{IsEnded, step_ended}
-use Rattle.c_parser.proofs.Outcomes.{Taken, outcome_of, taken_viable}
+use Rattle.c_parser.proofs.Outcomes.{outcome_of, taken_viable}
 
 -- the machine accepts what derives, with its syntax and its events
 abbrev pub Completes : Type 0

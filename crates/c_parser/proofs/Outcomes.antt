@@ -1,5 +1,5 @@
 -- What a run comes to: the frames that all tokens leave, or the first token that fits nowhere or is over a limit, and what was so up to there.
-use Rattle.std.proofs.Common.{◌≡◌, ◌+◌, ℕ, Bool, true, false, cond, List, [], ◌∷◌, ◌++◌, length, Option, Some, None, refl, arith, ap, sym, subst, ◌∙◌}
+use Rattle.std.proofs.Common.{◌≡◌, ◌+◌, ℕ, Bool, true, false, cond, List, [], ◌∷◌, ◌++◌, length, Some, None, refl, arith, ap, subst, ◌∙◌}
 use Rattle.c_grammar.specs.declared.class.Class.{Class}
 use Rattle.c_grammar.specs.Events.{Event, number_of, count_of, first_over}
 use Rattle.c_grammar.specs.Derives.{Viable}
@@ -9,7 +9,7 @@ use Rattle.c_parser.specs.Machine.{step, count_behind, is_over, start, Ran, Left
 use Rattle.c_parser.proofs.Fronts.{Front, Ready, Goes}
 use Rattle.c_parser.proofs.Keeps.{keeps}
 use Rattle.c_parser.proofs.Closing.{closes}
-use Rattle.c_parser.proofs.Traces.{noted, Trace, Through, log_on, logged, number_noted, count_noted, over_noted}
+use Rattle.c_parser.proofs.Traces.{noted, Through, log_on, logged, number_noted, count_noted, over_noted}
 
 -- these frames, behind these events, have taken the tokens, and none is over a limit
 pub record Taken (z : Frames) (at : ℕ) (q : List Event) (P : Front) (ts : List Class) (x : Frames) : Type 0 where
