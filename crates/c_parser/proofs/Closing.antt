@@ -105,6 +105,7 @@ type_closed : (zs : Frames) (P P0 : Front) (k : Option NumberType) → ((r : Lis
 type_closed zs P P0 (Some n) e i = let k = unary_closed zs P0 i (CastTo n Number) tt in (k.0, c.Close ∷ c.Number ∷ k.1, k.2, k.3 ∙ sym (e (c.Close ∷ c.Number ∷ k.1)))
 type_closed zs P P0 None e i = let k = unary_closed zs P0 i (CastVoid Number) tt in (k.0, c.Close ∷ c.Number ∷ k.1, k.2, k.3 ∙ sym (e (c.Close ∷ c.Number ∷ k.1)))
 
+-- What the frames say can be closed to a file that derives.
 pub closes : (zs : Frames) (P : Front) → Ready zs P → Closed P
 closes (s.WantUnary ∷ zs) P i = let k = unary_closed zs P i Number tt in (k.0, c.Number ∷ k.1, k.2, k.3)
 closes (s.WantTarget ∷ zs) P i = let k = target_closed zs P i Variable tt in (k.0, c.Name ∷ k.1, k.2, k.3)

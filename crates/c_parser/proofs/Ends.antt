@@ -23,14 +23,17 @@ IsEnded Fails = Unit {0}
 IsEnded (Takes l (s.Accepted x ∷ z)) = Unit {0}
 IsEnded (Takes l _) = ⊥
 
+-- the end is no token that a production awaits
 not_end : (x : Class) → same x c.End ≡ false
 not_end c.Name = refl
 not_end _ = refl
 
+-- the end leads nothing in
 not_lead : (x : Lead) → same (leader x) c.End ≡ false
 not_lead o.Const = refl
 not_lead _ = refl
 
+-- The end begins nothing.
 begin_ended : (rule : Production) (first level : ℕ) (parts : List Syntax) (l : List Want) (x : Want) (z : Frames) (at : ℕ) → ((y : Lead) → x ≡ w.Optional y → ⊥) → IsEnded (begin rule first level parts l x z c.End at)
 begin_ended rule first level parts l (w.Token x) z at h = rw (not_end x) tt
 begin_ended rule first level parts l (w.OptionalExpression x) z at h = rw (not_end x) tt
@@ -39,6 +42,7 @@ begin_ended rule first level parts l (w.Next m.Value) z at h = tt
 begin_ended rule first level parts l (w.Next m.Enumerator) z at h = tt
 begin_ended rule first level parts l _ z at h = tt
 
+-- In front of the end a node is whole, or the end fits nowhere.
 feed_ended : (rule : Production) (first level : ℕ) (parts : List Syntax) (l : List Want) (z : Frames) (at : ℕ) (k : Syntax → Next) → ((x : Syntax) → IsEnded (k x)) → IsEnded (feed rule first level parts l z c.End at k)
 feed_ended rule first level parts [] z at k h = h _
 feed_ended rule first level parts (w.Optional x ∷ l) z at k h = rw (not_lead x) (feed_ended rule first level parts l z at k h)
@@ -48,6 +52,7 @@ feed_ended rule first level parts (w.OptionalExpression x ∷ l) z at k h = begi
 feed_ended rule first level parts (w.Next x ∷ l) z at k h = begin_ended rule first level parts l (w.Next x) z at (λ y e. absurd cc)
 feed_ended rule first level parts (_ ∷ l) z at k h = tt
 
+-- A value in front of the end makes a whole file, or the end fits nowhere.
 give_ended : (z : Frames) (v : Found) (at : ℕ) → IsEnded (give z v c.End at)
 give_ended (s.Post first ∷ z) (Lone v) at = give_ended z (Lone v) at
 give_ended (s.Post first ∷ z) (Whole v) at = give_ended z (Whole v) at

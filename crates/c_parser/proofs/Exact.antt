@@ -61,6 +61,7 @@ sooner : (at : ℕ) (o : Option ℕ) → NotBefore (at + 1) o → NotBefore at o
 sooner at None h = tt
 sooner at (Some k) h = omega (arith, h)
 
+-- The first token over a limit, where no token so far is, comes later.
 pub later : (ts : List Class) (z : Frames) (at : ℕ) (q : List Event) (x : Frames) (e : List Event) → first_over q ≡ None → number_of q ≡ at → logged z at ts q ≡ Through x e → NotBefore at (first_over e)
 later [] z at q x e h n k = subst (λ (o : Option ℕ). NotBefore at o) (sym h ∙ ap first_over (same_events z x q e k)) tt
 later (t ∷ ts) z at q x e h n k = go (step z t at) (λ y a. later ts y (at + 1) a x e) k
@@ -88,7 +89,7 @@ sound complete tokens x h =
     let file = y.ready.0 in
     let t : tokens ++ c.End ∷ [] ≡ file_tokens file (c.End ∷ []) = sym (append-nil (tokens ++ c.End ∷ [])) ∙ y.ready.2 [] in
     let e : Through (s.Accepted x ∷ []) y.events ≡ Through (s.Accepted (file_node file) ∷ []) (Outside ∷ file_events file []) =
-        sym y.through ∙ ap (λ (l : List Class). logged start 0 l []) t ∙ complete file y.ready.1 in
+    sym y.through ∙ ap (λ (l : List Class). logged start 0 l []) t ∙ complete file y.ready.1 in
     record {
       file = file;
       formed = y.ready.1;
@@ -110,13 +111,13 @@ first_fault complete tokens k h =
       place = omega (arith, y.place);
       viable = taken_viable y.front y.middle y.taken.ready;
       none =
-        λ v. stuck (length y.front + 0) (step y.middle y.token (length y.front + 0)) (ap (step y.middle y.token) place ∙ y.fault) y.taken.events _ _ _
-        (behind_file complete v.file v.formed y.front (y.token ∷ v.more) (v.begins ∙ append_assoc y.front (y.token ∷ []) v.more) y.middle y.taken.events y.taken.through);
+          λ v. stuck (length y.front + 0) (step y.middle y.token (length y.front + 0)) (ap (step y.middle y.token) place ∙ y.fault) y.taken.events _ _ _
+          (behind_file complete v.file v.formed y.front (y.token ∷ v.more) (v.begins ∙ append_assoc y.front (y.token ∷ []) v.more) y.middle y.taken.events y.taken.through);
       within =
-        λ v. subst (λ (o : Option ℕ). NotBefore k o) (over_outside (first_too_many v.file))
-        (subst (λ (n : ℕ). NotBefore n (first_over (Outside ∷ file_events v.file []))) place
-        (later v.more y.middle (length y.front + 0) y.taken.events _ _ y.taken.within y.taken.number
-        (behind_file complete v.file v.formed y.front v.more v.begins y.middle y.taken.events y.taken.through)));
+          λ v. subst (λ (o : Option ℕ). NotBefore k o) (over_outside (first_too_many v.file))
+          (subst (λ (n : ℕ). NotBefore n (first_over (Outside ∷ file_events v.file []))) place
+          (later v.more y.middle (length y.front + 0) y.taken.events _ _ y.taken.within y.taken.number
+          (behind_file complete v.file v.formed y.front v.more v.begins y.middle y.taken.events y.taken.through)));
     }
   where
     stuck : (at : ℕ) (n : Next) → n ≡ Fails → (q : List Event) (k : Frames → List Event → Trace) (x : Frames) (e : List Event) → log_on n at q k ≡ Through x e → ⊥
@@ -131,9 +132,9 @@ first_too_many_is complete tokens k h =
     let takes : step y.middle y.token (length y.front + 0) ≡ Takes y.fault.load y.fault.after = ap (step y.middle y.token) place ∙ y.fault.takes in
     let number : number_of y.taken.events ≡ k = y.taken.number ∙ place in
     let over : first_over (noted y.fault.load y.taken.events) ≡ Some (number_of y.taken.events) =
-        over_noted y.fault.load y.taken.events y.taken.within ∙ ap (λ (b : Bool). cond b (Some (number_of y.taken.events)) None) y.fault.over in
+    over_noted y.fault.load y.taken.events y.taken.within ∙ ap (λ (b : Bool). cond b (Some (number_of y.taken.events)) None) y.fault.over in
     let ready : Ready y.fault.after (λ r. y.front ++ y.token ∷ r) =
-        subst (λ (n : Next). Goes n (λ r. y.front ++ y.token ∷ r)) takes (keeps y.middle (λ r. y.front ++ r) y.taken.ready y.token (length y.front + 0)) in
+    subst (λ (n : Next). Goes n (λ r. y.front ++ y.token ∷ r)) takes (keeps y.middle (λ r. y.front ++ r) y.taken.ready y.token (length y.front + 0)) in
     let v = taken_viable_by y.front y.token y.fault.after ready in
     record {
       front = y.front;
@@ -143,8 +144,8 @@ first_too_many_is complete tokens k h =
       place = omega (arith, y.place);
       viable = v;
       over =
-        λ v. sym (over_outside (first_too_many v.file))
-        ∙ stays v.more y.fault.after (length y.front + 0 + 1) k (noted y.fault.load y.taken.events) _ _ (over ∙ ap (λ (n : ℕ). Some n) number)
+          λ v. sym (over_outside (first_too_many v.file))
+          ∙ stays v.more y.fault.after (length y.front + 0 + 1) k (noted y.fault.load y.taken.events) _ _ (over ∙ ap (λ (n : ℕ). Some n) number)
           (ap (λ (n : Next). log_on n (length y.front + 0) y.taken.events (λ a b. logged a (length y.front + 0 + 1) v.more b)) (sym takes)
           ∙ behind_file complete v.file v.formed y.front (y.token ∷ v.more) (v.begins ∙ append_assoc y.front (y.token ∷ []) v.more) y.middle y.taken.events y.taken.through);
     }

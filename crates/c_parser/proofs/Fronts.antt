@@ -5,7 +5,7 @@ use Rattle.c_grammar.specs.declared.class.Class.TheVariants as c
 use Rattle.c_grammar.specs.declared.syntax.Production.{Production}
 use Rattle.c_grammar.specs.declared.syntax.Production.TheVariants as p
 use Rattle.c_grammar.specs.Classes.{level, is_assign, is_prefix}
-use Rattle.c_grammar.specs.Expressions.{NumberType, Expression, Binary, Unary, CastTo, CastVoid, Target, Arguments, Texts, type_tokens, expression_tokens, binary_tokens, unary_tokens, target_tokens, arguments_tokens, texts_tokens, is_lone_unary, is_lone, root, FitsExpression, FitsBinary, FitsUnary, FitsTarget, FitsArguments}
+use Rattle.c_grammar.specs.Expressions.{NumberType, Expression, Binary, Unary, Target, Arguments, Texts, type_tokens, expression_tokens, binary_tokens, unary_tokens, target_tokens, arguments_tokens, texts_tokens, is_lone_unary, is_lone, root, FitsExpression, FitsBinary, FitsUnary, FitsTarget, FitsArguments}
 use Rattle.c_grammar.specs.Statements.{word_tokens}
 use Rattle.c_grammar.specs.Files.{Top, file_tokens, FitsFile}
 use Rattle.c_parser.specs.declared.form.Want.{Want}
@@ -19,13 +19,10 @@ use Rattle.c_parser.proofs.Wants.{NodeOf, node_tokens, FitsNode, is_node_open, G
 abbrev pub Front : Type 0
 Front = List Class → List Class
 
+-- the tokens of a type of a cast, and then these; without one, those of `void`
 abbrev pub cast_tokens : Option NumberType → List Class → List Class
 cast_tokens (Some n) r = type_tokens n r
 cast_tokens None r = c.Void ∷ r
-
-abbrev pub casts : Option NumberType → Unary → Unary
-casts (Some n) u = CastTo n u
-casts None u = CastVoid u
 
 -- a pending mark below binds less tightly
 abbrev pub Under : Frames → ℕ → Type 0
@@ -51,18 +48,21 @@ abbrev mutual
   UnaryNext (s.Operand first ∷ z) P = BinaryNext z P
   UnaryNext _ P = ⊥
 
+  -- a target comes next
   pub TargetNext : Frames → Front → Type 0
   TargetNext (s.Post first ∷ z) P = UnaryNext z P
   TargetNext (s.Stepped first mark ∷ z) P = (P0 : Front) × ((r : List Class) → P r ≡ P0 (c.Step ∷ r)) × UnaryNext z P0
   TargetNext (s.Enclosed first bracket ∷ z) P = (P0 : Front) × ((r : List Class) → P r ≡ P0 (c.Open ∷ r)) × TargetNext z P0
   TargetNext _ P = ⊥
 
+  -- a binary expression comes next, of which a unary one may be the first operand
   pub BinaryNext : Frames → Front → Type 0
   BinaryNext (s.Join first left mark next l ∷ z) P =
       (a : Binary) × (m : Class) × (P0 : Front) × FitsBinary a × (level m ≡ l) × (0 < l) × (l ≤ root a) × ((r : List Class) → P r ≡ P0 (binary_tokens a (m ∷ r))) × BinaryNext z P0 × Under z l
   BinaryNext (s.Choice first ∷ z) P = ConditionalNext z P
   BinaryNext _ P = ⊥
 
+  -- a conditional comes next
   pub ConditionalNext : Frames → Front → Type 0
   ConditionalNext (s.Assigns first ∷ z) P = AssignmentNext z P
   ConditionalNext (s.ChoiceElse first parts next ∷ z) P =
@@ -70,6 +70,7 @@ abbrev mutual
   ConditionalNext (s.Whole f.Conditional start ∷ z) P = ValueNext z (Of f.Conditional) P
   ConditionalNext _ P = ⊥
 
+  -- an assignment comes next
   pub AssignmentNext : Frames → Front → Type 0
   AssignmentNext (s.AssignsTo first parts next ∷ z) P = (x : Target) × (m : Class) × (P0 : Front) × FitsTarget x × (is_assign m ≡ true) × ((r : List Class) → P r ≡ P0 (target_tokens x (m ∷ r))) × AssignmentNext z P0
   AssignmentNext (s.Commas first at [] ∷ z) P = ExpressionNext z P
@@ -79,6 +80,7 @@ abbrev mutual
   AssignmentNext (s.Whole f.Assignment start ∷ z) P = ValueNext z (Of f.Assignment) P
   AssignmentNext _ P = ⊥
 
+  -- an expression comes next
   pub ExpressionNext : Frames → Front → Type 0
   ExpressionNext (s.Indexed first parts next ∷ z) P = (P0 : Front) × ((r : List Class) → P r ≡ P0 (c.Name ∷ c.OpenIndex ∷ r)) × TargetNext z P0
   ExpressionNext (s.Bracketed first bracket next ∷ z) P = (P0 : Front) × ((r : List Class) → P r ≡ P0 (c.Open ∷ r)) × UnaryNext z P0 × TargetNext z P0
@@ -86,6 +88,7 @@ abbrev mutual
   ExpressionNext (s.Whole f.Expression start ∷ z) P = ValueNext z (Of f.Expression) P
   ExpressionNext _ P = ⊥
 
+  -- an argument comes next
   pub ArgumentNext : Frames → Front → Type 0
   ArgumentNext (s.Arguments first parts ∷ z) P =
       (g : Arguments → Arguments) × (P0 : Front) × ((xs : Arguments) → FitsArguments xs → FitsArguments (g xs)) × ((xs : Arguments) (r : List Class) → P (arguments_tokens xs r) ≡ P0 (c.Name ∷ c.Open ∷ arguments_tokens (g xs) r)) × UnaryNext z P0
@@ -128,6 +131,7 @@ Ready (s.Tops parts ∷ []) P = IsFile P
 Ready (s.Accepted v ∷ []) P = (file : List Top) × FitsFile file × ((r : List Class) → P r ≡ file_tokens file (c.End ∷ r))
 Ready _ P = ⊥
 
+-- what a token leaves says this of the tokens with it
 abbrev pub Goes : Next → Front → Type 0
 Goes Fails P = Unit {0}
 Goes (Takes l z) P = Ready z P

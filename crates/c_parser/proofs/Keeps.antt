@@ -50,6 +50,7 @@ lone_conditional (Only (Single u)) w h = let y = lone_unary u w h in (y.0, y.1, 
 lone_conditional (Only (Both a m b)) w h = absurd cc
 lone_conditional (Choose b e d) w h = absurd cc
 
+-- an expression that is a target alone
 pub lone_expression : (e : Expression) → FitsExpression e → is_lone e ≡ true → (x : Target) × FitsTarget x × (e ≡ One (Value (Only (Single (Place x)))))
 lone_expression (One (Value d)) w h = let y = lone_conditional d w h in (y.0, y.1, ap (λ z. One (Value z)) y.2)
 lone_expression (One (To t m a)) w h = absurd cc
@@ -60,11 +61,13 @@ abbrev pub Loose : Frames → Binary → Type 0
 Loose (s.Join f left mark next l ∷ zs) b = l < root b
 Loose _ b = Unit {0}
 
+-- two operands and a mark that binds more tightly than the marks below
 pub loose_both : (zs : Frames) (a b : Binary) (m : Class) (l : ℕ) → level m ≡ l → Under zs l → Loose zs (Both a m b)
 loose_both (s.Join f left mark next k ∷ zs) a b m l e h = omega arith
 loose_both [] a b m l e h = tt
 loose_both (_ ∷ zs) a b m l e h = tt
 
+-- a unary expression binds more tightly than each mark
 pub loose_single : (zs : Frames) (P : Front) → BinaryNext zs P → (u : Unary) → Loose zs (Single u)
 loose_single (s.Join f left mark next l ∷ zs) P i u = let h = level_below i.1 in let e : level i.1 ≡ l = i.4 in omega arith
 loose_single [] P i u = absurd i
@@ -86,6 +89,7 @@ texts_more (MoreTexts n) r = ap (λ (l : List Class). c.Text ∷ l) (texts_more 
 positive : (l m : ℕ) → l < m → 0 < m
 positive l m h = omega arith
 
+-- two operands that fit make a binary expression that fits
 pub both_fits : (a b : Binary) (m : Class) (l : ℕ) → FitsBinary a → FitsBinary b → level m ≡ l → 0 < l → l ≤ root a → l < root b → FitsBinary (Both a m b)
 both_fits a b m l w x e h i k = (w, x, omega arith, omega arith, omega arith)
 
@@ -114,6 +118,7 @@ fits_more : (done : List Top) (x : Top) → FitsFile done → FitsTop x → Fits
 fits_more [] x w u = (u, tt)
 fits_more (y ∷ done) x w u = (w.0, fits_more done x w.1 u)
 
+-- a file with one more item is a file
 pub one_more : (P Q : Front) → IsFile P → (x : Top) → FitsTop x → ((r : List Class) → Q r ≡ P (top_tokens x r)) → IsFile Q
 one_more P Q i x w e = (i.0 ++ x ∷ [], fits_more i.0 x i.1 w, (λ r. e r ∙ i.2 (top_tokens x r) ∙ file_more i.0 x r))
 
@@ -239,6 +244,7 @@ named_kept : (f : ℕ) (name : Syntax) (zs : Frames) (P P0 : Front) → ((r : Li
 named_kept f name zs P P0 e i j t at =
     branch (is_open t) _ _ _ (λ h. (P0, seen P (λ r. P0 (c.Name ∷ r)) e t c.Open (open_is t h), i)) (λ h. index_kept f name zs P P0 e j t at)
 
+-- Each token that is taken keeps what the frames say.
 pub keeps : (zs : Frames) (P : Front) → Ready zs P → (t : Class) (at : ℕ) → Goes (step zs t at) (λ r. P (t ∷ r))
 keeps (s.WantUnary ∷ zs) P i t at = unary_kept zs P i t at
 keeps (s.WantTarget ∷ zs) P i t at = target_kept zs P i t at
@@ -261,17 +267,28 @@ keeps (s.Rest form ∷ zs) P i t at =
 keeps (s.LabelOrName name mark form ∷ zs) P i t at =
     branch (same c.Colon t) _ _ _ (λ h. named_label form zs i.0 _ i.2 (λ r. put P t c.Colon (same_is c.Colon t h) r ∙ i.1 (c.Colon ∷ r)))
     (λ h. named_kept name mark (s.Post name ∷ s.Operand name ∷ s.Choice name ∷ s.Assigns name ∷ s.Commas name name [] ∷ s.Whole full.Expression name ∷ rest p.Plain name form.level [] (want.Token c.Semicolon ∷ []) ∷ s.Rest form ∷ zs) P i.0 i.1
-      (named_statement form zs i.0 i.2) (named_statement form zs i.0 i.2) t at)
+    (named_statement form zs i.0 i.2) (named_statement form zs i.0 i.2) t at)
 keeps (s.External first parts ∷ zs) P i t at = external_kept first parts i.0 zs i.1 P i.2 i.3 i.4 t at
 keeps (s.TopName first parts start type name mark ∷ zs) P i t at =
     branch (same c.Open t) _ _ _
     (λ h. ((λ v. Defined i.0 (Some i.1) v.0 v.1.1.0), i.2, (λ v u. (u.0, u.1.1.0)), (λ v r. put P t c.Open (same_is c.Open t h) _ ∙ i.3 _), (λ v. refl), i.5))
-    (λ h. feeds p.Declarator name 0 (mark ∷ []) (want.Optional lead.Size ∷ want.Optional lead.Value ∷ []) (declared first parts start type zs) t at (λ v. give (declared first parts start type zs) (Whole v) t at) false P
-      ((λ v. Declared v.0 v.1.0), (λ r. i.2 (word_tokens c.Static i.0 (type_tokens i.1 r))), (λ v u. (u.0, u.1.0)), (λ v r. i.3 _), (λ v. refl),
-        ((λ a v. Locals false i.1 a v.0), (λ r. i.2 (word_tokens c.Static i.0 r)), (λ a v u x. (u, x.0)), (λ a v r. refl), (λ a v. refl),
-          ((λ a v. Declares i.0 a), i.2, (λ a v u x. u), (λ a v r. refl), (λ a v. refl), i.4)))
-      (λ e. refl)
-      (λ v P0 b fits calm eq j. value_given (declared first parts start type zs) (Node p.Declarator) P0 P j b fits eq v t at calm))
+    (λ h. feeds p.Declarator name 0 (mark ∷ []) (want.Optional lead.Size ∷ want.Optional lead.Value ∷ []) (declared first parts start type zs) t at (λ v. give (declared first parts start type zs) (Whole v) t at) false P (
+      (λ v. Declared v.0 v.1.0),
+      (λ r. i.2 (word_tokens c.Static i.0 (type_tokens i.1 r))),
+      (λ v u. (u.0, u.1.0)),
+      (λ v r. i.3 _),
+      (λ v. refl),
+      (
+        (λ a v. Locals false i.1 a v.0),
+        (λ r. i.2 (word_tokens c.Static i.0 r)),
+        (λ a v u x. (u, x.0)),
+        (λ a v r. refl),
+        (λ a v. refl),
+        ((λ a v. Declares i.0 a), i.2, (λ a v u x. u), (λ a v r. refl), (λ a v. refl), i.4),
+      ),
+    )
+    (λ e. refl)
+    (λ v P0 b fits calm eq j. value_given (declared first parts start type zs) (Node p.Declarator) P0 P j b fits eq v t at calm))
 keeps (s.Tops parts ∷ []) P i t at = top_kept parts P i t at
 keeps [] P i t at = absurd i
 keeps (s.Accepted v ∷ zs) P i t at = tt

@@ -41,6 +41,7 @@ pub record Exceeds (k : ℕ) (z : Frames) (q : List Event) (t : Class) : Type 0 
   pub takes : step z t k ≡ Takes load after
   pub over : is_over load (count_of q) ≡ true
 
+-- what a run that ends so has done
 abbrev pub Outcome : Frames → ℕ → List Event → Front → List Class → Ran → Type 0
 Outcome z at q P ts (Left x) = Taken z at q P ts x
 Outcome z at q P ts (Unexpected k) = Halted (Misfits k) z at q P ts k
@@ -81,6 +82,7 @@ outcome_behind z at q P t l y e ts (TooMany k) h = halted_behind (Exceeds k) z a
 abbrev taken_none : (z : Frames) (at : ℕ) (q : List Event) (P : Front) → first_over q ≡ None → number_of q ≡ at → Ready z P → Taken z at q P [] z
 taken_none z at q P h n i = record { events = q; through = refl; within = h; number = omega (arith, n); ready = i }
 
+-- what each run has done
 pub outcome : (ts : List Class) (z : Frames) (at : ℕ) (q : List Event) (P : Front) → first_over q ≡ None → number_of q ≡ at → Ready z P → Outcome z at q P ts (run z (count_of q) at ts)
 outcome [] z at q P h n i = taken_none z at q P h n i
 outcome (t ∷ ts) z at q P h n i = go (step z t at) refl (keeps z P i t at) (λ y a. outcome ts y (at + 1) a (λ r. P (t ∷ r)))
