@@ -1,6 +1,11 @@
 mod Begins
 mod Closing
 pub mod Tokens
+pub mod CompleteDeclarations
+pub mod CompleteExpressions
+pub mod CompleteFiles
+pub mod CompleteStatements
+mod Decides
 mod Ends
 mod Exact
 mod Fronts
@@ -11,8 +16,4 @@ mod Wants
 pub mod Resumes
 pub mod Runs
 pub mod Begun
-pub mod CompleteDeclarations
-pub mod CompleteExpressions
-pub mod CompleteFiles
-pub mod CompleteStatements
 pub mod Founds
