@@ -395,5 +395,5 @@ complete_tops (x ∷ xs) u parts at q =
     ∙ ap (λ (a : List Syntax). Through (s.Accepted (node p.File 0 (file_end (top_end at x) xs) a) ∷ []) (Outside ∷ file_events xs (top_events x q))) (append_assoc parts (top_node at x ∷ []) (file_parts (top_end at x) xs))
 
 -- what derives as a file, with the end behind it, is accepted as its node, and the tokens leave its events
-pub complete : (xs : List Top) → FitsFile xs → logged start 0 (file_tokens xs (c.End ∷ [])) [] ≡ Through (s.Accepted (file_node xs) ∷ []) (Outside ∷ file_events xs [])
-complete xs u = complete_tops xs u [] 0 []
+pub complete_file : (xs : List Top) → FitsFile xs → logged start 0 (file_tokens xs (c.End ∷ [])) [] ≡ Through (s.Accepted (file_node xs) ∷ []) (Outside ∷ file_events xs [])
+complete_file xs u = complete_tops xs u [] 0 []

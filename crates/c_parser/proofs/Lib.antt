@@ -1,19 +1,19 @@
 mod Begins
+mod Begun
 mod Closing
-pub mod Tokens
-pub mod CompleteDeclarations
-pub mod CompleteExpressions
-pub mod CompleteFiles
-pub mod CompleteStatements
+mod CompleteDeclarations
+mod CompleteExpressions
+mod CompleteFiles
+mod CompleteStatements
 mod Decides
 mod Ends
 mod Exact
+mod Founds
 mod Fronts
 mod Keeps
 mod Outcomes
-pub mod Traces
-mod Wants
 pub mod Resumes
 pub mod Runs
-pub mod Begun
-pub mod Founds
+mod Tokens
+mod Traces
+mod Wants
