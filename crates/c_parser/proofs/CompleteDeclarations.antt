@@ -110,7 +110,7 @@ complete_size (Sized d) u rule first n parts l zs at ts q h =
     length_run rule first n (parts ++ leaf at ∷ []) l zs (at + 1) (conditional_tokens d (c.CloseIndex ∷ ts)) (Outside ∷ q) (head_of_conditional d u _)
     ∙ full_conditional d u (rest rule first n (parts ++ leaf at ∷ []) (w.Token c.CloseIndex ∷ l) ∷ zs) (at + 1) (c.CloseIndex ∷ ts) (Outside ∷ q) refl
     ∙ ap (λ (a : List Syntax). logged (rest rule first n a l ∷ zs) (conditional_end (at + 1) d + 1) ts (Outside ∷ conditional_events d (Outside ∷ q)))
-      (append_assoc (parts ++ leaf at ∷ []) (conditional_node (at + 1) d ∷ []) (leaf (conditional_end (at + 1) d) ∷ []) ∙ append_assoc parts (leaf at ∷ []) (conditional_node (at + 1) d ∷ leaf (conditional_end (at + 1) d) ∷ []))
+    (append_assoc (parts ++ leaf at ∷ []) (conditional_node (at + 1) d ∷ []) (leaf (conditional_end (at + 1) d) ∷ []) ∙ append_assoc parts (leaf at ∷ []) (conditional_node (at + 1) d ∷ leaf (conditional_end (at + 1) d) ∷ []))
 
 -- ---- initialisers
 
@@ -142,7 +142,7 @@ complete_values (x ∷ xs) trailing u rule first n parts l zs at r q =
     ∙ given_tail rule first n (parts ++ leaf at ∷ []) (w.Tail m.Value ∷ l) (assignment_node (at + 1) x) zs (assignment_end (at + 1) x) (rest_tokens assignment_tokens xs trailing r) (assignment_events x (Outside ∷ q)) (tail_closer assignment_tokens xs trailing r)
     ∙ complete_values xs trailing u.1 rule first n ((parts ++ leaf at ∷ []) ++ assignment_node (at + 1) x ∷ []) l zs (assignment_end (at + 1) x) r (assignment_events x (Outside ∷ q))
     ∙ ap (λ (a : List Syntax). logged (rest rule first n a l ∷ zs) (rest_end assignment_end (assignment_end (at + 1) x) xs trailing) r (rest_events assignment_events xs trailing (assignment_events x (Outside ∷ q))))
-      (append_assoc (parts ++ leaf at ∷ []) (assignment_node (at + 1) x ∷ []) (rest_parts assignment_end assignment_node (assignment_end (at + 1) x) xs trailing) ∙ append_assoc parts (leaf at ∷ []) (assignment_node (at + 1) x ∷ rest_parts assignment_end assignment_node (assignment_end (at + 1) x) xs trailing))
+    (append_assoc (parts ++ leaf at ∷ []) (assignment_node (at + 1) x ∷ []) (rest_parts assignment_end assignment_node (assignment_end (at + 1) x) xs trailing) ∙ append_assoc parts (leaf at ∷ []) (assignment_node (at + 1) x ∷ rest_parts assignment_end assignment_node (assignment_end (at + 1) x) xs trailing))
 
 one_value : (zs : Frames) (at : ℕ) (t : Class) → starts t ≡ true → at_initialiser zs t at ≡ at_full full.Assignment (rest p.Initialiser at 0 [] [] ∷ zs) t at
 one_value zs at c.OpenBlock h = cc
@@ -235,7 +235,7 @@ handed_on rule first n parts zs at f (t ∷ ts) q h = refl
 -- behind the name of a declarator
 pub complete_declared : (size : Size) (value : Option Initialiser) → FitsSize size → FitsValue value → (first n : ℕ) (parts : List Syntax) (zs : Frames) (at : ℕ) (ts : List Class) (q : List Event) → HeadIs is_separator ts
     → logged (rest p.Declarator first n parts (w.Optional o.Size ∷ w.Optional o.Value ∷ []) ∷ zs) at (size_tokens size (value_tokens value ts)) q
-      ≡ logged (s.Done (Whole (node p.Declarator first (value_end (size_end at size) value) ((parts ++ size_parts at size) ++ value_parts (size_end at size) value))) ∷ zs) (value_end (size_end at size) value) ts (value_events value (size_events size q))
+    ≡ logged (s.Done (Whole (node p.Declarator first (value_end (size_end at size) value) ((parts ++ size_parts at size) ++ value_parts (size_end at size) value))) ∷ zs) (value_end (size_end at size) value) ts (value_events value (size_events size q))
 complete_declared size value u v first n parts zs at ts q h =
     complete_size size u p.Declarator first n parts (w.Optional o.Value ∷ []) zs at (value_tokens value ts) q (value_no_index value ts h)
     ∙ complete_value value v p.Declarator first n (parts ++ size_parts at size) [] zs (size_end at size) ts (size_events size q) h
@@ -260,28 +260,28 @@ declarators_head (d ∷ ds) r = refl
 -- the further declarators, and `;`
 pub complete_declarators : (ds : List Declarator) → FitsMore FitsDeclarator ds → (rule : Production) (first n : ℕ) (parts : List Syntax) (l : List Want) (zs : Frames) (at : ℕ) (r : List Class) (q : List Event)
     → logged (rest rule first n parts (w.Optional o.Declarators ∷ w.Token c.Semicolon ∷ l) ∷ zs) at (more_tokens declarator_tokens ds (c.Semicolon ∷ r)) q
-      ≡ logged (rest rule first n (parts ++ (more_parts declarator_end declarator_node at ds ++ leaf (more_end declarator_end at ds) ∷ [])) l ∷ zs) (more_end declarator_end at ds + 1) r (Outside ∷ more_events declarator_events ds q)
+    ≡ logged (rest rule first n (parts ++ (more_parts declarator_end declarator_node at ds ++ leaf (more_end declarator_end at ds) ∷ [])) l ∷ zs) (more_end declarator_end at ds + 1) r (Outside ∷ more_events declarator_events ds q)
 complete_declarators [] u rule first n parts l zs at r q = refl
 complete_declarators (d ∷ ds) u rule first n parts l zs at r q =
     complete_declarator d u.0 rule first n (parts ++ leaf at ∷ []) (w.Optional o.Declarators ∷ w.Token c.Semicolon ∷ l) zs (at + 1) (more_tokens declarator_tokens ds (c.Semicolon ∷ r)) (Outside ∷ q) (declarators_head ds r)
     ∙ complete_declarators ds u.1 rule first n ((parts ++ leaf at ∷ []) ++ declarator_node (at + 1) d ∷ []) l zs (declarator_end (at + 1) d) r (declarator_events d (Outside ∷ q))
     ∙ ap (λ (a : List Syntax). logged (rest rule first n a l ∷ zs) (more_end declarator_end (declarator_end (at + 1) d) ds + 1) r (Outside ∷ more_events declarator_events ds (declarator_events d (Outside ∷ q))))
-      (append_assoc (parts ++ leaf at ∷ []) (declarator_node (at + 1) d ∷ []) (more_parts declarator_end declarator_node (declarator_end (at + 1) d) ds ++ leaf (more_end declarator_end (declarator_end (at + 1) d) ds) ∷ [])
-       ∙ append_assoc parts (leaf at ∷ []) (declarator_node (at + 1) d ∷ more_parts declarator_end declarator_node (declarator_end (at + 1) d) ds ++ leaf (more_end declarator_end (declarator_end (at + 1) d) ds) ∷ []))
+    (append_assoc (parts ++ leaf at ∷ []) (declarator_node (at + 1) d ∷ []) (more_parts declarator_end declarator_node (declarator_end (at + 1) d) ds ++ leaf (more_end declarator_end (declarator_end (at + 1) d) ds) ∷ [])
+    ∙ append_assoc parts (leaf at ∷ []) (declarator_node (at + 1) d ∷ more_parts declarator_end declarator_node (declarator_end (at + 1) d) ds ++ leaf (more_end declarator_end (declarator_end (at + 1) d) ds) ∷ []))
 
 -- ---- local declarations
 
 -- behind the type
 local_rest : (d : Declarator) (ds : List Declarator) → FitsDeclarator d → FitsMore FitsDeclarator ds → (first : ℕ) (parts : List Syntax) (zs : Frames) (at : ℕ) (f : Class → Bool) (ts : List Class) (q : List Event) → HeadIs f ts
     → logged (rest p.Local first 0 parts declarators ∷ zs) at (declarator_tokens d (more_tokens declarator_tokens ds (c.Semicolon ∷ ts))) q
-      ≡ logged (s.Done (Whole (node p.Local first (more_end declarator_end (declarator_end at d) ds + 1) (parts ++ (declarator_node at d ∷ more_parts declarator_end declarator_node (declarator_end at d) ds ++ leaf (more_end declarator_end (declarator_end at d) ds) ∷ [])))) ∷ zs)
-        (more_end declarator_end (declarator_end at d) ds + 1) ts (Outside ∷ more_events declarator_events ds (declarator_events d q))
+    ≡ logged (s.Done (Whole (node p.Local first (more_end declarator_end (declarator_end at d) ds + 1) (parts ++ (declarator_node at d ∷ more_parts declarator_end declarator_node (declarator_end at d) ds ++ leaf (more_end declarator_end (declarator_end at d) ds) ∷ [])))) ∷ zs)
+    (more_end declarator_end (declarator_end at d) ds + 1) ts (Outside ∷ more_events declarator_events ds (declarator_events d q))
 local_rest d ds u v first parts zs at f ts q h =
     complete_declarator d u p.Local first 0 parts (w.Optional o.Declarators ∷ w.Token c.Semicolon ∷ []) zs at (more_tokens declarator_tokens ds (c.Semicolon ∷ ts)) q (declarators_head ds ts)
     ∙ complete_declarators ds v p.Local first 0 (parts ++ declarator_node at d ∷ []) [] zs (declarator_end at d) ts (declarator_events d q)
     ∙ handed_on p.Local first 0 ((parts ++ declarator_node at d ∷ []) ++ (more_parts declarator_end declarator_node (declarator_end at d) ds ++ leaf (more_end declarator_end (declarator_end at d) ds) ∷ [])) zs (more_end declarator_end (declarator_end at d) ds + 1) f ts (Outside ∷ more_events declarator_events ds (declarator_events d q)) h
     ∙ ap (λ (a : List Syntax). logged (s.Done (Whole (node p.Local first (more_end declarator_end (declarator_end at d) ds + 1) a)) ∷ zs) (more_end declarator_end (declarator_end at d) ds + 1) ts (Outside ∷ more_events declarator_events ds (declarator_events d q)))
-      (append_assoc parts (declarator_node at d ∷ []) (more_parts declarator_end declarator_node (declarator_end at d) ds ++ leaf (more_end declarator_end (declarator_end at d) ds) ∷ []))
+    (append_assoc parts (declarator_node at d ∷ []) (more_parts declarator_end declarator_node (declarator_end at d) ds ++ leaf (more_end declarator_end (declarator_end at d) ds) ∷ []))
 
 declarator_name : (d : Declarator) (r : List Class) → HeadIsNot is_base (declarator_tokens d r)
 declarator_name (Declared size value) r = refl
@@ -303,14 +303,14 @@ type_wanted first parts l zs at (t ∷ ts) q h = refl
 -- a declaration that has these parts behind which the type stands
 pub local_typed : (n : NumberType) (d : Declarator) (ds : List Declarator) → FitsDeclarator d → FitsMore FitsDeclarator ds → (first : ℕ) (parts : List Syntax) (zs : Frames) (at : ℕ) (f : Class → Bool) (ts : List Class) (q : List Event) → HeadIs f ts
     → via (at_type (rest p.Local first 0 parts declarators ∷ zs)) at (type_tokens n (declarator_tokens d (more_tokens declarator_tokens ds (c.Semicolon ∷ ts)))) q
-      ≡ logged (s.Done (Whole (node p.Local first (more_end declarator_end (declarator_end (type_end at n) d) ds + 1) (parts ++ (type_node at n ∷ declarator_node (type_end at n) d ∷ more_parts declarator_end declarator_node (declarator_end (type_end at n) d) ds ++ leaf (more_end declarator_end (declarator_end (type_end at n) d) ds) ∷ [])))) ∷ zs)
-        (more_end declarator_end (declarator_end (type_end at n) d) ds + 1) ts (Outside ∷ more_events declarator_events ds (declarator_events d (type_events n q)))
+    ≡ logged (s.Done (Whole (node p.Local first (more_end declarator_end (declarator_end (type_end at n) d) ds + 1) (parts ++ (type_node at n ∷ declarator_node (type_end at n) d ∷ more_parts declarator_end declarator_node (declarator_end (type_end at n) d) ds ++ leaf (more_end declarator_end (declarator_end (type_end at n) d) ds) ∷ [])))) ∷ zs)
+    (more_end declarator_end (declarator_end (type_end at n) d) ds + 1) ts (Outside ∷ more_events declarator_events ds (declarator_events d (type_events n q)))
 local_typed n d ds u v first parts zs at f ts q h =
     complete_number_type n (rest p.Local first 0 parts declarators ∷ zs) at (declarator_tokens d (more_tokens declarator_tokens ds (c.Semicolon ∷ ts))) q (declarator_name d _)
     ∙ typed first parts declarators (type_node at n) zs (type_end at n) d (more_tokens declarator_tokens ds (c.Semicolon ∷ ts)) (type_events n q)
     ∙ local_rest d ds u v first (parts ++ type_node at n ∷ []) zs (type_end at n) f ts (type_events n q) h
     ∙ ap (λ (a : List Syntax). logged (s.Done (Whole (node p.Local first (more_end declarator_end (declarator_end (type_end at n) d) ds + 1) a)) ∷ zs) (more_end declarator_end (declarator_end (type_end at n) d) ds + 1) ts (Outside ∷ more_events declarator_events ds (declarator_events d (type_events n q))))
-      (append_assoc parts (type_node at n ∷ []) (declarator_node (type_end at n) d ∷ more_parts declarator_end declarator_node (declarator_end (type_end at n) d) ds ++ leaf (more_end declarator_end (declarator_end (type_end at n) d) ds) ∷ []))
+    (append_assoc parts (type_node at n ∷ []) (declarator_node (type_end at n) d ∷ more_parts declarator_end declarator_node (declarator_end (type_end at n) d) ds ++ leaf (more_end declarator_end (declarator_end (type_end at n) d) ds) ∷ []))
 
 -- a local declaration
 pub complete_local : (x : Local) → FitsLocal x → (zs : Frames) (at : ℕ) (f : Class → Bool) (ts : List Class) (q : List Event) → HeadIs f ts

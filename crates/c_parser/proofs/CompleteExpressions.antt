@@ -169,7 +169,7 @@ takes_choice zs at m v z r q h = rw (lt-ltb 0 (level m) h)
 
 takes_join : (zs : Frames) (first next l : ℕ) (left mark : Syntax) → (m : Class) (v : Found) (z : ℕ) (r : List Class) (q : List Event) → l < level m
     → logged (s.Done v ∷ s.Join first left mark next l ∷ zs) z (m ∷ r) q
-      ≡ logged (s.WantUnary ∷ s.Operand (z + 1) ∷ s.Join next (solid_binary next z v) (leaf z) (z + 1) (level m) ∷ s.Join first left mark next l ∷ zs) (z + 1) r (Counted ∷ q)
+    ≡ logged (s.WantUnary ∷ s.Operand (z + 1) ∷ s.Join next (solid_binary next z v) (leaf z) (z + 1) (level m) ∷ s.Join first left mark next l ∷ zs) (z + 1) r (Counted ∷ q)
 takes_join zs first next l left mark m v z r q h = rw (lt-ltb l (level m) h)
 
 not_taken : (v : Found) (zs : Frames) (first next l z : ℕ) (left mark : Syntax) (t : Class) (r : List Class) (q : List Event) → level t ≤ l
@@ -186,7 +186,7 @@ target_var_run zs at t r q h = rw (bare_index t h)
 
 cast_run : (n : NumberType) (zs : Frames) (first : ℕ) (l : List Class) (q : List Event)
     → logged (s.Opened first (leaf first) (first + 1) ∷ zs) (first + 1) (type_tokens n (c.Close ∷ l)) q
-      ≡ logged (s.WantUnary ∷ s.Cast first (leaf first ∷ type_node (first + 1) n ∷ leaf (type_end (first + 1) n) ∷ []) (type_end (first + 1) n + 1) ∷ zs) (type_end (first + 1) n + 1) l (Uncounted ∷ type_events n q)
+    ≡ logged (s.WantUnary ∷ s.Cast first (leaf first ∷ type_node (first + 1) n ∷ leaf (type_end (first + 1) n) ∷ []) (type_end (first + 1) n + 1) ∷ zs) (type_end (first + 1) n + 1) l (Uncounted ∷ type_events n q)
 cast_run (OfBase CharBase) zs first l q = refl
 cast_run (OfBase IntBase) zs first l q = refl
 cast_run (OfBase LongBase) zs first l q = refl
@@ -335,13 +335,13 @@ mutual
   -- the arguments of a call, and the bracket behind them
   pub complete_arguments : (xs : Arguments) → FitsArguments xs → (zs : Frames) (first : ℕ) (parts : List Syntax) (at : ℕ) (r : List Class) (q : List Event)
       → logged (s.WantArgument ∷ s.Arguments first parts ∷ zs) at (arguments_tokens xs (c.Close ∷ r)) q
-        ≡ logged (s.Done (postfix first (arguments_end at xs + 1) (parts ++ (arguments_parts at xs ++ leaf (arguments_end at xs) ∷ []))) ∷ zs) (arguments_end at xs + 1) r (Uncounted ∷ arguments_events xs q)
+      ≡ logged (s.Done (postfix first (arguments_end at xs + 1) (parts ++ (arguments_parts at xs ++ leaf (arguments_end at xs) ∷ []))) ∷ zs) (arguments_end at xs + 1) r (Uncounted ∷ arguments_events xs q)
   complete_arguments (Last x) w zs first parts at r q = complete_argument x w (s.Arguments first parts ∷ zs) at c.Close r q refl
   complete_arguments (Then x xs) w zs first parts at r q =
       complete_argument x w.0 (s.Arguments first parts ∷ zs) at c.Comma (arguments_tokens xs (c.Close ∷ r)) q refl
       ∙ complete_arguments xs w.1 zs first (parts ++ argument_node at x ∷ leaf (argument_end at x) ∷ []) (argument_end at x + 1) r (Uncounted ∷ argument_events x q)
       ∙ ap (λ (l : List Syntax). logged (s.Done (postfix first (arguments_end (argument_end at x + 1) xs + 1) l) ∷ zs) (arguments_end (argument_end at x + 1) xs + 1) r (Uncounted ∷ arguments_events xs (Uncounted ∷ argument_events x q)))
-        (append_assoc parts (argument_node at x ∷ leaf (argument_end at x) ∷ []) (arguments_parts (argument_end at x + 1) xs ++ leaf (arguments_end (argument_end at x + 1) xs) ∷ []))
+      (append_assoc parts (argument_node at x ∷ leaf (argument_end at x) ∷ []) (arguments_parts (argument_end at x + 1) xs ++ leaf (arguments_end (argument_end at x + 1) xs) ∷ []))
 
   -- an argument in front of what may stand behind an expression
   pub complete_argument : (x : Argument) → FitsArgument x → (zs : Frames) (at : ℕ) (t : Class) (r : List Class) (q : List Event) → is_closer t ≡ true

@@ -59,7 +59,7 @@ complete_enumerator (Some d) u zs at ts q h =
 
 complete_enumerators : (xs : List (Option Conditional)) (trailing : Bool) → FitsMore FitsConstant xs → (rule : Production) (first n : ℕ) (parts : List Syntax) (l : List Want) (zs : Frames) (at : ℕ) (r : List Class) (q : List Event)
     → logged (rest rule first n parts (w.Tail m.Enumerator ∷ l) ∷ zs) at (rest_tokens enumerator_tokens xs trailing r) q
-      ≡ logged (rest rule first n (parts ++ rest_parts enumerator_end enumerator_node at xs trailing) l ∷ zs) (rest_end enumerator_end at xs trailing) r (rest_events enumerator_events xs trailing q)
+    ≡ logged (rest rule first n (parts ++ rest_parts enumerator_end enumerator_node at xs trailing) l ∷ zs) (rest_end enumerator_end at xs trailing) r (rest_events enumerator_events xs trailing q)
 complete_enumerators [] false u rule first n parts l zs at r q = refl
 complete_enumerators [] true u rule first n parts l zs at r q =
     ap (λ (a : List Syntax). logged (rest rule first n a l ∷ zs) (at + 1 + 1) r (Outside ∷ Outside ∷ q)) (append_assoc parts (leaf at ∷ []) (leaf (at + 1) ∷ []))
@@ -69,8 +69,8 @@ complete_enumerators (x ∷ xs) trailing u rule first n parts l zs at r q =
     ∙ next_part rule first n (parts ++ leaf at ∷ []) (w.Tail m.Enumerator ∷ l) (enumerator_node (at + 1) x) zs y is_closer (rest_tokens enumerator_tokens xs trailing r) (enumerator_events x (Outside ∷ q)) (tail_closer enumerator_tokens xs trailing r)
     ∙ complete_enumerators xs trailing u.1 rule first n ((parts ++ leaf at ∷ []) ++ enumerator_node (at + 1) x ∷ []) l zs y r (enumerator_events x (Outside ∷ q))
     ∙ ap (λ (a : List Syntax). logged (rest rule first n a l ∷ zs) (rest_end enumerator_end y xs trailing) r (rest_events enumerator_events xs trailing (enumerator_events x (Outside ∷ q))))
-      (append_assoc (parts ++ leaf at ∷ []) (enumerator_node (at + 1) x ∷ []) (rest_parts enumerator_end enumerator_node y xs trailing)
-       ∙ append_assoc parts (leaf at ∷ []) (enumerator_node (at + 1) x ∷ rest_parts enumerator_end enumerator_node y xs trailing))
+    (append_assoc (parts ++ leaf at ∷ []) (enumerator_node (at + 1) x ∷ []) (rest_parts enumerator_end enumerator_node y xs trailing)
+    ∙ append_assoc parts (leaf at ∷ []) (enumerator_node (at + 1) x ∷ rest_parts enumerator_end enumerator_node y xs trailing))
 
 complete_enumeration : (x : Enumeration) → FitsEnumeration x → (parts : List Syntax) (zs : Frames) (at : ℕ) (f : Class → Bool) (ts : List Class) (q : List Event) → HeadIs f ts
     → logged (s.Tops parts ∷ zs) at (enumeration_tokens x ts) q ≡ logged (s.Done (Whole (enumeration_node at x)) ∷ s.Tops parts ∷ zs) (enumeration_end at x) ts (enumeration_events x q)
@@ -138,8 +138,8 @@ complete_name false rule first n parts l zs at ts q h = no_name rule first n par
 -- a parameter that has these parts behind which the type stands
 parameter_typed : (n : NumberType) (named : Bool) (size : Size) → FitsSize size → (first : ℕ) (parts : List Syntax) (zs : Frames) (at : ℕ) (ts : List Class) (q : List Event) → HeadIs after_parameter ts
     → via (at_type (rest p.Param first 0 parts parameter_rest ∷ zs)) at (type_tokens n (word_tokens c.Name named (size_tokens size ts))) q
-      ≡ logged (s.Done (Whole (node p.Param first (size_end (word_end (type_end at n) named) size) (((parts ++ type_node at n ∷ []) ++ word_parts (type_end at n) named) ++ size_parts (word_end (type_end at n) named) size))) ∷ zs)
-        (size_end (word_end (type_end at n) named) size) ts (size_events size (word_events named (type_events n q)))
+    ≡ logged (s.Done (Whole (node p.Param first (size_end (word_end (type_end at n) named) size) (((parts ++ type_node at n ∷ []) ++ word_parts (type_end at n) named) ++ size_parts (word_end (type_end at n) named) size))) ∷ zs)
+    (size_end (word_end (type_end at n) named) size) ts (size_events size (word_events named (type_events n q)))
 parameter_typed n named size u first parts zs at ts q h =
     let y = type_end at n in
     let z = word_end y named in
@@ -185,7 +185,7 @@ more_parameters (x ∷ xs) ts = refl
 -- the further parameters, up to `)`
 complete_more : (xs : List Parameter) → FitsMore FitsParameter xs → (first : ℕ) (parts : List Syntax) (zs : Frames) (at : ℕ) (ts : List Class) (q : List Event)
     → logged (rest p.Params first 0 parts (w.Optional o.Parameters ∷ []) ∷ zs) at (more_tokens parameter_tokens xs (c.Close ∷ ts)) q
-      ≡ logged (s.Done (Whole (node p.Params first (more_end parameter_end at xs) (parts ++ more_parts parameter_end parameter_node at xs))) ∷ zs) (more_end parameter_end at xs) (c.Close ∷ ts) (more_events parameter_events xs q)
+    ≡ logged (s.Done (Whole (node p.Params first (more_end parameter_end at xs) (parts ++ more_parts parameter_end parameter_node at xs))) ∷ zs) (more_end parameter_end at xs) (c.Close ∷ ts) (more_events parameter_events xs q)
 complete_more [] u first parts zs at ts q = ap (λ (a : List Syntax). logged (s.Done (Whole (node p.Params first at a)) ∷ zs) at (c.Close ∷ ts) q) (sym (append-nil parts))
 complete_more (x ∷ xs) u first parts zs at ts q =
     let y = parameter_end (at + 1) x in
@@ -196,8 +196,8 @@ complete_more (x ∷ xs) u first parts zs at ts q =
     ∙ next_part p.Params first 0 a (w.Optional o.Parameters ∷ []) (parameter_node (at + 1) x) zs y after_parameter r (parameter_events x (Outside ∷ q)) (more_parameters xs ts)
     ∙ complete_more xs u.1 first (a ++ parameter_node (at + 1) x ∷ []) zs y ts (parameter_events x (Outside ∷ q))
     ∙ ap (λ (b : List Syntax). logged (s.Done (Whole (node p.Params first (more_end parameter_end y xs) b)) ∷ zs) (more_end parameter_end y xs) (c.Close ∷ ts) (more_events parameter_events xs (parameter_events x (Outside ∷ q))))
-      (append_assoc a (parameter_node (at + 1) x ∷ []) (more_parts parameter_end parameter_node y xs)
-       ∙ append_assoc parts (leaf at ∷ []) (parameter_node (at + 1) x ∷ more_parts parameter_end parameter_node y xs))
+    (append_assoc a (parameter_node (at + 1) x ∷ []) (more_parts parameter_end parameter_node y xs)
+    ∙ append_assoc parts (leaf at ∷ []) (parameter_node (at + 1) x ∷ more_parts parameter_end parameter_node y xs))
 
 local_no_close : (t : Class) → starts_local t ≡ true → same c.Close t ≡ false
 local_no_close c.Close h = cc
@@ -238,8 +238,8 @@ complete_function_end (Some (Braces xs)) u first parts zs at f ts q h =
 -- behind the bracket that its parameters begin with
 complete_function_rest : (xs : Parameters) (b : Option Block) → FitsParameters xs → FitsBody b → (first : ℕ) (parts : List Syntax) (zs : Frames) (at : ℕ) (f : Class → Bool) (ts : List Class) (q : List Event) → HeadIs f ts
     → logged (rest p.Function first 0 parts (w.Parameters ∷ w.Token c.Close ∷ w.FunctionEnd ∷ []) ∷ zs) at (parameters_tokens xs (c.Close ∷ body_tokens b ts)) q
-      ≡ logged (s.Done (Whole (node p.Function first (body_end (parameters_end at xs + 1) b) (((parts ++ parameters_node at xs ∷ []) ++ leaf (parameters_end at xs) ∷ []) ++ body_node (parameters_end at xs + 1) b ∷ []))) ∷ zs)
-        (body_end (parameters_end at xs + 1) b) ts (body_events b (Outside ∷ parameters_events xs q))
+    ≡ logged (s.Done (Whole (node p.Function first (body_end (parameters_end at xs + 1) b) (((parts ++ parameters_node at xs ∷ []) ++ leaf (parameters_end at xs) ∷ []) ++ body_node (parameters_end at xs + 1) b ∷ []))) ∷ zs)
+    (body_end (parameters_end at xs + 1) b) ts (body_events b (Outside ∷ parameters_events xs q))
 complete_function_rest xs b u v first parts zs at f ts q h =
     complete_parameters xs u p.Function first 0 parts (w.Token c.Close ∷ w.FunctionEnd ∷ []) zs at (body_tokens b ts) q
     ∙ complete_function_end b v first ((parts ++ parameters_node at xs ∷ []) ++ leaf (parameters_end at xs) ∷ []) zs (parameters_end at xs + 1) f ts (Outside ∷ parameters_events xs q) h
@@ -252,20 +252,20 @@ external_type first parts zs at _ h = refl
 -- the result, the name and the bracket behind it
 complete_result : (n : Option NumberType) (first : ℕ) (parts : List Syntax) (zs : Frames) (at : ℕ) (ts : List Class) (q : List Event)
     → via (at_external first parts zs) at (result_tokens n (c.Name ∷ c.Open ∷ ts)) q
-      ≡ logged (rest p.Function first 0 (parts ++ result_node at n ∷ leaf (result_end at n) ∷ leaf (result_end at n + 1) ∷ []) (w.Parameters ∷ w.Token c.Close ∷ w.FunctionEnd ∷ []) ∷ zs)
-        (result_end at n + 1 + 1) ts (Outside ∷ Outside ∷ result_events n q)
+    ≡ logged (rest p.Function first 0 (parts ++ result_node at n ∷ leaf (result_end at n) ∷ leaf (result_end at n + 1) ∷ []) (w.Parameters ∷ w.Token c.Close ∷ w.FunctionEnd ∷ []) ∷ zs)
+    (result_end at n + 1 + 1) ts (Outside ∷ Outside ∷ result_events n q)
 complete_result None first parts zs at ts q =
     ap (λ (a : List Syntax). logged (rest p.Function first 0 a (w.Parameters ∷ w.Token c.Close ∷ w.FunctionEnd ∷ []) ∷ zs) (at + 1 + 1 + 1) ts (Outside ∷ Outside ∷ Outside ∷ q))
-      (append_assoc (parts ++ leaf at ∷ []) (leaf (at + 1) ∷ []) (leaf (at + 1 + 1) ∷ []) ∙ append_assoc parts (leaf at ∷ []) (leaf (at + 1) ∷ leaf (at + 1 + 1) ∷ []))
+    (append_assoc (parts ++ leaf at ∷ []) (leaf (at + 1) ∷ []) (leaf (at + 1 + 1) ∷ []) ∙ append_assoc parts (leaf at ∷ []) (leaf (at + 1) ∷ leaf (at + 1 + 1) ∷ []))
 complete_result (Some n) first parts zs at ts q =
     switch (at_external first parts zs) (at_type (s.TopType first parts at ∷ zs)) starts_type at (external_type first parts zs at) (type_tokens n (c.Name ∷ c.Open ∷ ts)) q (type_head n _)
     ∙ complete_number_type n (s.TopType first parts at ∷ zs) at (c.Name ∷ c.Open ∷ ts) q refl
 
 complete_external_function : (n : Option NumberType) (xs : Parameters) (b : Option Block) → FitsParameters xs → FitsBody b → (first : ℕ) (parts : List Syntax) (zs : Frames) (at : ℕ) (f : Class → Bool) (ts : List Class) (q : List Event) → HeadIs f ts
     → via (at_external first parts zs) at (result_tokens n (c.Name ∷ c.Open ∷ parameters_tokens xs (c.Close ∷ body_tokens b ts))) q
-      ≡ logged (s.Done (Whole (node p.Function first (body_end (parameters_end (result_end at n + 1 + 1) xs + 1) b)
-        ((((parts ++ result_node at n ∷ leaf (result_end at n) ∷ leaf (result_end at n + 1) ∷ []) ++ parameters_node (result_end at n + 1 + 1) xs ∷ []) ++ leaf (parameters_end (result_end at n + 1 + 1) xs) ∷ []) ++ body_node (parameters_end (result_end at n + 1 + 1) xs + 1) b ∷ []))) ∷ zs)
-        (body_end (parameters_end (result_end at n + 1 + 1) xs + 1) b) ts (body_events b (Outside ∷ parameters_events xs (Outside ∷ Outside ∷ result_events n q)))
+    ≡ logged (s.Done (Whole (node p.Function first (body_end (parameters_end (result_end at n + 1 + 1) xs + 1) b)
+    ((((parts ++ result_node at n ∷ leaf (result_end at n) ∷ leaf (result_end at n + 1) ∷ []) ++ parameters_node (result_end at n + 1 + 1) xs ∷ []) ++ leaf (parameters_end (result_end at n + 1 + 1) xs) ∷ []) ++ body_node (parameters_end (result_end at n + 1 + 1) xs + 1) b ∷ []))) ∷ zs)
+    (body_end (parameters_end (result_end at n + 1 + 1) xs + 1) b) ts (body_events b (Outside ∷ parameters_events xs (Outside ∷ Outside ∷ result_events n q)))
 complete_external_function n xs b u v first parts zs at f ts q h =
     complete_result n first parts zs at (parameters_tokens xs (c.Close ∷ body_tokens b ts)) q
     ∙ complete_function_rest xs b u v first (parts ++ result_node at n ∷ leaf (result_end at n) ∷ leaf (result_end at n + 1) ∷ []) zs (result_end at n + 1 + 1) f ts (Outside ∷ Outside ∷ result_events n q) h

@@ -327,7 +327,7 @@ complete_label_node DefaultLabel u first level parts zs at ts q h =
 
 tested : (e : Expression) → FitsExpression e → (level : ℕ) (l : List Want) (zs : Frames) (at : ℕ) (r : List Class) (q : List Event)
     → logged (rest p.Plain at level (leaf at ∷ leaf (at + 1) ∷ []) (w.Full full.Expression ∷ w.Token c.Close ∷ l) ∷ zs) (at + 1 + 1) (expression_tokens e (c.Close ∷ r)) q
-      ≡ logged (rest p.Plain at level (leaf at ∷ leaf (at + 1) ∷ expression_node (at + 1 + 1) e ∷ leaf (expression_end (at + 1 + 1) e) ∷ []) l ∷ zs) (expression_end (at + 1 + 1) e + 1) r (Outside ∷ expression_events e q)
+    ≡ logged (rest p.Plain at level (leaf at ∷ leaf (at + 1) ∷ expression_node (at + 1 + 1) e ∷ leaf (expression_end (at + 1 + 1) e) ∷ []) l ∷ zs) (expression_end (at + 1 + 1) e + 1) r (Outside ∷ expression_events e q)
 tested e u level l zs at r q =
     full_run p.Plain at level (leaf at ∷ leaf (at + 1) ∷ []) (w.Token c.Close ∷ l) full.Expression zs (at + 1 + 1) (expression_tokens e (c.Close ∷ r)) q (head_of_expression e u _)
     ∙ full_expression e u (rest p.Plain at level (leaf at ∷ leaf (at + 1) ∷ []) (w.Token c.Close ∷ l) ∷ zs) (at + 1 + 1) (c.Close ∷ r) q refl refl
@@ -391,7 +391,7 @@ mutual
 
   complete_items : (xs : Items) → FitsItems xs → (first level : ℕ) (parts : List Syntax) (zs : Frames) (at : ℕ) (r : List Class) (q : List Event)
       → logged (rest p.Block first level parts (w.Items ∷ []) ∷ zs) at (items_tokens xs (c.CloseBlock ∷ r)) q
-        ≡ logged (rest p.Block first level (parts ++ (items_parts at xs ++ leaf (items_end at xs) ∷ [])) [] ∷ zs) (items_end at xs + 1) r (Outside ∷ items_events level xs q)
+      ≡ logged (rest p.Block first level (parts ++ (items_parts at xs ++ leaf (items_end at xs) ∷ [])) [] ∷ zs) (items_end at xs + 1) r (Outside ∷ items_events level xs q)
   complete_items NoItems u first level parts zs at r q = refl
   complete_items (LocalItem x xs) u first level parts zs at r q =
       let l = items_tokens xs (c.CloseBlock ∷ r) in
@@ -500,7 +500,7 @@ mutual
       ∙ complete_body x u.3 p.Plain at level a2 [] zs (k + 1) ts b2 (λ v g. complete_statement x u.3 (k + 1) v [] (rest p.Plain at level a2 [] ∷ zs) (k + 1) ts g h)
       ∙ last_part p.Plain at level a2 (statement_node (k + 1) x) zs (statement_end (k + 1) x) any ts (statement_events (level_within level x) x (opened_by level x b2)) (follows_any (is_statement_open x) ts h)
       ∙ ap (λ (l : List Syntax). logged (s.Done (Whole (node p.Plain at (statement_end (k + 1) x) l)) ∷ zs) (statement_end (k + 1) x) ts (statement_events (level_within level x) x (opened_by level x b2)))
-        (for_parts a (optional_parts i d) (leaf j) (optional_parts (j + 1) e) (leaf k) (statement_node (k + 1) x))
+      (for_parts a (optional_parts i d) (leaf j) (optional_parts (j + 1) e) (leaf k) (statement_node (k + 1) x))
   complete_plain Goto u level zs at ts q h = handed_on p.Plain at level (leaf at ∷ leaf (at + 1) ∷ leaf (at + 1 + 1) ∷ []) zs (at + 1 + 1 + 1) any ts (Outside ∷ Outside ∷ Outside ∷ q) (follows_any false ts h)
   complete_plain Break u level zs at ts q h = handed_on p.Plain at level (leaf at ∷ leaf (at + 1) ∷ []) zs (at + 1 + 1) any ts (Outside ∷ Outside ∷ q) (follows_any false ts h)
   complete_plain Continue u level zs at ts q h = handed_on p.Plain at level (leaf at ∷ leaf (at + 1) ∷ []) zs (at + 1 + 1) any ts (Outside ∷ Outside ∷ q) (follows_any false ts h)

@@ -141,7 +141,7 @@ pub unambiguous : (tokens : List Class) (x y : Syntax) → Derives tokens x → 
 unambiguous tokens x y d e =
     d.syntax_of
     ∙ same_node (file_node d.file) (file_node e.file) (Outside ∷ file_events d.file []) (Outside ∷ file_events e.file [])
-      (sym (complete_file d.file d.formed) ∙ ap (λ (l : List Class). logged start 0 l []) (d.spelled ∙ sym e.spelled) ∙ complete_file e.file e.formed)
+    (sym (complete_file d.file d.formed) ∙ ap (λ (l : List Class). logged start 0 l []) (d.spelled ∙ sym e.spelled) ∙ complete_file e.file e.formed)
     ∙ sym e.syntax_of
 
 -- what derives is accepted, with its syntax

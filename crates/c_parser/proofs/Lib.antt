@@ -5,13 +5,14 @@ mod CompleteDeclarations
 mod CompleteExpressions
 mod CompleteFiles
 mod CompleteStatements
-mod Decides
+pub mod Decides
 mod Ends
 mod Exact
 mod Founds
 mod Fronts
 mod Keeps
 mod Outcomes
+pub mod Reading
 pub mod Resumes
 pub mod Runs
 mod Tokens

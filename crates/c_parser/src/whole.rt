@@ -8,6 +8,7 @@ ghost use Rattle.c_lexer.specs.Pieces.{IsWithin};
 ghost use Rattle.c_parser.specs.Answers as answers;
 ghost use Rattle.c_parser.specs.Answers.{parsed};
 ghost use Rattle.c_parser.specs.Machine as spec;
+ghost use Rattle.c_parser.specs.Reads.{Reads};
 
 use crate::frame::Frame;
 use crate::load::{Load, Role};
@@ -131,10 +132,13 @@ fn run(alloc: Global, text: &[u8], tokens: &[Token]) -> Result<Syntax, ReadStop>
 /// the token that fits nowhere, or at the end of the text where a token is missing there; with
 /// reason 11 at the token that opens level 401 of nesting, or is counted token 401 of a full
 /// expression. The tokens may be any slices of the text.
+#[tactic(auto, using(crate::proofs::Reading::reads))]
 pub fn parse(alloc: Global, text: &[u8], tokens: &List<Token>) -> Result<Syntax, ReadStop>
     requires { All (λ token. IsWithin text.now token.start token.end) tokens.now }
     // What reading the tokens one by one gives, or want of memory.
     ensures read { Gives (λ syntax. syntax) result (parsed text.now tokens.now) }
+    // What the grammar says of them.
+    ensures derived { Reads text.now tokens.now result }
 {
     if tokens.len() >= MOST {
         return Err(ReadStop::Memory);
