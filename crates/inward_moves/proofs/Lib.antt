@@ -1,0 +1,5 @@
+pub mod SpotLemmas
+pub mod CaseLemmas
+pub mod FreeNumbers
+pub mod Standing
+pub mod WayLemmas
