@@ -6,6 +6,7 @@ ghost use Rattle.c_tree.specs.Outward.{HasBranch};
 ghost use Rattle.c_tree.specs.Paths.{child as the_child, list_at};
 ghost use Rattle.c_tree.specs.Trees.{trees_of};
 ghost use Rattle.c_tree.specs.WellMade.{IsWellMade};
+ghost use Rattle.move_core.specs.Bodies.{KeepsBehaviour};
 ghost use Rattle.inward_moves.specs.Entering.{LeadsTo, IsHeldAfter, IsMovedIn};
 
 use crate::entering::{Spare, enter, make_spare};
@@ -145,6 +146,7 @@ pub fn move_in(alloc: Global, body: &mut List<Item>, at: &Path) -> Result<Path, 
     requires { IsHeldAfter body.old at.now }
     ensures ok { IfOk result (λ to. IsMovedIn at.now body.old body.new to) }
     ensures well_made { OnOk result (IsWellMade (trees_of body.new)) }
+    ensures behaviour { OnOk result (KeepsBehaviour body.old body.new) }
     ensures err { OnErr result (body.new ≡ body.old) }
 {
     let way = way_at(alloc, body, at)?;

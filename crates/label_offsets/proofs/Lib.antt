@@ -7,3 +7,4 @@ pub mod FirstFound
 pub mod Still
 pub mod HeldLaws
 pub mod MarkLaws
+pub mod PlaceLaws

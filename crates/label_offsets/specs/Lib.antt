@@ -2,3 +2,4 @@ pub mod Leaps
 pub mod Offset
 pub mod Relation
 pub mod Marks
+pub mod Standing

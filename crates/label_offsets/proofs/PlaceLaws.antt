@@ -1,0 +1,90 @@
+-- The Land that a search finds, and what it says where it finds none.
+use Rattle.std.proofs.Common.{◌≡◌, ℕ, ◌+◌, ◌<◌, List, [], ◌∷◌, Some, inl, inr, true, length, drop, get_or, slice_get, option_map, option_and_then, refl, sym, ap, subst, ◌∙◌}
+use Rattle.std.proofs.lemmas.List.{at_drop_more}
+use Rattle.std.proofs.lemmas.Option.{slice_get-get_or}
+use Rattle.c_tree.specs.declared.tree.Item.{Item, Item-F, Land, out-Item}
+use Rattle.c_tree.specs.declared.tree.Item.TheOpen as O
+use Rattle.c_tree.specs.declared.tree.Section.{Section}
+use Rattle.c_tree.specs.declared.tree.Branch.{Branch}
+use Rattle.c_tree.specs.declared.tree.Branch.TheVariants as B
+use Rattle.c_tree.specs.declared.tree.Path.{Path}
+use Rattle.c_tree.specs.declared.tree.Step.{Step}
+use Rattle.c_tree.specs.Paths.{list_of, child_F, child, list_at, item_at}
+use Rattle.c_tree.specs.Trees.{Tree, SectionTree, tree_of, trees_of, sections_of}
+use Rattle.c_tree.specs.Everywhere.{Everywhere, EverywhereOf, EverywhereIn}
+use Rattle.c_tree.specs.WellMade.{IsPlainFor}
+use Rattle.c_tree.proofs.TreeLaws.{trees-more, sections-more, section-parts}
+use Rattle.c_tree.proofs.ChangeLemmas.{layer_tree, tree-out}
+use Rattle.c_tree.proofs.RuleChanges.{held_some}
+use Rattle.label_offsets.specs.Marks.{is_land}
+use Rattle.label_offsets.specs.Standing.{IsPlaceOf, IsUnder, IsInside_F, IsInside, HasPlainFors_F, HasPlainFors}
+use Rattle.label_offsets.proofs.HeldLaws.{land-is}
+
+-- the Land is an item of the list itself
+pub place_here : (l : ℕ) (xs : List Item) (i : ℕ) (x : Item) (ss : List Step) → i < length xs → x ≡ get_or xs i x → is_land l x ≡ true → ss ≡ []
+    → item_at xs ss i ≡ Some (Land l)
+place_here l xs i x ss h e t f =
+    subst (λ (z : List Step). item_at xs z i ≡ Some (Land l)) (sym f) (slice_get-get_or xs i x h ∙ ap Some (sym e ∙ land-is l x t))
+
+-- it stands in an item
+
+under_place : (l k : ℕ) (b : Branch) (a : List Item) (x : Item) (xs : List Item) (p : Path) → slice_get xs k ≡ Some x → child b x ≡ Some a → IsUnder l k b a p → IsPlaceOf l xs p
+under_place l k b a x xs p e f u =
+    let within : list_at xs (record { item = k; branch = b } ∷ u.rest) ≡ list_at a u.rest =
+    ap (option_and_then (λ x. option_and_then (λ a. list_at a u.rest) (child b x))) e ∙ ap (option_and_then (λ a. list_at a u.rest)) f in
+    ap (λ (z : List Step). item_at xs z p.item) u.steps ∙ ap (option_and_then (λ z. slice_get z p.item)) within ∙ u.land
+
+record Way (l k : ℕ) (y : Item-F Item Section) (p : Path) : Type 0 where
+  branch : Branch
+  list : List Item
+  there : child_F branch y ≡ Some list
+  under : IsUnder l k branch list p
+
+way : (l k : ℕ) (y : Item-F Item Section) (p : Path) → IsInside_F l k y p → Way l k y p
+way l k (O.If t a b) p h = elim h [
+  | inl u ↦ record { branch = B.Then; list = a; there = refl; under = u }
+  | inr u ↦ record { branch = B.Else; list = b; there = refl; under = u }
+]
+way l k (O.While t a) p h = record { branch = B.Body; list = a; there = refl; under = h }
+way l k (O.Do a t) p h = record { branch = B.Body; list = a; there = refl; under = h }
+way l k (O.For f t u a) p h = record { branch = B.Body; list = a; there = refl; under = h }
+way l k (O.Block a) p h = record { branch = B.Body; list = a; there = refl; under = h }
+way l k (O.Switch s cs) p h =
+    let q = held_some (λ c. IsUnder l k (B.Section h.section) (list_of c) p) (slice_get cs h.section) h.under in
+    record { branch = B.Section h.section; list = list_of q.0; there = ap (option_map list_of) q.1; under = q.2 }
+way l k _ p h = absurd h
+
+pub place_inside : (l k : ℕ) (x : Item) (xs : List Item) (p : Path) → k < length xs → x ≡ get_or xs k x → IsInside l k x p → IsPlaceOf l xs p
+place_inside l k x xs p h e i =
+    let w = way l k (out-Item x) p i in
+    under_place l k w.branch w.list x xs p (slice_get-get_or xs k x h ∙ ap Some (sym e)) w.there w.under
+
+-- what holds everywhere holds of each item
+
+pub everywhere_more : (P : Tree → Type 0) (xs : List Item) (i : ℕ) (x : Item) → i < length xs → x ≡ get_or xs i x
+    → Everywhere P (trees_of (drop i xs)) → EverywhereOf P (tree_of x) × Everywhere P (trees_of (drop (i + 1) xs))
+everywhere_more P xs i x h e q =
+    subst (λ z. EverywhereOf P (tree_of z) × Everywhere P (trees_of (drop (i + 1) xs))) (sym e)
+    (subst (Everywhere P) (at_drop_more trees_of xs i x h ∙ trees-more (get_or xs i x) (drop (i + 1) xs)) q)
+
+pub everywhere_more_in : (P : Tree → Type 0) (cs : List Section) (k : ℕ) (c : Section) → k < length cs → c ≡ get_or cs k c
+    → EverywhereIn P (sections_of (drop k cs)) → Everywhere P (trees_of (list_of c)) × EverywhereIn P (sections_of (drop (k + 1) cs))
+everywhere_more_in P cs k c h e q =
+    let rest = EverywhereIn P (sections_of (drop (k + 1) cs)) in
+    let first = get_or cs k c in
+    subst (λ z. Everywhere P (trees_of (list_of z)) × rest) (sym e)
+    (subst (λ (z : SectionTree). Everywhere P z.list × rest) (section-parts first)
+    (subst (EverywhereIn P) (at_drop_more sections_of cs k c h ∙ sections-more first (drop (k + 1) cs)) q))
+
+plain_layer : (y : Item-F Item Section) → EverywhereOf IsPlainFor (layer_tree y) → HasPlainFors_F y
+unfolding trees_of sections_of
+plain_layer (O.If t a b) h = (h.1, h.2)
+plain_layer (O.While t a) h = h.1
+plain_layer (O.Do a t) h = h.1
+plain_layer (O.For f t u a) h = (h.0.0, h.2)
+plain_layer (O.Switch s cs) h = h.1
+plain_layer (O.Block a) h = h.1
+plain_layer _ h = tt
+
+pub plain_inside : (x : Item) → EverywhereOf IsPlainFor (tree_of x) → HasPlainFors x
+plain_inside x h = plain_layer (out-Item x) (subst (EverywhereOf IsPlainFor) (tree-out x) h)
