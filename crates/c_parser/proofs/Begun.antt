@@ -37,6 +37,20 @@ abbrev pub HeadIsNot : (Class → Bool) → List Class → Type 0
 HeadIsNot f [] = ⊥
 HeadIsNot f (t ∷ l) = f t ≡ false
 
+-- any token at all
+abbrev pub any : Class → Bool
+any t = true
+
+-- a list of which the first token is of a kind has a first token
+pub some_first : (f : Class → Bool) (l : List Class) → HeadIs f l → HeadIs any l
+some_first f [] h = h
+some_first f (t ∷ l) h = refl
+
+-- and so has one of which it isn't
+pub other_first : (f : Class → Bool) (l : List Class) → HeadIsNot f l → HeadIs any l
+other_first f [] h = h
+other_first f (t ∷ l) h = refl
+
 -- the run of which the first token does this
 abbrev pub via : (Class → ℕ → Next) → ℕ → List Class → List Event → Trace
 via f at [] q = Stuck at

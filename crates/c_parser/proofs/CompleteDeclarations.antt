@@ -15,6 +15,7 @@ use Rattle.c_grammar.specs.StatementSyntax.{more_end, rest_end, optional_end, si
 use Rattle.c_grammar.specs.Counts.{type_events, expression_events, assignment_events, conditional_events, optional_events, more_events, rest_events, size_events, initialiser_events, value_events, declarator_events, local_events}
 use Rattle.c_parser.specs.declared.form.Want.{Want}
 use Rattle.c_parser.specs.declared.form.Want.TheVariants as w
+use Rattle.c_parser.specs.declared.form.Lead.{Lead}
 use Rattle.c_parser.specs.declared.form.Lead.TheVariants as o
 use Rattle.c_parser.specs.declared.form.Member.TheVariants as m
 use Rattle.c_parser.specs.declared.frame.Found.TheVariants.{Whole}
@@ -22,6 +23,7 @@ use Rattle.c_parser.specs.declared.frame.Full.TheVariants as full
 use Rattle.c_parser.specs.declared.frame.Frame.TheVariants as s
 use Rattle.c_parser.specs.Tests.{is_comma, is_base, starts_local, same}
 use Rattle.c_parser.specs.Starts.{Frames, rest, behind_full, declarators, at_type, at_full, at_local, at_initialiser}
+use Rattle.c_parser.specs.Machine.{leader}
 use Rattle.c_parser.proofs.Tokens.{is_closer}
 use Rattle.c_parser.proofs.Traces.{logged}
 use Rattle.c_parser.proofs.CompleteExpressions.{starts, Headed, head_of_expression, head_of_assignment, head_of_conditional}
@@ -95,15 +97,28 @@ length_run : (rule : Production) (first n : ℕ) (parts : List Syntax) (l : List
 length_run rule first n parts l zs at [] q h = absurd h
 length_run rule first n parts l zs at (t ∷ ts) q h = rw (close_index_other t h)
 
-no_size : (rule : Production) (first n : ℕ) (parts : List Syntax) (l : List Want) (zs : Frames) (at : ℕ) (ts : List Class) (q : List Event) → HeadIsNot (same c.OpenIndex) ts
-    → logged (rest rule first n parts (w.Optional o.Size ∷ l) ∷ zs) at ts q ≡ logged (rest rule first n parts l ∷ zs) at ts q
-no_size rule first n parts l zs at [] q h = absurd h
-no_size rule first n parts l zs at (t ∷ ts) q h = rw h
+-- what may be left out is, in front of another token
+pub left_out : (x : Lead) (rule : Production) (first n : ℕ) (parts : List Syntax) (l : List Want) (zs : Frames) (at : ℕ) (ts : List Class) (q : List Event) → HeadIsNot (same (leader x)) ts
+    → logged (rest rule first n parts (w.Optional x ∷ l) ∷ zs) at ts q ≡ logged (rest rule first n parts l ∷ zs) at ts q
+left_out x rule first n parts l zs at [] q h = absurd h
+left_out x rule first n parts l zs at (t ∷ ts) q h = rw h
+
+-- what was handed on is the last part
+pub last_part : (rule : Production) (first n : ℕ) (parts : List Syntax) (v : Syntax) (zs : Frames) (at : ℕ) (f : Class → Bool) (ts : List Class) (q : List Event) → HeadIs f ts
+    → logged (s.Done (Whole v) ∷ rest rule first n parts [] ∷ zs) at ts q ≡ logged (s.Done (Whole (node rule first at (parts ++ v ∷ []))) ∷ zs) at ts q
+last_part rule first n parts v zs at f [] q h = absurd h
+last_part rule first n parts v zs at f (t ∷ ts) q h = refl
+
+-- what was handed on is the next part
+pub next_part : (rule : Production) (first n : ℕ) (parts : List Syntax) (l : List Want) (v : Syntax) (zs : Frames) (at : ℕ) (f : Class → Bool) (ts : List Class) (q : List Event) → HeadIs f ts
+    → logged (s.Done (Whole v) ∷ rest rule first n parts l ∷ zs) at ts q ≡ logged (rest rule first n (parts ++ v ∷ []) l ∷ zs) at ts q
+next_part rule first n parts l v zs at f [] q h = absurd h
+next_part rule first n parts l v zs at f (t ∷ ts) q h = refl
 
 -- a size that may be left out, in front of no `[`
 pub complete_size : (x : Size) → FitsSize x → (rule : Production) (first n : ℕ) (parts : List Syntax) (l : List Want) (zs : Frames) (at : ℕ) (ts : List Class) (q : List Event) → HeadIsNot (same c.OpenIndex) ts
     → logged (rest rule first n parts (w.Optional o.Size ∷ l) ∷ zs) at (size_tokens x ts) q ≡ logged (rest rule first n (parts ++ size_parts at x) l ∷ zs) (size_end at x) ts (size_events x q)
-complete_size NoSize u rule first n parts l zs at ts q h = no_size rule first n parts l zs at ts q h ∙ bare_parts rule first n parts l zs at ts q
+complete_size NoSize u rule first n parts l zs at ts q h = left_out o.Size rule first n parts l zs at ts q h ∙ bare_parts rule first n parts l zs at ts q
 complete_size Unsized u rule first n parts l zs at ts q h =
     ap (λ (a : List Syntax). logged (rest rule first n a l ∷ zs) (at + 1 + 1) ts (Outside ∷ Outside ∷ q)) (append_assoc parts (leaf at ∷ []) (leaf (at + 1) ∷ []))
 complete_size (Sized d) u rule first n parts l zs at ts q h =
@@ -125,12 +140,6 @@ next_run : (rule : Production) (first n : ℕ) (parts : List Syntax) (l : List W
 next_run rule first n parts l zs at [] q h = absurd h
 next_run rule first n parts l zs at (t ∷ ts) q h = rw (close_block_other t h)
 
--- what was handed on is the next part
-given_tail : (rule : Production) (first n : ℕ) (parts : List Syntax) (l : List Want) (v : Syntax) (zs : Frames) (at : ℕ) (ts : List Class) (q : List Event) → HeadIs is_closer ts
-    → logged (s.Done (Whole v) ∷ rest rule first n parts l ∷ zs) at ts q ≡ logged (rest rule first n (parts ++ v ∷ []) l ∷ zs) at ts q
-given_tail rule first n parts l v zs at [] q h = absurd h
-given_tail rule first n parts l v zs at (t ∷ ts) q h = refl
-
 complete_values : (xs : List Assignment) (trailing : Bool) → FitsMore FitsAssignment xs → (rule : Production) (first n : ℕ) (parts : List Syntax) (l : List Want) (zs : Frames) (at : ℕ) (r : List Class) (q : List Event)
     → logged (rest rule first n parts (w.Tail m.Value ∷ l) ∷ zs) at (rest_tokens assignment_tokens xs trailing r) q ≡ logged (rest rule first n (parts ++ rest_parts assignment_end assignment_node at xs trailing) l ∷ zs) (rest_end assignment_end at xs trailing) r (rest_events assignment_events xs trailing q)
 complete_values [] false u rule first n parts l zs at r q = refl
@@ -139,7 +148,7 @@ complete_values [] true u rule first n parts l zs at r q =
 complete_values (x ∷ xs) trailing u rule first n parts l zs at r q =
     next_run rule first n (parts ++ leaf at ∷ []) l zs (at + 1) (assignment_tokens x (rest_tokens assignment_tokens xs trailing r)) (Outside ∷ q) (head_of_assignment x u.0 _)
     ∙ full_assignment x u.0 (rest rule first n (parts ++ leaf at ∷ []) (w.Tail m.Value ∷ l) ∷ zs) (at + 1) (rest_tokens assignment_tokens xs trailing r) (Outside ∷ q) (tail_closer assignment_tokens xs trailing r)
-    ∙ given_tail rule first n (parts ++ leaf at ∷ []) (w.Tail m.Value ∷ l) (assignment_node (at + 1) x) zs (assignment_end (at + 1) x) (rest_tokens assignment_tokens xs trailing r) (assignment_events x (Outside ∷ q)) (tail_closer assignment_tokens xs trailing r)
+    ∙ next_part rule first n (parts ++ leaf at ∷ []) (w.Tail m.Value ∷ l) (assignment_node (at + 1) x) zs (assignment_end (at + 1) x) is_closer (rest_tokens assignment_tokens xs trailing r) (assignment_events x (Outside ∷ q)) (tail_closer assignment_tokens xs trailing r)
     ∙ complete_values xs trailing u.1 rule first n ((parts ++ leaf at ∷ []) ++ assignment_node (at + 1) x ∷ []) l zs (assignment_end (at + 1) x) r (assignment_events x (Outside ∷ q))
     ∙ ap (λ (a : List Syntax). logged (rest rule first n a l ∷ zs) (rest_end assignment_end (assignment_end (at + 1) x) xs trailing) r (rest_events assignment_events xs trailing (assignment_events x (Outside ∷ q))))
     (append_assoc (parts ++ leaf at ∷ []) (assignment_node (at + 1) x ∷ []) (rest_parts assignment_end assignment_node (assignment_end (at + 1) x) xs trailing) ∙ append_assoc parts (leaf at ∷ []) (assignment_node (at + 1) x ∷ rest_parts assignment_end assignment_node (assignment_end (at + 1) x) xs trailing))
@@ -157,13 +166,8 @@ complete_initialiser_node (OneValue a) u zs at t r q h =
 complete_initialiser_node (ValueList a xs trailing) u zs at t r q h =
     full_run p.Initialiser at 0 (leaf at ∷ []) (w.Tail m.Value ∷ []) full.Assignment zs (at + 1) (assignment_tokens a (rest_tokens assignment_tokens xs trailing (t ∷ r))) (Outside ∷ q) (head_of_assignment a u.0 _)
     ∙ full_assignment a u.0 (rest p.Initialiser at 0 (leaf at ∷ []) (w.Tail m.Value ∷ []) ∷ zs) (at + 1) (rest_tokens assignment_tokens xs trailing (t ∷ r)) (Outside ∷ q) (tail_closer assignment_tokens xs trailing (t ∷ r))
-    ∙ given_tail p.Initialiser at 0 (leaf at ∷ []) (w.Tail m.Value ∷ []) (assignment_node (at + 1) a) zs (assignment_end (at + 1) a) (rest_tokens assignment_tokens xs trailing (t ∷ r)) (assignment_events a (Outside ∷ q)) (tail_closer assignment_tokens xs trailing (t ∷ r))
+    ∙ next_part p.Initialiser at 0 (leaf at ∷ []) (w.Tail m.Value ∷ []) (assignment_node (at + 1) a) zs (assignment_end (at + 1) a) is_closer (rest_tokens assignment_tokens xs trailing (t ∷ r)) (assignment_events a (Outside ∷ q)) (tail_closer assignment_tokens xs trailing (t ∷ r))
     ∙ complete_values xs trailing u.1 p.Initialiser at 0 (leaf at ∷ assignment_node (at + 1) a ∷ []) [] zs (assignment_end (at + 1) a) (t ∷ r) (assignment_events a (Outside ∷ q))
-
-no_value : (rule : Production) (first n : ℕ) (parts : List Syntax) (l : List Want) (zs : Frames) (at : ℕ) (ts : List Class) (q : List Event) → HeadIsNot (same c.Equals) ts
-    → logged (rest rule first n parts (w.Optional o.Value ∷ l) ∷ zs) at ts q ≡ logged (rest rule first n parts l ∷ zs) at ts q
-no_value rule first n parts l zs at [] q h = absurd h
-no_value rule first n parts l zs at (t ∷ ts) q h = rw h
 
 initialiser_run : (rule : Production) (first n : ℕ) (parts : List Syntax) (l : List Want) (zs : Frames) (at : ℕ) (f : Class → Bool) (ts : List Class) (q : List Event) → HeadIs f ts
     → logged (rest rule first n parts (w.Initialiser ∷ l) ∷ zs) at ts q ≡ via (at_initialiser (rest rule first n parts l ∷ zs)) at ts q
@@ -215,11 +219,11 @@ complete_initialiser x u zs at (t ∷ ts) q h = complete_initialiser_node x u zs
 
 complete_value : (x : Option Initialiser) → FitsValue x → (rule : Production) (first n : ℕ) (parts : List Syntax) (l : List Want) (zs : Frames) (at : ℕ) (ts : List Class) (q : List Event) → HeadIs is_separator ts
     → logged (rest rule first n parts (w.Optional o.Value ∷ l) ∷ zs) at (value_tokens x ts) q ≡ logged (rest rule first n (parts ++ value_parts at x) l ∷ zs) (value_end at x) ts (value_events x q)
-complete_value None u rule first n parts l zs at ts q h = no_value rule first n parts l zs at ts q (separator_no_equals ts h) ∙ bare_parts rule first n parts l zs at ts q
+complete_value None u rule first n parts l zs at ts q h = left_out o.Value rule first n parts l zs at ts q (separator_no_equals ts h) ∙ bare_parts rule first n parts l zs at ts q
 complete_value (Some i) u rule first n parts l zs at ts q h =
     initialiser_run rule first n (parts ++ leaf at ∷ []) l zs (at + 1) starts_initialiser (initialiser_tokens i ts) (Outside ∷ q) (initialiser_head i u ts)
     ∙ complete_initialiser i u (rest rule first n (parts ++ leaf at ∷ []) l ∷ zs) (at + 1) ts (Outside ∷ q) (separator_closer ts h)
-    ∙ given_tail rule first n (parts ++ leaf at ∷ []) l (initialiser_node (at + 1) i) zs (initialiser_end (at + 1) i) ts (initialiser_events i (Outside ∷ q)) (separator_closer ts h)
+    ∙ next_part rule first n (parts ++ leaf at ∷ []) l (initialiser_node (at + 1) i) zs (initialiser_end (at + 1) i) is_closer ts (initialiser_events i (Outside ∷ q)) (separator_closer ts h)
     ∙ ap (λ (a : List Syntax). logged (rest rule first n a l ∷ zs) (initialiser_end (at + 1) i) ts (initialiser_events i (Outside ∷ q))) (append_assoc parts (leaf at ∷ []) (initialiser_node (at + 1) i ∷ []))
 
 value_no_index : (x : Option Initialiser) (ts : List Class) → HeadIs is_separator ts → HeadIsNot (same c.OpenIndex) (value_tokens x ts)
@@ -245,12 +249,7 @@ complete_declarator : (x : Declarator) → FitsDeclarator x → (rule : Producti
     → logged (rest rule first n parts (w.Declarator ∷ l) ∷ zs) at (declarator_tokens x ts) q ≡ logged (rest rule first n (parts ++ declarator_node at x ∷ []) l ∷ zs) (declarator_end at x) ts (declarator_events x q)
 complete_declarator (Declared size value) u rule first n parts l zs at ts q h =
     complete_declared size value u.0 u.1 at 0 (leaf at ∷ []) (rest rule first n parts l ∷ zs) (at + 1) ts (Outside ∷ q) h
-    ∙ given_tail rule first n parts l (declarator_node at (Declared size value)) zs (declarator_end at (Declared size value)) ts (declarator_events (Declared size value) q) (separator_closer ts h)
-
-no_more : (rule : Production) (first n : ℕ) (parts : List Syntax) (l : List Want) (zs : Frames) (at : ℕ) (ts : List Class) (q : List Event) → HeadIsNot (same c.Comma) ts
-    → logged (rest rule first n parts (w.Optional o.Declarators ∷ l) ∷ zs) at ts q ≡ logged (rest rule first n parts l ∷ zs) at ts q
-no_more rule first n parts l zs at [] q h = absurd h
-no_more rule first n parts l zs at (t ∷ ts) q h = rw h
+    ∙ next_part rule first n parts l (declarator_node at (Declared size value)) zs (declarator_end at (Declared size value)) is_closer ts (declarator_events (Declared size value) q) (separator_closer ts h)
 
 -- behind a declarator stands a comma or `;`
 pub declarators_head : (ds : List Declarator) (r : List Class) → HeadIs is_separator (more_tokens declarator_tokens ds (c.Semicolon ∷ r))
@@ -295,10 +294,11 @@ not_const : (zs : Frames) (at : ℕ) (t : Class) → starts_type t ≡ true → 
 not_const zs at c.Const h = cc
 not_const zs at _ h = refl
 
-type_wanted : (first : ℕ) (parts : List Syntax) (l : List Want) (zs : Frames) (at : ℕ) (ts : List Class) (q : List Event) → HeadIs starts_type ts
-    → logged (rest p.Local first 0 parts (w.Type ∷ l) ∷ zs) at ts q ≡ via (at_type (rest p.Local first 0 parts l ∷ zs)) at ts q
-type_wanted first parts l zs at [] q h = absurd h
-type_wanted first parts l zs at (t ∷ ts) q h = refl
+-- the first token of a type that is awaited
+pub type_wanted : (rule : Production) (first n : ℕ) (parts : List Syntax) (l : List Want) (zs : Frames) (at : ℕ) (ts : List Class) (q : List Event) → HeadIs starts_type ts
+    → logged (rest rule first n parts (w.Type ∷ l) ∷ zs) at ts q ≡ via (at_type (rest rule first n parts l ∷ zs)) at ts q
+type_wanted rule first n parts l zs at [] q h = absurd h
+type_wanted rule first n parts l zs at (t ∷ ts) q h = refl
 
 -- a declaration that has these parts behind which the type stands
 pub local_typed : (n : NumberType) (d : Declarator) (ds : List Declarator) → FitsDeclarator d → FitsMore FitsDeclarator ds → (first : ℕ) (parts : List Syntax) (zs : Frames) (at : ℕ) (f : Class → Bool) (ts : List Class) (q : List Event) → HeadIs f ts
@@ -316,7 +316,7 @@ local_typed n d ds u v first parts zs at f ts q h =
 pub complete_local : (x : Local) → FitsLocal x → (zs : Frames) (at : ℕ) (f : Class → Bool) (ts : List Class) (q : List Event) → HeadIs f ts
     → via (at_local zs) at (local_tokens x ts) q ≡ logged (s.Done (Whole (local_node at x)) ∷ zs) (local_end at x) ts (local_events x q)
 complete_local (Locals true n d ds) u zs at f ts q h =
-    type_wanted at (leaf at ∷ []) declarators zs (at + 1) (type_tokens n (declarator_tokens d (more_tokens declarator_tokens ds (c.Semicolon ∷ ts)))) (Outside ∷ q) (type_head n _)
+    type_wanted p.Local at 0 (leaf at ∷ []) declarators zs (at + 1) (type_tokens n (declarator_tokens d (more_tokens declarator_tokens ds (c.Semicolon ∷ ts)))) (Outside ∷ q) (type_head n _)
     ∙ local_typed n d ds u.0 u.1 at (leaf at ∷ []) zs (at + 1) f ts (Outside ∷ q) h
 complete_local (Locals false n d ds) u zs at f ts q h =
     switch (at_local zs) (at_type (rest p.Local at 0 [] declarators ∷ zs)) starts_type at (not_const zs at) (type_tokens n (declarator_tokens d (more_tokens declarator_tokens ds (c.Semicolon ∷ ts)))) q (type_head n _)

@@ -28,14 +28,9 @@ use Rattle.c_parser.specs.Machine.{declared, start}
 use Rattle.c_parser.proofs.Tokens.{is_closer}
 use Rattle.c_parser.proofs.Traces.{Through, logged}
 use Rattle.c_parser.proofs.CompleteExpressions.{head_of_conditional}
-use Rattle.c_parser.proofs.Begun.{HeadIs, HeadIsNot, via, switch, full_conditional, full_run, starts_type, complete_number_type, type_head}
-use Rattle.c_parser.proofs.CompleteDeclarations.{bare_parts, complete_size, tail_closer, handed_on, complete_declared, declarators_head, complete_declarators, complete_local, type_local, local_head}
-use Rattle.c_parser.proofs.CompleteStatements.{any, last_part, next_part, complete_block}
-
--- a list with a first token of a kind has a first token
-some_first : (f : Class → Bool) (l : List Class) → HeadIs f l → HeadIs any l
-some_first f [] h = h
-some_first f (t ∷ l) h = refl
+use Rattle.c_parser.proofs.Begun.{any, some_first, other_first, HeadIs, HeadIsNot, via, switch, full_conditional, full_run, starts_type, complete_number_type, type_head}
+use Rattle.c_parser.proofs.CompleteDeclarations.{left_out, next_part, last_part, type_wanted, bare_parts, complete_size, tail_closer, handed_on, complete_declared, declarators_head, complete_declarators, complete_local, type_local, local_head}
+use Rattle.c_parser.proofs.CompleteStatements.{complete_block}
 
 -- ---- enumerations
 
@@ -44,14 +39,11 @@ closer_no_equals [] h = h
 closer_no_equals (c.Equals ∷ l) h = cc
 closer_no_equals (_ ∷ l) h = refl
 
-no_constant : (first : ℕ) (parts : List Syntax) (zs : Frames) (at : ℕ) (ts : List Class) (q : List Event) → HeadIsNot (same c.Equals) ts
-    → logged (rest p.Enumerator first 0 parts (w.Optional o.Constant ∷ []) ∷ zs) at ts q ≡ logged (s.Done (Whole (node p.Enumerator first at parts)) ∷ zs) at ts q
-no_constant first parts zs at [] q h = absurd h
-no_constant first parts zs at (t ∷ ts) q h = rw h
-
 complete_enumerator : (x : Option Conditional) → FitsConstant x → (zs : Frames) (at : ℕ) (ts : List Class) (q : List Event) → HeadIs is_closer ts
     → via (at_enumerator zs) at (enumerator_tokens x ts) q ≡ logged (s.Done (Whole (enumerator_node at x)) ∷ zs) (enumerator_end at x) ts (enumerator_events x q)
-complete_enumerator None u zs at ts q h = no_constant at (leaf at ∷ []) zs (at + 1) ts (Outside ∷ q) (closer_no_equals ts h)
+complete_enumerator None u zs at ts q h =
+    left_out o.Constant p.Enumerator at 0 (leaf at ∷ []) [] zs (at + 1) ts (Outside ∷ q) (closer_no_equals ts h)
+    ∙ handed_on p.Enumerator at 0 (leaf at ∷ []) zs (at + 1) is_closer ts (Outside ∷ q) h
 complete_enumerator (Some d) u zs at ts q h =
     full_run p.Enumerator at 0 (leaf at ∷ leaf (at + 1) ∷ []) [] full.Conditional zs (at + 1 + 1) (conditional_tokens d ts) (Outside ∷ Outside ∷ q) (head_of_conditional d u _)
     ∙ full_conditional d u (rest p.Enumerator at 0 (leaf at ∷ leaf (at + 1) ∷ []) [] ∷ zs) (at + 1 + 1) ts (Outside ∷ Outside ∷ q) h
@@ -121,19 +113,10 @@ type_ends false NoSize ts h = parameter_no_base ts h
 type_ends false Unsized ts h = refl
 type_ends false (Sized d) ts h = refl
 
-not_any_is : (f : Class → Bool) (l : List Class) → HeadIsNot f l → HeadIs any l
-not_any_is f [] h = h
-not_any_is f (t ∷ l) h = refl
-
-no_name : (rule : Production) (first n : ℕ) (parts : List Syntax) (l : List Want) (zs : Frames) (at : ℕ) (ts : List Class) (q : List Event) → HeadIsNot (same c.Name) ts
-    → logged (rest rule first n parts (w.Optional o.Name ∷ l) ∷ zs) at ts q ≡ logged (rest rule first n parts l ∷ zs) at ts q
-no_name rule first n parts l zs at [] q h = absurd h
-no_name rule first n parts l zs at (t ∷ ts) q h = rw h
-
 complete_name : (named : Bool) (rule : Production) (first n : ℕ) (parts : List Syntax) (l : List Want) (zs : Frames) (at : ℕ) (ts : List Class) (q : List Event) → HeadIsNot (same c.Name) ts
     → logged (rest rule first n parts (w.Optional o.Name ∷ l) ∷ zs) at (word_tokens c.Name named ts) q ≡ logged (rest rule first n (parts ++ word_parts at named) l ∷ zs) (word_end at named) ts (word_events named q)
 complete_name true rule first n parts l zs at ts q h = refl
-complete_name false rule first n parts l zs at ts q h = no_name rule first n parts l zs at ts q h ∙ bare_parts rule first n parts l zs at ts q
+complete_name false rule first n parts l zs at ts q h = left_out o.Name rule first n parts l zs at ts q h ∙ bare_parts rule first n parts l zs at ts q
 
 -- a parameter that has these parts behind which the type stands
 parameter_typed : (n : NumberType) (named : Bool) (size : Size) → FitsSize size → (first : ℕ) (parts : List Syntax) (zs : Frames) (at : ℕ) (ts : List Class) (q : List Event) → HeadIs after_parameter ts
@@ -146,7 +129,7 @@ parameter_typed n named size u first parts zs at ts q h =
     let r = word_tokens c.Name named (size_tokens size ts) in
     let a = parts ++ type_node at n ∷ [] in
     complete_number_type n (rest p.Param first 0 parts parameter_rest ∷ zs) at r q (type_ends named size ts h)
-    ∙ next_part p.Param first 0 parts parameter_rest (type_node at n) zs y any r (type_events n q) (not_any_is is_base r (type_ends named size ts h))
+    ∙ next_part p.Param first 0 parts parameter_rest (type_node at n) zs y any r (type_events n q) (other_first is_base r (type_ends named size ts h))
     ∙ complete_name named p.Param first 0 a (w.Optional o.Size ∷ []) zs y (size_tokens size ts) (type_events n q) (size_no_name size ts h)
     ∙ complete_size size u p.Param first 0 (a ++ word_parts y named) [] zs z ts (word_events named (type_events n q)) (parameter_no_index ts h)
     ∙ handed_on p.Param first 0 ((a ++ word_parts y named) ++ size_parts z size) zs (size_end z size) after_parameter ts (size_events size (word_events named (type_events n q))) h
@@ -155,15 +138,10 @@ parameter_not_const : (zs : Frames) (at : ℕ) (t : Class) → starts_type t ≡
 parameter_not_const zs at c.Const h = cc
 parameter_not_const zs at _ h = refl
 
-parameter_type : (first : ℕ) (parts : List Syntax) (l : List Want) (zs : Frames) (at : ℕ) (ts : List Class) (q : List Event) → HeadIs starts_type ts
-    → logged (rest p.Param first 0 parts (w.Type ∷ l) ∷ zs) at ts q ≡ via (at_type (rest p.Param first 0 parts l ∷ zs)) at ts q
-parameter_type first parts l zs at [] q h = absurd h
-parameter_type first parts l zs at (t ∷ ts) q h = refl
-
 complete_parameter : (x : Parameter) → FitsParameter x → (zs : Frames) (at : ℕ) (ts : List Class) (q : List Event) → HeadIs after_parameter ts
     → via (at_parameter zs) at (parameter_tokens x ts) q ≡ logged (s.Done (Whole (parameter_node at x)) ∷ zs) (parameter_end at x) ts (parameter_events x q)
 complete_parameter (Typed true n named size) u zs at ts q h =
-    parameter_type at (leaf at ∷ []) parameter_rest zs (at + 1) (type_tokens n (word_tokens c.Name named (size_tokens size ts))) (Outside ∷ q) (type_head n _)
+    type_wanted p.Param at 0 (leaf at ∷ []) parameter_rest zs (at + 1) (type_tokens n (word_tokens c.Name named (size_tokens size ts))) (Outside ∷ q) (type_head n _)
     ∙ parameter_typed n named size u at (leaf at ∷ []) zs (at + 1) ts (Outside ∷ q) h
 complete_parameter (Typed false n named size) u zs at ts q h =
     switch (at_parameter zs) (at_type (rest p.Param at 0 [] parameter_rest ∷ zs)) starts_type at (parameter_not_const zs at) (type_tokens n (word_tokens c.Name named (size_tokens size ts))) q (type_head n _)

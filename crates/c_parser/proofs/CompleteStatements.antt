@@ -23,9 +23,9 @@ use Rattle.c_parser.specs.Tests.{starts_local, same}
 use Rattle.c_parser.specs.Starts.{Frames, opening, rest, at_full, at_local, at_block, at_plain, at_labelled, at_statement, at_body}
 use Rattle.c_parser.specs.Machine.{step}
 use Rattle.c_parser.proofs.Traces.{logged}
-use Rattle.c_parser.proofs.CompleteExpressions.{starts, Headed, head_of_expression, head_of_conditional}
-use Rattle.c_parser.proofs.Begun.{HeadIs, HeadIsNot, via, via_step, switch, IsPlain, via_opening, headed_is, full_expression, full_conditional, full_run, via_full, NoLabel, no_label}
-use Rattle.c_parser.proofs.CompleteDeclarations.{semicolon_stop, close_stop, complete_optional, handed_on, complete_local, local_head}
+use Rattle.c_parser.proofs.CompleteExpressions.{starts, head_of_expression, head_of_conditional}
+use Rattle.c_parser.proofs.Begun.{any, some_first, other_first, HeadIs, HeadIsNot, via, via_step, switch, IsPlain, via_opening, headed_is, full_expression, full_conditional, full_run, via_full, NoLabel, no_label}
+use Rattle.c_parser.proofs.CompleteDeclarations.{next_part, last_part, semicolon_stop, close_stop, complete_optional, handed_on, complete_local, local_head}
 
 -- ---- first tokens
 
@@ -109,10 +109,6 @@ abbrev pub Follows : Bool → List Class → Type 0
 Follows d [] = ⊥
 Follows d (t ∷ l) = d ≡ true → same c.Else t ≡ false
 
--- anything at all
-abbrev pub any : Class → Bool
-any t = true
-
 -- so there is a next token
 pub follows_any : (d : Bool) (l : List Class) → Follows d l → HeadIs any l
 follows_any d [] h = h
@@ -141,28 +137,12 @@ items_no_else NoItems u r = refl
 items_no_else (LocalItem x xs) u r = local_no_else _ (local_head x _)
 items_no_else (StatementItem x xs) u r = statement_no_else _ (statement_head x u.0 _)
 
-not_any : (l : List Class) → HeadIsNot no_else l → HeadIs any l
-not_any [] h = h
-not_any (t ∷ l) h = refl
-
 -- ---- one token
 
 else_skipped : (level : ℕ) (first : ℕ) (parts : List Syntax) (v : Syntax) (zs : Frames) (at : ℕ) (ts : List Class) (q : List Event) → Follows true ts
     → logged (s.Done (Whole v) ∷ rest p.Plain first level parts (w.Optional o.Else ∷ []) ∷ zs) at ts q ≡ logged (s.Done (Whole (node p.Plain first at (parts ++ v ∷ []))) ∷ zs) at ts q
 else_skipped level first parts v zs at [] q h = absurd h
 else_skipped level first parts v zs at (t ∷ ts) q h = rw (h refl)
-
--- what was handed on is the last part
-pub last_part : (rule : Production) (first n : ℕ) (parts : List Syntax) (v : Syntax) (zs : Frames) (at : ℕ) (f : Class → Bool) (ts : List Class) (q : List Event) → HeadIs f ts
-    → logged (s.Done (Whole v) ∷ rest rule first n parts [] ∷ zs) at ts q ≡ logged (s.Done (Whole (node rule first at (parts ++ v ∷ []))) ∷ zs) at ts q
-last_part rule first n parts v zs at f [] q h = absurd h
-last_part rule first n parts v zs at f (t ∷ ts) q h = refl
-
--- what was handed on is the next part
-pub next_part : (rule : Production) (first n : ℕ) (parts : List Syntax) (l : List Want) (v : Syntax) (zs : Frames) (at : ℕ) (f : Class → Bool) (ts : List Class) (q : List Event) → HeadIs f ts
-    → logged (s.Done (Whole v) ∷ rest rule first n parts l ∷ zs) at ts q ≡ logged (rest rule first n (parts ++ v ∷ []) l ∷ zs) at ts q
-next_part rule first n parts l v zs at f [] q h = absurd h
-next_part rule first n parts l v zs at f (t ∷ ts) q h = refl
 
 simple_plain : (level : ℕ) (zs : Frames) (at : ℕ) (t : Class) → starts t ≡ true → at_plain level zs t at ≡ at_full full.Expression (rest p.Plain at level [] (w.Token c.Semicolon ∷ []) ∷ zs) t at
 simple_plain level zs at c.Sign h = refl
@@ -273,11 +253,7 @@ complete_for_start (StartValue (Some e)) u rule first n parts l zs at f r q h =
 
 optional_any : (e : Option Expression) → FitsOptional e → (t : Class) (r : List Class) → HeadIs any (optional_tokens e (t ∷ r))
 optional_any None u t r = refl
-optional_any (Some e) u t r = headed_any _ (head_of_expression e u _)
-  where
-    headed_any : (l : List Class) → Headed l → HeadIs any l
-    headed_any [] h = h
-    headed_any (t ∷ l) h = refl
+optional_any (Some e) u t r = some_first starts _ (headed_is _ (head_of_expression e u _))
 
 -- items
 item_local : (first level : ℕ) (parts : List Syntax) (zs : Frames) (at : ℕ) (t : Class) → starts_local t ≡ true
@@ -397,8 +373,8 @@ mutual
       let l = items_tokens xs (c.CloseBlock ∷ r) in
       via_step (rest p.Block first level parts (w.Items ∷ []) ∷ zs) starts_local at (local_tokens x l) q (local_head x l)
       ∙ switch (step (rest p.Block first level parts (w.Items ∷ []) ∷ zs)) (at_local (rest p.Block first level parts (w.Items ∷ []) ∷ zs)) starts_local at (item_local first level parts zs at) (local_tokens x l) q (local_head x l)
-      ∙ complete_local x u.0 (rest p.Block first level parts (w.Items ∷ []) ∷ zs) at any l q (not_any l (items_no_else xs u.1 r))
-      ∙ next_part p.Block first level parts (w.Items ∷ []) (local_node at x) zs (local_end at x) any l (local_events x q) (not_any l (items_no_else xs u.1 r))
+      ∙ complete_local x u.0 (rest p.Block first level parts (w.Items ∷ []) ∷ zs) at any l q (other_first no_else l (items_no_else xs u.1 r))
+      ∙ next_part p.Block first level parts (w.Items ∷ []) (local_node at x) zs (local_end at x) any l (local_events x q) (other_first no_else l (items_no_else xs u.1 r))
       ∙ complete_items xs u.1 first level (parts ++ local_node at x ∷ []) zs (local_end at x) r (local_events x q)
       ∙ ap (λ (a : List Syntax). logged (rest p.Block first level a [] ∷ zs) (items_end (local_end at x) xs + 1) r (Outside ∷ items_events level xs (local_events x q))) (append_assoc parts (local_node at x ∷ []) (items_parts (local_end at x) xs ++ leaf (items_end (local_end at x) xs) ∷ []))
   complete_items (StatementItem x xs) u first level parts zs at r q =
@@ -407,7 +383,7 @@ mutual
       ∙ switch (step (rest p.Block first level parts (w.Items ∷ []) ∷ zs)) (at_statement level (rest p.Block first level parts (w.Items ∷ []) ∷ zs)) starts_statement at (item_statement first level parts zs at) (statement_tokens x l) q (statement_head x u.0 l)
       ∙ statement_run level (rest p.Block first level parts (w.Items ∷ []) ∷ zs) at (statement_tokens x l) q
       ∙ complete_statement x u.0 at level [] (rest p.Block first level parts (w.Items ∷ []) ∷ zs) at l q (follows_none (is_statement_open x) l (items_no_else xs u.1 r))
-      ∙ next_part p.Block first level parts (w.Items ∷ []) (statement_node at x) zs (statement_end at x) any l (statement_events level x q) (not_any l (items_no_else xs u.1 r))
+      ∙ next_part p.Block first level parts (w.Items ∷ []) (statement_node at x) zs (statement_end at x) any l (statement_events level x q) (other_first no_else l (items_no_else xs u.1 r))
       ∙ complete_items xs u.1 first level (parts ++ statement_node at x ∷ []) zs (statement_end at x) r (statement_events level x q)
       ∙ ap (λ (a : List Syntax). logged (rest p.Block first level a [] ∷ zs) (items_end (statement_end at x) xs + 1) r (Outside ∷ items_events level xs (statement_events level x q))) (append_assoc parts (statement_node at x ∷ []) (items_parts (statement_end at x) xs ++ leaf (items_end (statement_end at x) xs) ∷ []))
 
