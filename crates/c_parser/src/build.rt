@@ -9,14 +9,17 @@ use c_grammar::{Production, Syntax};
 use c_types::{List, Memory};
 use std::alloc::Global;
 
+/// A node, which keeps no more room than its parts take where memory can be given back.
 pub fn node(rule: Production, first: u32, after: u32, parts: List<Syntax>) -> Syntax
     ensures { result ≡ nodes.node rule first after parts }
 {
+    let mut parts = parts.into_vec();
+    parts.shrink_to_fit();
     Syntax {
         rule,
         first,
         after,
-        parts,
+        parts: List::from_vec(parts),
     }
 }
 
@@ -30,28 +33,28 @@ pub fn leaf(alloc: Global, at: u32) -> Syntax
 pub fn one(alloc: Global, a: Syntax) -> Result<List<Syntax>, Memory>
     ensures { IfOk result (λ it. it ≡ a ∷ []) }
 {
-    let mut parts = List::new(alloc);
+    let mut parts = Vec::with_capacity(alloc, 1)?;
     parts.push(a)?;
-    Ok(parts)
+    Ok(List::from_vec(parts))
 }
 
 pub fn two(alloc: Global, a: Syntax, b: Syntax) -> Result<List<Syntax>, Memory>
     ensures { IfOk result (λ it. it ≡ a ∷ b ∷ []) }
 {
-    let mut parts = List::new(alloc);
+    let mut parts = Vec::with_capacity(alloc, 2)?;
     parts.push(a)?;
     parts.push(b)?;
-    Ok(parts)
+    Ok(List::from_vec(parts))
 }
 
 pub fn three(alloc: Global, a: Syntax, b: Syntax, c: Syntax) -> Result<List<Syntax>, Memory>
     ensures { IfOk result (λ it. it ≡ a ∷ b ∷ c ∷ []) }
 {
-    let mut parts = List::new(alloc);
+    let mut parts = Vec::with_capacity(alloc, 3)?;
     parts.push(a)?;
     parts.push(b)?;
     parts.push(c)?;
-    Ok(parts)
+    Ok(List::from_vec(parts))
 }
 
 pub fn four(
@@ -63,12 +66,12 @@ pub fn four(
 ) -> Result<List<Syntax>, Memory>
     ensures { IfOk result (λ it. it ≡ a ∷ b ∷ c ∷ d ∷ []) }
 {
-    let mut parts = List::new(alloc);
+    let mut parts = Vec::with_capacity(alloc, 4)?;
     parts.push(a)?;
     parts.push(b)?;
     parts.push(c)?;
     parts.push(d)?;
-    Ok(parts)
+    Ok(List::from_vec(parts))
 }
 
 /// These parts and one more.
