@@ -11,19 +11,22 @@ use Rattle.c_parser.specs.declared.frame.Frame.TheVariants as s
 use Rattle.c_parser.specs.Starts.{Frames}
 use Rattle.c_parser.specs.Machine.{Ran, Left, Unexpected, TooMany, start, run}
 
--- the file that was read
+-- the file that the frame holds
 abbrev pub file_in : Frame → Option Syntax
 file_in (s.Accepted x) = Some x
 file_in _ = None
 
+-- the file that the frames hold once all tokens are taken
 abbrev pub accepted : Frames → Option Syntax
 accepted [] = None
 accepted (frame ∷ z) = file_in frame
 
+-- the file, and where there is none a refusal at the end of the text
 abbrev pub whole : List ℕ → Option Syntax → Result Syntax Refusal
 whole text (Some x) = Ok x
 whole text None = Err (refusal_of 10 text (length text))
 
+-- what a run comes to: the token of a refusal by its offset in the text
 abbrev pub answer : List ℕ → List Token → Ran → Result Syntax Refusal
 answer text tokens (Left z) = whole text (accepted z)
 answer text tokens (Unexpected k) = Err (refusal_of 10 text (offset_of text tokens k))
