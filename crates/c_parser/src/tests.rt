@@ -1,4 +1,5 @@
-//! Places of refusals and shapes of syntax that an independent model of the parser gave.
+//! Places of refusals, which an independent model of the parser gave too, and shapes of syntax, worked out
+//! by hand from the grammar.
 use super::*;
 use c_grammar::{Production, Syntax};
 use c_lexer::tokens;
