@@ -44,7 +44,7 @@ layer_parts l _ = refl
 pub lands-parts : (l : ℕ) (x : Item) → lands_of l (tree_of x) ≡ cond (is_land l x) 1 0 + held l x
 lands-parts l x = ap (lands_of l) (tree-out x) ∙ layer_parts l (out-Item x)
 
-lands-first : (l : ℕ) (x : Item) (xs : List Item) → lands l (trees_of (x ∷ xs)) ≡ cond (is_land l x) 1 0 + held l x + lands l (trees_of xs)
+pub lands-first : (l : ℕ) (x : Item) (xs : List Item) → lands l (trees_of (x ∷ xs)) ≡ cond (is_land l x) 1 0 + held l x + lands l (trees_of xs)
 lands-first l x xs = ap (lands l) (trees-more x xs) ∙ ap (λ n. n + lands l (trees_of xs)) (lands-parts l x)
 
 -- a list from one item on, and from its end on
@@ -57,7 +57,7 @@ lands-more l xs i x h e =
 pub lands-all : (l : ℕ) (xs : List Item) (i : ℕ) → length xs ≤ i → lands l (trees_of (drop i xs)) ≡ 0
 lands-all l xs i h = at_drop_all (λ z. lands l (trees_of z)) xs i h ∙ ap (lands l) trees-none
 
-section_lands-first : (l : ℕ) (c : Section) (cs : List Section)
+pub section_lands-first : (l : ℕ) (c : Section) (cs : List Section)
     → total_in (land_of l) (sections_of (c ∷ cs)) ≡ lands l (trees_of (list_of c)) + total_in (land_of l) (sections_of cs)
 section_lands-first l c cs =
     ap (total_in (land_of l)) (sections-more c cs) ∙ ap (λ (z : SectionTree). lands l z.list + total_in (land_of l) (sections_of cs)) (section-parts c)

@@ -8,3 +8,7 @@ pub mod Still
 pub mod HeldLaws
 pub mod MarkLaws
 pub mod PlaceLaws
+pub mod PlaceCounts
+pub mod RelationLaws
+pub mod ItemFacts
+pub mod ChoiceLaws

@@ -3,3 +3,4 @@ pub mod Offset
 pub mod Relation
 pub mod Marks
 pub mod Standing
+pub mod Choice

@@ -1,5 +1,5 @@
 ghost use Rattle.std.specs.Prelude.{◌≡◌, [], ◌∷◌, ◌++◌, IfOk, length, min, map, sum, take};
-ghost use Rattle.label_offsets.specs.Relation.{same_branch, same_step, relation as the_relation};
+ghost use Rattle.label_offsets.specs.Relation.{same_branch, same_step, relation as the_relation, Means};
 ghost use Rattle.label_offsets.specs.Offset.{count as the_count, counts as the_counts, section_count as the_section_count, section_counts as the_section_counts, before_branch as the_before_branch, before as the_before};
 
 use c_tree::{Branch, Item, Path, Section, Step, child};
@@ -71,7 +71,8 @@ fn compare(p: &[Step], i: u32, q: &[Step], j: u32) -> Rule
 
 /// How the Leap at one path stands to the Land at another (docs/REWRITING.md). The paths differ.
 pub fn relation(leap: &Path, land: &Path) -> Rule
-    ensures { result ≡ the_relation leap.now.steps leap.now.item land.now.steps land.now.item }
+    ensures value { result ≡ the_relation leap.now.steps leap.now.item land.now.steps land.now.item }
+    ensures steps { Means result leap.now.steps leap.now.item land.now.steps land.now.item }
 {
     compare(
         leap.steps.as_slice(),

@@ -4,7 +4,7 @@ use Rattle.c_tree.specs.Paths.{list_at}
 use Rattle.c_tree.specs.WellMade.{HasSelectorKind, HasCases}
 use Rattle.inward_moves.specs.Entering.{LeadsTo}
 use Rattle.inward_moves.proofs.SpotLemmas.{item_read}
-use Rattle.inward_moves.proofs.Standing.{holds_at}
+use Rattle.label_offsets.proofs.ItemFacts.{holds_at}
 use Rattle.inward_moves.proofs.WayLemmas.{no_target, target_within, goes_in}
 use Rattle.inward_moves.proofs.inward.way_at.Goals as goal
 

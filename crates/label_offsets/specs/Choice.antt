@@ -1,0 +1,44 @@
+-- The rule that applies to a Leap, by the place of its Land.
+use Rattle.std.specs.Prelude.{◌≡◌, ℕ, ◌<◌, List, [], ◌∷◌, ◌++◌, Some}
+use Rattle.c_tree.specs.declared.tree.Item.{Item}
+use Rattle.c_tree.specs.declared.tree.Branch.{Branch}
+use Rattle.c_tree.specs.declared.tree.Path.{Path}
+use Rattle.c_tree.specs.declared.tree.Step.{Step}
+use Rattle.c_tree.specs.Paths.{child, item_at}
+use Rattle.c_tree.specs.Join.{Holds, CanJoin}
+use Rattle.c_tree.specs.Labels.{lands}
+use Rattle.c_tree.specs.Lift.{CanLift}
+use Rattle.c_tree.specs.Outward.{HasBranch}
+use Rattle.c_tree.specs.Trees.{trees_of}
+use Rattle.label_offsets.specs.declared.places.Rule.{Rule}
+use Rattle.label_offsets.specs.declared.places.Rule.TheVariants.{SiblingBefore, SiblingAfter, InwardOf, LiftOf, Outward}
+
+-- rule L applies, for some place
+pub record IsLiftable (l i : ℕ) (steps : List Step) (body : List Item) : Type 0 where
+  pub place : ℕ
+  pub applies : CanLift l i place steps body
+
+-- rule I applies, for some place, branch and number
+pub record LeadsIn (l i : ℕ) (steps : List Step) (body : List Item) : Type 0 where
+  pub place : ℕ
+  pub branch : Branch
+  pub item : Item
+  pub later : i < place
+  pub there : item_at body steps place ≡ Some item
+  pub construct : HasBranch branch item
+  pub held : Holds (λ a. 0 < lands l (trees_of a)) (child branch item)
+
+-- the Leap stands in a list of a construct
+pub record StandsInside (steps : List Step) (body : List Item) : Type 0 where
+  pub outer : List Step
+  pub last : Step
+  pub steps_are : steps ≡ outer ++ last ∷ []
+  pub construct : Holds (HasBranch last.branch) (item_at body outer last.item)
+
+-- what each rule wants, of the Leap at p and the Land at q
+abbrev pub Applies : Rule → ℕ → Path → Path → List Item → Type 0
+Applies SiblingBefore l p q body = CanJoin l p.item q.item p.steps body
+Applies SiblingAfter l p q body = CanJoin l p.item q.item p.steps body
+Applies LiftOf l p q body = IsLiftable l p.item p.steps body
+Applies InwardOf l p q body = LeadsIn l p.item p.steps body
+Applies Outward l p q body = StandsInside p.steps body
