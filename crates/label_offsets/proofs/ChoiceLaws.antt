@@ -1,5 +1,5 @@
 -- In a well made body the rule of the relation applies.
-use Rattle.std.proofs.Common.{◌≡◌, ℕ, suc, ◌<◌, ◌≤◌, List, [], ◌∷◌, ◌++◌, Option, Some, None, option_and_then, take, drop, slice_get, refl, sym, ap, subst, ◌∙◌, arith}
+use Rattle.std.proofs.Common.{◌≡◌, ℕ, suc, ◌<◌, ◌≤◌, List, [], ◌∷◌, ◌++◌, Option, Some, None, option_and_then, unwrap_or, take, drop, slice_get, refl, sym, ap, subst, ◌∙◌, arith}
 use Rattle.c_tree.specs.declared.tree.Item.{Item, Item-F, Leap, Land, out-Item, out-roll-Item}
 use Rattle.c_tree.specs.declared.tree.Item.TheOpen as O
 use Rattle.c_tree.specs.declared.tree.Item.TheVariants.{rolls-Leap}
@@ -9,11 +9,11 @@ use Rattle.c_tree.specs.declared.tree.Branch.TheVariants as B
 use Rattle.c_tree.specs.declared.tree.Path.{Path}
 use Rattle.c_tree.specs.declared.tree.Step.{Step}
 use Rattle.c_tree.specs.Paths.{child_F, child, list_at, item_at}
-use Rattle.c_tree.specs.Join.{Holds, CanJoin}
+use Rattle.c_tree.specs.Join.{Holds, CanJoin, list_there}
 use Rattle.c_tree.specs.Outward.{HasBranch_F, HasBranch}
 use Rattle.c_tree.specs.Trees.{join, tree_of, trees_of, sections_of}
 use Rattle.c_tree.specs.Changed.{one}
-use Rattle.c_tree.specs.Labels.{lands, lands_inside, jumps}
+use Rattle.c_tree.specs.Labels.{lands, lands_inside, jumps, GuardLabels}
 use Rattle.c_tree.specs.WellMade.{IsConverted, IsPlainFor, IsWellMade}
 use Rattle.c_tree.proofs.TreeLaws.{tree-Leap}
 use Rattle.c_tree.proofs.ChangeLemmas.{layer_tree, tree-out, trees-split}
@@ -23,10 +23,11 @@ use Rattle.c_tree.proofs.PathLemmas.{Stepped, and_then_some, stepped, list_step}
 use Rattle.label_offsets.specs.declared.places.Rule.{Rule}
 use Rattle.label_offsets.specs.declared.places.Rule.TheVariants.{SiblingBefore, SiblingAfter, InwardOf, LiftOf, Outward}
 use Rattle.label_offsets.specs.Relation.{relation, Means, IsFurther}
-use Rattle.label_offsets.specs.Choice.{Applies, LeadsIn, IsLiftable, StandsInside}
+use Rattle.label_offsets.specs.Choice.{Applies, LeadsIn, IsLiftable, LeadsOut}
 use Rattle.label_offsets.proofs.ItemFacts.{holds_at}
 use Rattle.label_offsets.proofs.MarkLaws.{item_of_list}
 use Rattle.label_offsets.proofs.PlaceCounts.{Held, land_inside}
+use Rattle.label_offsets.proofs.OutCounts.{apart}
 use Rattle.label_offsets.proofs.RelationLaws.{means}
 
 -- a Leap has no lists
@@ -125,20 +126,36 @@ module _ (body : List Item) (w : IsWellMade (trees_of body)) where
               let x : Leap l ≡ h.item = cc in
               leap_holds_nothing l f.next.branch h.list (ap (child f.next.branch) x ∙ h.list_is)
 
-    goes_out : (outer : List Step) (last : Step) → p.steps ≡ outer ++ last ∷ [] → StandsInside p.steps body
-    goes_out outer last e = record { outer = outer; last = last; steps_are = e; construct = construct } where
+    only : lands l (trees_of body) ≡ 1
+    only = subst (GuardLabels (λ m. lands m (trees_of body) ≡ 1)) (tree-Leap l) (holds_at (GuardLabels (λ m. lands m (trees_of body) ≡ 1)) body p.steps here.0 p.item (Leap l) here.1 here.2 w.landed)
+
+    goes_out : relation p.steps p.item q.steps q.item ≡ Outward → (outer : List Step) (last : Step) → p.steps ≡ outer ++ last ∷ [] → LeadsOut l p.item p.steps body
+    goes_out r outer last e = record {
+      outer = outer;
+      last = last;
+      steps_are = e;
+      applies = record { leap = ap (λ (z : List Step). item_at body z p.item) (sym e) ∙ leap; construct = construct; elsewhere = elsewhere };
+    } where
+      list : list_at body (outer ++ last ∷ []) ≡ Some here.0
+      list = ap (list_at body) (sym e) ∙ here.1
+
       construct : Holds (HasBranch last.branch) (item_at body outer last.item)
       construct =
-          let t = last_step body outer last here.0 (ap (list_at body) (sym e) ∙ here.1) in
+          let t = last_step body outer last here.0 list in
           subst (Holds (HasBranch last.branch)) (sym (item_of_list body outer t.0 last.item (sym t.1) ∙ t.2.item_is))
           (branch_of outer t.0 last.item t.2.item last.branch here.0 t.1 t.2.item_is (t.2.inner_is ∙ t.2.rest) (leap_jumps here.0 p.item l here.2))
 
-    by_rule : (r : Rule) → Means r p.steps p.item q.steps q.item → Applies r l p q body
-    by_rule SiblingBefore m = joins m.0
-    by_rule SiblingAfter m = joins m.0
-    by_rule LiftOf m = lifts m
-    by_rule InwardOf m = goes_in m
-    by_rule Outward m = goes_out m.outer m.last m.steps
+      elsewhere : lands l (trees_of (list_there body (outer ++ last ∷ []))) ≡ 0
+      elsewhere =
+          let same : lands l (trees_of (list_there body (outer ++ last ∷ []))) ≡ lands l (trees_of here.0) = ap (λ o. lands l (trees_of (unwrap_or o []))) list in
+          omega (arith, same, only, apart l body p.steps p.item q.steps q.item here.0 r here.1 land)
+
+    by_rule : (r : Rule) → relation p.steps p.item q.steps q.item ≡ r → Means r p.steps p.item q.steps q.item → Applies r l p q body
+    by_rule SiblingBefore e m = joins m.0
+    by_rule SiblingAfter e m = joins m.0
+    by_rule LiftOf e m = lifts m
+    by_rule InwardOf e m = goes_in m
+    by_rule Outward e m = goes_out e m.outer m.last m.steps
 
     pub rule_applies : Applies (relation p.steps p.item q.steps q.item) l p q body
-    rule_applies = by_rule (relation p.steps p.item q.steps q.item) (means p.steps p.item q.steps q.item)
+    rule_applies = by_rule (relation p.steps p.item q.steps q.item) refl (means p.steps p.item q.steps q.item)

@@ -12,3 +12,4 @@ pub mod PlaceCounts
 pub mod RelationLaws
 pub mod ItemFacts
 pub mod ChoiceLaws
+pub mod OutCounts

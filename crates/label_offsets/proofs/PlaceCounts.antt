@@ -21,7 +21,7 @@ counted l x = cond (is_land l x) 1 0 + held l x
 pub counted-Land : (l : ℕ) → 0 < counted l (Land l)
 counted-Land l = let e : cond {A = ℕ} (is_land l (Land l)) 1 0 ≡ 1 = ap (λ b. cond {A = ℕ} b 1 0) (is_land-Land l) in omega (arith, e)
 
-section_lands : (l : ℕ) (cs : List Section) (k : ℕ) (c : Section) → slice_get cs k ≡ Some c → lands l (trees_of (list_of c)) ≤ total_in (land_of l) (sections_of cs)
+pub section_lands : (l : ℕ) (cs : List Section) (k : ℕ) (c : Section) → slice_get cs k ≡ Some c → lands l (trees_of (list_of c)) ≤ total_in (land_of l) (sections_of cs)
 section_lands l [] k c e = cc
 section_lands l (x ∷ cs) zero c e =
     let h : x ≡ c = cc in

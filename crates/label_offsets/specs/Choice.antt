@@ -8,7 +8,7 @@ use Rattle.c_tree.specs.Paths.{child, item_at}
 use Rattle.c_tree.specs.Join.{Holds, CanJoin}
 use Rattle.c_tree.specs.Labels.{lands}
 use Rattle.c_tree.specs.Lift.{CanLift}
-use Rattle.c_tree.specs.Outward.{HasBranch}
+use Rattle.c_tree.specs.Outward.{HasBranch, CanMoveOut}
 use Rattle.c_tree.specs.Trees.{trees_of}
 use Rattle.label_offsets.specs.declared.places.Rule.{Rule}
 use Rattle.label_offsets.specs.declared.places.Rule.TheVariants.{SiblingBefore, SiblingAfter, InwardOf, LiftOf, Outward}
@@ -28,12 +28,12 @@ pub record LeadsIn (l i : ℕ) (steps : List Step) (body : List Item) : Type 0 w
   pub construct : HasBranch branch item
   pub held : Holds (λ a. 0 < lands l (trees_of a)) (child branch item)
 
--- the Leap stands in a list of a construct
-pub record StandsInside (steps : List Step) (body : List Item) : Type 0 where
+-- rule O applies, for the steps before the last
+pub record LeadsOut (l i : ℕ) (steps : List Step) (body : List Item) : Type 0 where
   pub outer : List Step
   pub last : Step
   pub steps_are : steps ≡ outer ++ last ∷ []
-  pub construct : Holds (HasBranch last.branch) (item_at body outer last.item)
+  pub applies : CanMoveOut l outer last i body
 
 -- what each rule wants, of the Leap at p and the Land at q
 abbrev pub Applies : Rule → ℕ → Path → Path → List Item → Type 0
@@ -41,4 +41,4 @@ Applies SiblingBefore l p q body = CanJoin l p.item q.item p.steps body
 Applies SiblingAfter l p q body = CanJoin l p.item q.item p.steps body
 Applies LiftOf l p q body = IsLiftable l p.item p.steps body
 Applies InwardOf l p q body = LeadsIn l p.item p.steps body
-Applies Outward l p q body = StandsInside p.steps body
+Applies Outward l p q body = LeadsOut l p.item p.steps body
