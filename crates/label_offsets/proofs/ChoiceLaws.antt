@@ -80,7 +80,17 @@ module _ (body : List Item) (w : IsWellMade (trees_of body)) where
       (subst IsConverted (tree-out x) (holds_at IsConverted body steps list i x t e w.converted))
       (subst IsPlainFor (tree-out x) (holds_at IsPlainFor body steps list i x t e w.loops))
 
+  -- the label of a Leap has one Land
+  pub one_land : (l : ℕ) (at : Path) → item_at body at.steps at.item ≡ Some (Leap l) → lands l (trees_of body) ≡ 1
+  one_land l at leap =
+      let here = and_then_some (λ a. slice_get a at.item) (list_at body at.steps) (Leap l) leap in
+      let P = GuardLabels (λ m. lands m (trees_of body) ≡ 1) in
+      subst P (tree-Leap l) (holds_at P body at.steps here.0 at.item (Leap l) here.1 here.2 w.landed)
+
   module _ (l : ℕ) (p q : Path) (leap : item_at body p.steps p.item ≡ Some (Leap l)) (land : item_at body q.steps q.item ≡ Some (Land l)) where
+    only : lands l (trees_of body) ≡ 1
+    only = one_land l p leap
+
     here : (a : List Item) × (list_at body p.steps ≡ Some a) × (slice_get a p.item ≡ Some (Leap l))
     here = and_then_some (λ a. slice_get a p.item) (list_at body p.steps) (Leap l) leap
 
@@ -125,9 +135,6 @@ module _ (body : List Item) (w : IsWellMade (trees_of body)) where
               let same : Some (Leap l) ≡ Some h.item = sym here.2 ∙ ap (slice_get here.0) e ∙ h.item_is in
               let x : Leap l ≡ h.item = cc in
               leap_holds_nothing l f.next.branch h.list (ap (child f.next.branch) x ∙ h.list_is)
-
-    only : lands l (trees_of body) ≡ 1
-    only = subst (GuardLabels (λ m. lands m (trees_of body) ≡ 1)) (tree-Leap l) (holds_at (GuardLabels (λ m. lands m (trees_of body) ≡ 1)) body p.steps here.0 p.item (Leap l) here.1 here.2 w.landed)
 
     goes_out : relation p.steps p.item q.steps q.item ≡ Outward → (outer : List Step) (last : Step) → p.steps ≡ outer ++ last ∷ [] → LeadsOut l p.item p.steps body
     goes_out r outer last e = record {

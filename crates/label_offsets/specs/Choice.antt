@@ -1,6 +1,6 @@
 -- The rule that applies to a Leap, by the place of its Land.
 use Rattle.std.specs.Prelude.{◌≡◌, ℕ, ◌<◌, List, [], ◌∷◌, ◌++◌, Some}
-use Rattle.c_tree.specs.declared.tree.Item.{Item}
+use Rattle.c_tree.specs.declared.tree.Item.{Item, Leap, Land}
 use Rattle.c_tree.specs.declared.tree.Branch.{Branch}
 use Rattle.c_tree.specs.declared.tree.Path.{Path}
 use Rattle.c_tree.specs.declared.tree.Step.{Step}
@@ -42,3 +42,11 @@ Applies SiblingAfter l p q body = CanJoin l p.item q.item p.steps body
 Applies LiftOf l p q body = IsLiftable l p.item p.steps body
 Applies InwardOf l p q body = LeadsIn l p.item p.steps body
 Applies Outward l p q body = LeadsOut l p.item p.steps body
+
+-- the rule applies to the Leap at the path
+pub record IsRuleAt (r : Rule) (body : List Item) (at : Path) : Type 0 where
+  pub label : ℕ
+  pub place : Path
+  pub leap : item_at body at.steps at.item ≡ Some (Leap label)
+  pub land : item_at body place.steps place.item ≡ Some (Land label)
+  pub applies : Applies r label at place body
