@@ -13,3 +13,4 @@ pub mod RelationLaws
 pub mod ItemFacts
 pub mod ChoiceLaws
 pub mod OutCounts
+pub mod OneRule

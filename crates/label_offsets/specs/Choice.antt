@@ -43,10 +43,22 @@ Applies LiftOf l p q body = IsLiftable l p.item p.steps body
 Applies InwardOf l p q body = LeadsIn l p.item p.steps body
 Applies Outward l p q body = LeadsOut l p.item p.steps body
 
--- the rule applies to the Leap at the path
+-- they are the same rule; both siblings are joined
+abbrev pub AreAlike : Rule → Rule → Type 0
+AreAlike SiblingBefore SiblingBefore = Unit {0}
+AreAlike SiblingBefore SiblingAfter = Unit {0}
+AreAlike SiblingAfter SiblingBefore = Unit {0}
+AreAlike SiblingAfter SiblingAfter = Unit {0}
+AreAlike LiftOf LiftOf = Unit {0}
+AreAlike InwardOf InwardOf = Unit {0}
+AreAlike Outward Outward = Unit {0}
+AreAlike _ _ = ⊥
+
+-- the rule applies to the Leap at the path, and no other does
 pub record IsRuleAt (r : Rule) (body : List Item) (at : Path) : Type 0 where
   pub label : ℕ
   pub place : Path
   pub leap : item_at body at.steps at.item ≡ Some (Leap label)
   pub land : item_at body place.steps place.item ≡ Some (Land label)
   pub applies : Applies r label at place body
+  pub only : (other : Rule) (q : Path) → Applies other label at q body → AreAlike r other

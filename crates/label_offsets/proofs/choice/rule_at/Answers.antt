@@ -1,6 +1,8 @@
 use Rattle.std.proofs.Common.{arith}
+use Rattle.label_offsets.specs.Choice.{Applies}
 use Rattle.label_offsets.proofs.MarkLaws.{leap_of_label}
 use Rattle.label_offsets.proofs.ChoiceLaws.{one_land, rule_applies}
+use Rattle.label_offsets.proofs.OneRule.{one_rule}
 use Rattle.label_offsets.proofs.choice.rule_at.Goals as goal
 
 pub place_of-requires-clause-land : goal.place_of-requires-clause-land
@@ -17,4 +19,13 @@ returns c =
     let place = c.in_ok-land.land in
     let leap = leap_of_label body at c.in-Some.label c.in-Some.ensures in
     let applies = rule_applies body c.requires.well_made c.in-Some.label at place leap c.in_ok-land.ensures in
-    record { label = c.in-Some.label; place = place; leap = leap; land = c.in_ok-land.ensures; applies = rw c.relation.ensures.value applies }
+    let one = one_land body c.requires.well_made c.in-Some.label at leap in
+    let rule : Applies c.relation.result c.in-Some.label at place body = rw c.relation.ensures.value applies in
+    record {
+      label = c.in-Some.label;
+      place = place;
+      leap = leap;
+      land = c.in_ok-land.ensures;
+      applies = rule;
+      only = λ other q k. one_rule body c.in-Some.label one at c.relation.result other place q rule k;
+    }
