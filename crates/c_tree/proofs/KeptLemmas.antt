@@ -66,7 +66,7 @@ entered_same : (l k : ℕ) {c d : Sections} → SectionsEntered l k c d → Same
 entered_same l _ (entered_here cases default ends a c h) = same_next cases default ends a (Then (Leap l) a) c c (same_entries c)
 entered_same l _ (entered_later cases default ends a r) = same_next cases default ends a a _ _ (entered_same l _ r)
 
-changed_same : {R : Forest → Forest → Type 0} {c d : Sections} → ChangedSections R c d → SameEntries c d
+pub changed_same : {R : Forest → Forest → Type 0} {c d : Sections} → ChangedSections R c d → SameEntries c d
 changed_same (in_section cases default ends c r) = same_next cases default ends _ _ c c (same_entries c)
 changed_same (in_later cases default ends a r) = same_next cases default ends a a _ _ (changed_same r)
 

@@ -266,7 +266,7 @@ number_in j c [] n h f =
     subst (Numbers.IsInRange (promoted j)) (sym f.number) (in_promoted j f.count (omega arith))
 number_in j c (e ∷ es) n h f = converted_in (promoted j) (constant_value e) n f
 
-some_map : {A : Type 0} (o : Option A) (P Q : A → Type 0) → ((x : A) → P x → Q x) → IfSome o P → IfSome o Q
+pub some_map : {A : Type 0} (o : Option A) (P Q : A → Type 0) → ((x : A) → P x → Q x) → IfSome o P → IfSome o Q
 some_map None P Q f h = h
 some_map (Some x) P Q f h = f x h
 
@@ -275,7 +275,7 @@ pick_in : (o : Option IntKind) (k : ℕ) (n : ℤ) (s : SelectorTree) (c : Secti
 pick_in None k n s c h p q = tt
 pick_in (Some j) k n s c h p q = (number_in j c (cases_at k c) n h q, p)
 
-alike_cases : (k : IntKind) (c d : Sections) → all_cases c ≡ all_cases d → AreCases k c → AreCases k d
+pub alike_cases : (k : IntKind) (c d : Sections) → all_cases c ≡ all_cases d → AreCases k c → AreCases k d
 alike_cases k c d e h = record {
   constant = subst (All IsConstant) e h.constant;
   untrapped = subst (All (λ x. IsSome (constant_value x))) e h.untrapped;
@@ -374,7 +374,7 @@ test_labels D E f (Off l) h = f l h
 test_labels D E f (AndOff l t) h = (f l h.0, test_labels D E f t h.1)
 test_labels D E f (OrOn l t) h = (f l h.0, test_labels D E f t h.1)
 
-item_labels : (D E : ℕ → Type 0) → ((l : ℕ) → D l → E l) → (x : Tree) → GuardLabels D x → GuardLabels E x
+pub item_labels : (D E : ℕ → Type 0) → ((l : ℕ) → D l → E l) → (x : Tree) → GuardLabels D x → GuardLabels E x
 item_labels D E f (Arm l e) h = f l h
 item_labels D E f (Leap l) h = f l h
 item_labels D E f (If t a b) h = test_labels D E f t h

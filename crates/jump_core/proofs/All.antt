@@ -1,10 +1,9 @@
 -- What holds at each item of a body holds at each item that a run meets; and behind an item stand items alone.
-use Rattle.std.proofs.Common.{ℕ, zero, suc, ℤ, pos, ◌+◌, Bool, true, false, cond, List, [], ◌∷◌, Option, Some, None, Result, Ok, Err, map, ◌≡◌, refl, ap, ◌∙◌}
+use Rattle.std.proofs.Common.{ℕ, zero, suc, ℤ, pos, ◌+◌, Bool, true, false, cond, List, [], ◌∷◌, Option, Some, None, Result, Ok, Err, map, ◌≡◌, refl}
 use Rattle.std.specs.Option.{option_map_or}
-use Rattle.c_types.specs.declared.kinds.IntKind.{IntKind}
 use Rattle.c_types.specs.declared.trap.Trap.{Trap}
 use Rattle.c_tree.specs.ExpressionTrees.{ExpressionTree}
-use Rattle.c_tree.specs.TestTrees.{TestTree, Source, On, Off, AndOff, OrOn, SelectorTree, Selects, Pick}
+use Rattle.c_tree.specs.TestTrees.{Source, On, Off, AndOff, OrOn, Selects, Pick}
 use Rattle.c_tree.specs.Trees.{Tree, Forest, Nil, Then, Sections, NoSection, Section, Evaluate, Return, If, While, Do, For, Switch, Block, Local, Break, Continue, Goto, Mark, Arm, Leap, Land, Arrival, Note}
 use Rattle.c_tree.specs.Exits.{breaks, continues}
 use Rattle.jump_meaning.specs.Values.{Value, Integer, integer}
@@ -13,17 +12,17 @@ use Rattle.jump_meaning.specs.World.{World, Outcome, Gives, Traps, Exits, push, 
 use Rattle.jump_meaning.specs.Operations.{holds}
 use Rattle.jump_meaning.specs.Known.{call_without_body}
 use Rattle.jump_meaning.specs.Calls.{returned, fallen, leave_call, leave_entry}
-use Rattle.jump_meaning.specs.Effects.{Op, Drops, Effect, Does, Fails, Stops, Invokes, Leaves, effect, top, rest}
+use Rattle.jump_meaning.specs.Effects.{Op, Drops, Effect, Does, Fails, Stops, Invokes, Leaves, effect, top}
 use Rattle.jump_meaning.specs.Tasks.{Loop, WhileLoop, DoLoop, ForLoop, Task, Runs, Works, Asks, Branches, Turns, Loops, Heads, Arms, AsksSelector, Enters, EndsSection, Out, items, works, end_of, tail_tasks, turn, cut, cut_to}
-use Rattle.jump_meaning.specs.Search.{Goal, ToLabel, ToCase, ToDefault, is_goal, is_section_goal, enters_switches, or_else, seek, seek_in, seek_sections, first_of_three, find, entry}
-use Rattle.jump_meaning.specs.Step.{Guards, no_guards, with_guard, Frame, Waits, State, At, HasEnded, HasTrapped, View, Finishes, Goes, Guarding, Yields, Takes, Arming, Acts, dropped, view, is_dropped, settle, leave, begin_call, invoke, perform, move, step}
+use Rattle.jump_meaning.specs.Search.{Goal, ToLabel, ToCase, ToDefault, is_goal, is_section_goal, enters_switches, or_else, seek, seek_in, seek_sections, first_of_three, find}
+use Rattle.jump_meaning.specs.Step.{Guards, no_guards, Frame, Waits, State, At, HasEnded, HasTrapped, View, Finishes, Goes, Guarding, Yields, Takes, Arming, Acts, dropped, view, is_dropped, settle, leave, begin_call, invoke, perform, move, step}
 use Rattle.jump_meaning.specs.Runs.{start}
 use Rattle.jump_meaning.proofs.Growth.{either}
 use Rattle.jump_core.specs.Ways.{Peeled, Ask, Known, peel, after_do}
 use Rattle.jump_core.specs.Core.{core, core_of}
 use Rattle.jump_core.proofs.TaskWays.{task_way}
 use Rattle.jump_core.proofs.TaskCores.{core_do_loop, core_do_turn, task_core}
-use Rattle.jump_core.proofs.Lookup.{HasKeptExit, HasKeptLoop}
+use Rattle.jump_core.proofs.Lookup.{HasKeptExit}
 use Rattle.jump_core.proofs.Reach.{body_in}
 use Rattle.jump_core.proofs.Lawful.{SeesDrop}
 
@@ -51,7 +50,7 @@ plain_tail (Section cases default a ends c) k h = plain_items a (end_of ends (ta
 
 -- ---- the core of such tasks drops no value
 
-undropped_items : (a : Forest) (k : List Task) → is_dropped k ≡ false → is_dropped (items a k) ≡ false
+pub undropped_items : (a : Forest) (k : List Task) → is_dropped k ≡ false → is_dropped (items a k) ≡ false
 undropped_items Nil k h = h
 undropped_items (Then x a) k h = refl
 
@@ -78,7 +77,7 @@ undropped (EndsSection ∷ k) h = refl
 undropped (Out ∷ k) h = refl
 undropped (_ ∷ k) h = absurd h
 
-op_dropped : (o : Op) (k k' : List Task) → is_dropped (Works o ∷ k) ≡ is_dropped (Works o ∷ k')
+pub op_dropped : (o : Op) (k k' : List Task) → is_dropped (Works o ∷ k) ≡ is_dropped (Works o ∷ k')
 op_dropped Drops k k' = refl
 op_dropped _ k k' = refl
 

@@ -1,19 +1,17 @@
 -- Where the way of a guard lands, the run lands.
-use Rattle.std.proofs.Common.{Option, Some, None, ℕ, ℤ, pos, Bool, true, false, cond, List, [], ◌∷◌, eqb, ◌≡◌, ◌≢◌, refl, ap, sym, ◌∙◌, subst, eqb-true, eq-eqb, true≢false}
-use Rattle.c_types.specs.declared.kinds.IntKind.{IntKind}
+use Rattle.std.proofs.Common.{Option, Some, None, ℕ, ℤ, Bool, true, false, cond, List, [], ◌∷◌, eqb, ◌≡◌, ◌≢◌, refl, sym, ◌∙◌, subst, eqb-true, eq-eqb, true≢false}
 use Rattle.c_tree.specs.Operators.{truth}
-use Rattle.c_tree.specs.ExpressionTrees.{ExpressionTree}
 use Rattle.c_tree.specs.TestTrees.{TestTree, Source, On, Off, AndOff, OrOn, SelectorTree, Selects, Pick}
-use Rattle.c_tree.specs.Trees.{Tree, Forest, Nil, Then, Sections, NoSection, Section, If, While, Do, Switch, Break, Continue, Arm, Leap, Land}
+use Rattle.c_tree.specs.Trees.{Tree, Forest, Nil, Then, Sections, NoSection, Section, If, While, Do, Switch, Leap, Land}
 use Rattle.jump_meaning.specs.Values.{Value, Integer}
 use Rattle.jump_meaning.specs.Code.{Code}
 use Rattle.jump_meaning.specs.World.{World}
 use Rattle.jump_meaning.specs.Tasks.{WhileLoop, DoLoop, ForLoop, Task, Runs, Asks, Branches, Turns, Loops, AsksSelector, Enters, EndsSection, Out, items, end_of, tail_tasks, cut}
-use Rattle.jump_meaning.specs.Search.{Goal, ToCase, ToDefault, is_section_goal, enters_switches, or_else, seek, seek_sections, first_of_three, find, entry}
+use Rattle.jump_meaning.specs.Search.{Goal, ToCase, ToDefault, is_section_goal, enters_switches, or_else, seek, seek_sections, first_of_three, find}
 use Rattle.jump_meaning.specs.Step.{Guards, with_guard, switch_kind, Frame, State, At, Goes, move, step}
 use Rattle.jump_meaning.proofs.TaskFacts.{cut_tail}
 use Rattle.jump_core.specs.Ways.{only, Peeled, Ask, Known, peel, on_peeled, PeeledSelector, AskSelector, KnownSelector, peel_selector, on_selector, Way, Lands, Past, Lost, ◌▷◌, end_way, walks, walk, tail_way, section_way, do_end_way}
-use Rattle.jump_core.proofs.TaskWays.{loop_way, task_way, exit_way}
+use Rattle.jump_core.proofs.TaskWays.{task_way, exit_way}
 use Rattle.jump_core.proofs.Lawful.{HasNoInnerCase, IsLanded, Lawful}
 use Rattle.jump_core.proofs.Reach.{Agree, reset_other, body_in, Walks, landed, onward, IsMadeTest, quiet, IsMadeSelector, quiet_selector}
 

@@ -1,24 +1,13 @@
 -- A run that lands silently is one whose way lands.
-use Rattle.std.proofs.Common.{Option, Some, None, ℕ, zero, suc, ◌<◌, ℤ, pos, Bool, true, false, not, cond, eqb, List, [], ◌∷◌, ◌≡◌, ◌≢◌, ◌⊎◌, inl, inr, refl, ap, sym, ◌∙◌, subst, arith, eq-eqb, eqb-true, ne_eqb, true≢false}
-use Rattle.c_types.specs.declared.kinds.IntKind.{IntKind}
-use Rattle.c_tree.specs.Operators.{truth}
-use Rattle.c_tree.specs.ExpressionTrees.{ExpressionTree}
-use Rattle.c_tree.specs.TestTrees.{TestTree, Source, On, Off, AndOff, OrOn, SelectorTree, Selects, Pick}
-use Rattle.c_tree.specs.Trees.{Tree, Forest, Nil, Then, Sections, NoSection, Section, Evaluate, Return, If, While, Do, For, Switch, Block, Local, Break, Continue, Goto, Mark, Arm, Leap, Land, Arrival, Note}
+use Rattle.std.proofs.Common.{Option, Some, None, ℕ, pos, Bool, true, false, cond, List, [], ◌∷◌, ◌≡◌, ◌⊎◌, inl, inr, refl, ap, sym, ◌∙◌, true≢false}
+use Rattle.c_tree.specs.Trees.{Tree, Forest, Nil, Then, Sections, NoSection, Section, If, While, Do, For, Switch, Block, Leap, Land}
 use Rattle.jump_meaning.specs.Values.{Value, Integer, integer}
-use Rattle.jump_meaning.specs.Code.{Code}
-use Rattle.jump_meaning.specs.World.{World}
 use Rattle.jump_meaning.specs.Operations.{holds}
 use Rattle.jump_meaning.specs.Effects.{top, rest}
-use Rattle.jump_meaning.specs.Tasks.{Loop, WhileLoop, DoLoop, ForLoop, Task, Runs, Works, Asks, Branches, Turns, Loops, Heads, Arms, AsksSelector, Enters, EndsSection, Out, items, end_of, tail_tasks, turn, cut}
-use Rattle.jump_meaning.specs.Search.{Goal, ToLabel, ToCase, ToDefault, is_goal, is_section_goal, enters_switches, or_else, seek, seek_in, seek_sections, first_of_three, find, entry}
-use Rattle.jump_meaning.specs.Step.{Guards, with_guard, switch_kind, Frame, State, At, HasEnded, HasTrapped, View, Goes, Yields, dropped, move, step}
-use Rattle.jump_meaning.specs.Runs.{run}
-use Rattle.jump_meaning.specs.Steady.{IsSilentTask, IsSilent, HasLanded}
-use Rattle.jump_core.specs.Ways.{only, Peeled, Ask, Known, peel, on_peeled, PeeledSelector, AskSelector, KnownSelector, peel_selector, on_selector, Way, Lands, Past, Lost, ◌▷◌, end_way, walks, walk, tail_way, section_way, do_end_way}
-use Rattle.jump_core.proofs.TaskWays.{loop_way, task_way, exit_way, way_assoc}
-use Rattle.jump_core.proofs.Reach.{Agree, body_in}
-use Rattle.jump_core.proofs.All.{Plain}
+use Rattle.jump_meaning.specs.Tasks.{Loop, WhileLoop, DoLoop, ForLoop, Task, Runs, Works, Asks, Branches, Turns, Loops, Heads, Arms, AsksSelector, Enters, EndsSection, Out, items, end_of, tail_tasks, cut}
+use Rattle.jump_meaning.specs.Search.{Goal, ToLabel, ToCase, ToDefault, is_goal, is_section_goal, enters_switches, or_else, seek, seek_in, seek_sections, first_of_three}
+use Rattle.jump_core.specs.Ways.{only, peel, on_peeled, peel_selector, on_selector, Way, Lands, Past, Lost, ◌▷◌, end_way, walks, walk, tail_way, section_way}
+use Rattle.jump_core.proofs.TaskWays.{loop_way, way_assoc}
 
 -- a further turn of a loop
 abbrev pub turn_way : ℕ → Loop → Way

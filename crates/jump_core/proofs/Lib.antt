@@ -7,6 +7,7 @@ pub mod Arrive
 pub mod Match
 pub mod Pairs
 pub mod Same
+pub mod Faces
 pub mod Order
 pub mod OrderRuns
 pub mod All

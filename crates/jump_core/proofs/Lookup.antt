@@ -114,25 +114,32 @@ cut_to_core (Out ∷ k) h = cut_to_core k h
 abbrev Found : Type 0
 Found = Option (List Task)
 
--- the core of what is found
-abbrev through : Found → Found
-through o = option_map task_core o
-
 or_assoc : (a b c : Found) → or_else (or_else a b) c ≡ or_else a (or_else b c)
 or_assoc (Some k) b c = refl
 or_assoc None b c = refl
 
-or_none : (o : Found) → or_else o None ≡ o
+pub or_none : (o : Found) → or_else o None ≡ o
 or_none (Some k) = refl
 or_none None = refl
 
-or_through : (a b a' b' : Found) → a' ≡ through a → b' ≡ through b → or_else a' b' ≡ through (or_else a b)
-or_through (Some k) b a' b' e f = ap (λ z. or_else z b') e
-or_through None b a' b' e f = ap (λ z. or_else z b') e ∙ f
+-- what is found, with its tasks changed by h
+module _ (h : List Task → List Task) where
+  pub or_mapped : (a b a' b' : Found) → a' ≡ option_map h a → b' ≡ option_map h b → or_else a' b' ≡ option_map h (or_else a b)
+  or_mapped (Some k) b a' b' e f = ap (λ z. or_else z b') e
+  or_mapped None b a' b' e f = ap (λ z. or_else z b') e ∙ f
 
-cond_through : (c : Bool) (a b a' b' : Found) → a' ≡ through a → b' ≡ through b → cond c a' b' ≡ through (cond c a b)
-cond_through true a b a' b' e f = e
-cond_through false a b a' b' e f = f
+  pub cond_mapped : (c : Bool) (a b a' b' : Found) → a' ≡ option_map h a → b' ≡ option_map h b → cond c a' b' ≡ option_map h (cond c a b)
+  cond_mapped true a b a' b' e f = e
+  cond_mapped false a b a' b' e f = f
+
+  pub first_mapped : (o p : Found) (k : List Task) → first_of_three (option_map h o) (option_map h p) (h k) ≡ h (first_of_three o p k)
+  first_mapped (Some x) p k = refl
+  first_mapped None (Some x) k = refl
+  first_mapped None None k = refl
+
+-- the core of what is found
+abbrev through : Found → Found
+through o = option_map task_core o
 
 -- in a list of one item, where k is behind it
 abbrev pub seek_of : Goal → Tree → List Task → Found
@@ -160,19 +167,19 @@ inner_core l x y k kk e f h = or_none (seek_of l y kk) ∙ seek_of_inner l y kk 
 
 -- an item that is its own core, or a Land and its Mark
 leaf_core : (b c : Bool) (x y : Tree) (k kk : List Task) → c ≡ b → task_core (Runs x ∷ k) ≡ Runs y ∷ kk → or_else (cond c (Some (Runs y ∷ kk)) None) None ≡ through (cond b (Some (Runs x ∷ k)) None)
-leaf_core b c x y k kk e f = or_none (cond c (Some (Runs y ∷ kk)) None) ∙ ap (λ z. cond z (Some (Runs y ∷ kk)) None) e ∙ cond_through b (Some (Runs x ∷ k)) None (Some (Runs y ∷ kk)) None (ap Some (sym f)) refl
+leaf_core b c x y k kk e f = or_none (cond c (Some (Runs y ∷ kk)) None) ∙ ap (λ z. cond z (Some (Runs y ∷ kk)) None) e ∙ cond_mapped task_core b (Some (Runs x ∷ k)) None (Some (Runs y ∷ kk)) None (ap Some (sym f)) refl
 
 seek_if : (l : Goal) (p : Peeled) (a b : Forest) (k : List Task) (oa ob : Found) → seek l a k ≡ through oa → seek l b k ≡ through ob → seek l (core_if p a b) k ≡ through (or_else oa ob)
 seek_if l (Ask e) a b k oa ob ea eb =
-    or_none (seek_of l (If (Source e) a b) k) ∙ seek_of_inner l (If (Source e) a b) k (no_goal (If (Source e) a b) (λ m. refl) (λ kind n. refl) refl l) ∙ or_through oa ob (seek l a k) (seek l b k) ea eb
-seek_if l (Known true) a Nil k oa ob ea eb = sym (or_none (seek l a k)) ∙ or_through oa ob (seek l a k) None ea eb
+    or_none (seek_of l (If (Source e) a b) k) ∙ seek_of_inner l (If (Source e) a b) k (no_goal (If (Source e) a b) (λ m. refl) (λ kind n. refl) refl l) ∙ or_mapped task_core oa ob (seek l a k) (seek l b k) ea eb
+seek_if l (Known true) a Nil k oa ob ea eb = sym (or_none (seek l a k)) ∙ or_mapped task_core oa ob (seek l a k) None ea eb
 seek_if l (Known true) a (Then y b) k oa ob ea eb =
     or_none (seek_of l (If (Source (constant true)) a (Then y b)) k) ∙ seek_of_inner l (If (Source (constant true)) a (Then y b)) k (no_goal (If (Source (constant true)) a (Then y b)) (λ m. refl) (λ kind n. refl) refl l)
-    ∙ or_through oa ob (seek l a k) (seek l (Then y b) k) ea eb
-seek_if l (Known false) Nil b k oa ob ea eb = or_through oa ob None (seek l b k) ea eb
+    ∙ or_mapped task_core oa ob (seek l a k) (seek l (Then y b) k) ea eb
+seek_if l (Known false) Nil b k oa ob ea eb = or_mapped task_core oa ob None (seek l b k) ea eb
 seek_if l (Known false) (Then y a) b k oa ob ea eb =
     or_none (seek_of l (If (Source (constant false)) (Then y a) b) k) ∙ seek_of_inner l (If (Source (constant false)) (Then y a) b) k (no_goal (If (Source (constant false)) (Then y a) b) (λ m. refl) (λ kind n. refl) refl l)
-    ∙ or_through oa ob (seek l (Then y a) k) (seek l b k) ea eb
+    ∙ or_mapped task_core oa ob (seek l (Then y a) k) (seek l b k) ea eb
 
 seek_kept_do : (l : Goal) (a : Forest) (e : ExpressionTree) (k : List Task) → seek l (one (Do a (Source e))) k ≡ seek l a (Loops (DoLoop a (Source e)) ∷ k)
 seek_kept_do l a e k = or_none (seek_of l (Do a (Source e)) k) ∙ seek_of_inner l (Do a (Source e)) k (no_goal (Do a (Source e)) (λ m. refl) (λ kind n. refl) refl l)
@@ -205,7 +212,7 @@ mutual
       seek_join l (core_of x (before a w)) (core a w) (task_core k)
       ∙ ap (λ r. or_else (seek l (core_of x (before a w)) r) (seek l (core a w) (task_core k))) (sym (core_items a k))
       ∙ ap (λ u. or_else (seek l (core_of x u) (task_core (items a k))) (seek l (core a w) (task_core k))) (sym (follow_items a k))
-      ∙ or_through (seek_of l x (items a k)) (seek l a k) (seek l (core_of x (task_way (items a k))) (task_core (items a k))) (seek l (core a w) (task_core k)) (seek_of_core l x (items a k)) (seek_core l a k)
+      ∙ or_mapped task_core (seek_of l x (items a k)) (seek l a k) (seek l (core_of x (task_way (items a k))) (task_core (items a k))) (seek l (core a w) (task_core k)) (seek_of_core l x (items a k)) (seek_core l a k)
 
   pub seek_of_core : (l : Goal) (x : Tree) (k : List Task) → seek l (core_of x (task_way k)) (task_core k) ≡ through (seek_of l x k)
   seek_of_core l (Evaluate e) k = leaf_core (is_goal l (Evaluate e)) (is_goal l (Evaluate e)) (Evaluate e) (Evaluate e) k (task_core k) refl refl
@@ -226,7 +233,7 @@ mutual
   seek_of_core l (Switch s c) k =
       let y = Switch (Selects (selector_source s)) (core_sections c (task_way k)) in
       inner_core l (Switch s c) y k (task_core k) (no_goal (Switch s c) (λ m. refl) (λ kind n. refl) refl l) (no_goal y (λ m. refl) (λ kind n. refl) refl l)
-      (cond_through (enters_switches l) (seek_sections l c k) None (seek_sections l (core_sections c (task_way k)) (task_core k)) None (seek_sections_core l c k) refl)
+      (cond_mapped task_core (enters_switches l) (seek_sections l c k) None (seek_sections l (core_sections c (task_way k)) (task_core k)) None (seek_sections_core l c k) refl)
   seek_of_core l (Block a) k =
       let y = Block (core a (task_way k)) in
       inner_core l (Block a) y k (task_core k) (no_goal (Block a) (λ m. refl) (λ kind n. refl) refl l) (no_goal y (λ m. refl) (λ kind n. refl) refl l) (seek_core l a k)
@@ -252,20 +259,15 @@ mutual
       let behind' = end_of ends (tail_tasks (core_sections c (task_way k)) (task_core k)) in
       let e : behind' ≡ task_core behind = ap (end_of ends) (sym (core_tail c k)) ∙ sym (core_end ends (tail_tasks c k)) in
       let ca = core a (after_section ends c (task_way k)) in
-      or_through (cond (is_section_goal l cases default) (Some (items a behind)) (seek l a behind)) (seek_sections l c k)
+      or_mapped task_core (cond (is_section_goal l cases default) (Some (items a behind)) (seek l a behind)) (seek_sections l c k)
       (cond (is_section_goal l cases default) (Some (items ca behind')) (seek l ca behind')) (seek_sections l (core_sections c (task_way k)) (task_core k))
-      (cond_through (is_section_goal l cases default) (Some (items a behind)) (seek l a behind) (Some (items ca behind')) (seek l ca behind')
+      (cond_mapped task_core (is_section_goal l cases default) (Some (items a behind)) (seek l a behind) (Some (items ca behind')) (seek l ca behind')
       (ap Some (sym (core_section a ends c k (core_tail c k))))
       (ap (seek l ca) e ∙ ap (λ w. seek l (core a w) (task_core behind)) (sym (follow_section ends c k)) ∙ seek_core l a behind))
       (seek_sections_core l c k)
 
-first_core : (o p : Found) (k : List Task) → first_of_three (through o) (through p) (task_core k) ≡ task_core (first_of_three o p k)
-first_core (Some x) p k = refl
-first_core None (Some x) k = refl
-first_core None None k = refl
-
 pub find_core : (l : ℕ) (a : Forest) → find l (body_core a) ≡ task_core (find l a)
-find_core l a = ap (λ o. first_of_three o None []) (seek_core (ToLabel l) a []) ∙ first_core (seek (ToLabel l) a []) None []
+find_core l a = ap (λ o. first_of_three o None []) (seek_core (ToLabel l) a []) ∙ first_mapped task_core (seek (ToLabel l) a []) None []
 
 -- in the body of a function
 pub find_in_core : (l : ℕ) (h : FunctionTree) → find l (items_of (core_function h)) ≡ task_core (find l (items_of h))
@@ -278,4 +280,4 @@ find_in_core l h = at_body h.body
 pub entry_core : (kind : IntKind) (n : ℤ) (c : Sections) (k : List Task) → entry kind n (core_sections c (task_way k)) (task_core k) ≡ task_core (entry kind n c k)
 entry_core kind n c k =
     ap₂ (λ o p. first_of_three o p (task_core k)) (seek_sections_core (ToCase kind n) c k) (seek_sections_core ToDefault c k)
-    ∙ first_core (seek_sections (ToCase kind n) c k) (seek_sections ToDefault c k) k
+    ∙ first_mapped task_core (seek_sections (ToCase kind n) c k) (seek_sections ToDefault c k) k

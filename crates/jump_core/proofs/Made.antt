@@ -1,17 +1,15 @@
 -- Well made bodies, and bodies without guards, owe nothing.
-use Rattle.std.proofs.Common.{Option, Some, None, ℕ, zero, suc, ◌+◌, ◌<◌, ◌≤◌, Bool, true, false, cond, List, [], ◌∷◌, ◌≡◌, refl, ap, sym, ◌∙◌, subst, arith, ◌⊎◌, inl, inr, true≢false}
-use Rattle.c_tree.specs.ExpressionTrees.{ExpressionTree}
-use Rattle.c_tree.specs.TestTrees.{TestTree, SelectorTree}
+use Rattle.std.proofs.Common.{Option, Some, None, ℕ, ◌≤◌, Bool, true, false, cond, List, [], ◌∷◌, ◌≡◌, refl, ap, ◌∙◌, arith, inl, inr, true≢false}
 use Rattle.c_tree.specs.Trees.{Tree, Forest, Nil, Then, Sections, NoSection, Section, Evaluate, Return, If, While, Do, For, Switch, Block, Local, Break, Continue, Goto, Mark, Arm, Leap, Land, Arrival, Note}
 use Rattle.c_tree.specs.Everywhere.{total, total_of, total_in, Everywhere, EverywhereOf, EverywhereIn}
 use Rattle.c_tree.specs.Labels.{land_of, lands, GuardLabels}
 use Rattle.c_tree.specs.WellMade.{IsConverted, IsPlainFor, IsWellMade}
 use Rattle.c_tree.proofs.WellMoved.{everywhere_map}
-use Rattle.jump_meaning.specs.Code.{FunctionTree, Code, items_of}
+use Rattle.jump_meaning.specs.Code.{Code}
 use Rattle.jump_meaning.specs.Steady.{IsUnarmed}
-use Rattle.jump_meaning.specs.Tasks.{WhileLoop, DoLoop, ForLoop, Task, Runs, Loops, items, end_of, tail_tasks}
-use Rattle.jump_meaning.specs.Search.{Goal, ToLabel, ToCase, ToDefault, is_goal, enters_switches, or_else, seek, seek_in, seek_sections}
-use Rattle.jump_core.specs.Laws.{IsMadeBody, HasMadeBodies}
+use Rattle.jump_meaning.specs.Tasks.{WhileLoop, DoLoop, ForLoop, Task, Runs, Loops, items}
+use Rattle.jump_meaning.specs.Search.{Goal, ToLabel, ToCase, ToDefault, is_goal, enters_switches, seek, seek_in, seek_sections}
+use Rattle.jump_core.specs.Laws.{HasMadeBodies}
 use Rattle.jump_core.proofs.Reach.{body_in}
 use Rattle.jump_core.proofs.Lawful.{HasNoInnerCase}
 use Rattle.jump_core.proofs.Lookup.{seek_of}

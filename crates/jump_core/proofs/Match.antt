@@ -5,9 +5,8 @@ use Rattle.c_types.specs.declared.trap.Trap.{Trap}
 use Rattle.c_tree.specs.Operators.{truth}
 use Rattle.c_tree.specs.ExpressionTrees.{ExpressionTree}
 use Rattle.c_tree.specs.TestTrees.{TestTree, Source, On, Off, AndOff, OrOn, SelectorTree, Selects, Pick}
-use Rattle.c_tree.specs.Trees.{Tree, Forest, Nil, Then, Sections, Evaluate, Return, If, While, Do, For, Switch, Block, Local, Break, Continue, Goto, Mark, Arm, Leap, Land, Arrival, Note}
+use Rattle.c_tree.specs.Trees.{Tree, Forest, Nil, Then, Evaluate, Return, If, While, Do, For, Switch, Block, Local, Break, Continue, Goto, Mark, Arm, Leap, Land, Arrival, Note}
 use Rattle.c_tree.specs.Cases.{selector_source}
-use Rattle.c_tree.specs.Changed.{one}
 use Rattle.c_tree.specs.Exits.{breaks, continues}
 use Rattle.jump_meaning.specs.Values.{Value, Integer, integer}
 use Rattle.jump_meaning.specs.Code.{FunctionTree, Code}
@@ -15,12 +14,12 @@ use Rattle.jump_meaning.specs.World.{World, Outcome, Gives, Traps, Exits, push}
 use Rattle.jump_meaning.specs.Operations.{holds}
 use Rattle.jump_meaning.specs.Known.{call_without_body}
 use Rattle.jump_meaning.specs.Calls.{returned, fallen, leave_call, leave_entry}
-use Rattle.jump_meaning.specs.Effects.{Op, Computes, Begins, Effect, Does, Fails, Stops, Invokes, Leaves, effect, top, rest}
-use Rattle.jump_meaning.specs.Tasks.{WhileLoop, DoLoop, ForLoop, Task, Runs, Works, Asks, Branches, Turns, Loops, Heads, Arms, AsksSelector, Enters, EndsSection, Out, items, works, turn}
-use Rattle.jump_meaning.specs.Search.{find, entry}
+use Rattle.jump_meaning.specs.Effects.{Op, Begins, Effect, Does, Fails, Stops, Invokes, Leaves, effect, top, rest}
+use Rattle.jump_meaning.specs.Tasks.{WhileLoop, DoLoop, ForLoop, Task, Runs, Works, Asks, Branches, Turns, Loops, Heads, Arms, AsksSelector, Enters, EndsSection, Out, items, works}
+use Rattle.jump_meaning.specs.Search.{find}
 use Rattle.jump_meaning.specs.Step.{Guards, no_guards, with_guard, switch_kind, Frame, Waits, State, At, HasEnded, HasTrapped, Goes, Yields, dropped, is_dropped, settle, leave, begin_call, invoke, perform, move, step}
-use Rattle.jump_core.specs.Ways.{only, Peeled, Ask, Known, peel, Way, Lands, Past, Lost, lost}
-use Rattle.jump_core.specs.Core.{constant, source_of, jump_if, core_if, core_do, core, core_of, core_sections, body_core, core_function, core_code}
+use Rattle.jump_core.specs.Ways.{only, Peeled, Ask, Known, peel, Lands}
+use Rattle.jump_core.specs.Core.{constant, source_of, jump_if, core_if, core_do, core, body_core, core_function, core_code}
 use Rattle.jump_core.proofs.TaskWays.{task_way}
 use Rattle.jump_core.proofs.TaskCores.{core_do_loop, core_do_turn, task_core, core_items}
 use Rattle.jump_core.proofs.Lookup.{cut_core, cut_to_core, find_in_core, entry_core}

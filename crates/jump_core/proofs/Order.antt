@@ -1,25 +1,20 @@
 -- Programs that differ by Arms alone, of which the second may have gotos, run alike as long as no Arm is met.
-use mathlib.Core.Path.{ap₂}
-use Rattle.std.proofs.Common.{ℕ, zero, suc, ℤ, pos, Bool, true, false, cond, List, [], ◌∷◌, ◌≡◌, refl, sym, ap, ◌∙◌, subst, Option, Some, None, Result, Ok, Err}
+use Rattle.std.proofs.Common.{ℕ, ℤ, pos, Bool, true, false, cond, List, [], ◌∷◌, ◌≡◌, refl, sym, subst, Option, Some, None}
 use Rattle.c_types.specs.declared.kinds.IntKind.{IntKind}
 use Rattle.c_types.specs.declared.trap.Trap.{Trap}
 use Rattle.c_tree.specs.ExpressionTrees.{ExpressionTree}
 use Rattle.c_tree.specs.TestTrees.{TestTree, Source, On, Off, AndOff, OrOn, SelectorTree, Selects, Pick}
-use Rattle.c_tree.specs.Trees.{Tree, Forest, Nil, Then, Sections, NoSection, Section, Evaluate, Return, If, While, Do, For, Switch, Block, Local, Break, Continue, Goto, Mark, Arm, Leap, Land, Arrival, Note}
+use Rattle.c_tree.specs.Trees.{Tree, Forest, Sections, Evaluate, Return, If, While, Do, For, Switch, Block, Local, Break, Continue, Goto, Mark, Arm, Leap, Land, Arrival, Note}
 use Rattle.jump_meaning.specs.Values.{Value, Event, integer}
-use Rattle.jump_meaning.specs.Code.{FunctionTree, Code, items_of}
-use Rattle.jump_meaning.specs.World.{World, Outcome, Gives, Traps, Exits, push}
+use Rattle.jump_meaning.specs.World.{World, Outcome, Gives, Traps, Exits}
 use Rattle.jump_meaning.specs.Operations.{holds}
-use Rattle.jump_meaning.specs.Known.{call_without_body}
-use Rattle.jump_meaning.specs.Calls.{returned, fallen, leave_call, leave_entry}
-use Rattle.jump_meaning.specs.Effects.{Op, Drops, Begins, Effect, Does, Fails, Stops, Invokes, Leaves, effect, top, rest}
+use Rattle.jump_meaning.specs.Effects.{Op, Drops, Begins}
 use Rattle.jump_meaning.specs.Tasks.{Loop, WhileLoop, DoLoop, ForLoop, Task, Runs, Works, Asks, Branches, Turns, Loops, Heads, Arms, AsksSelector, Enters, EndsSection, Out, items, works, end_of, tail_tasks, turn, cut, cut_to}
 use Rattle.jump_meaning.specs.Search.{Goal, ToLabel, ToCase, ToDefault, is_goal, is_section_goal, enters_switches, or_else, seek, seek_in, seek_sections, first_of_three, find, entry}
-use Rattle.jump_meaning.specs.Step.{Guards, no_guards, with_guard, switch_kind, Frame, Waits, State, At, HasEnded, HasTrapped, View, Finishes, Goes, Guarding, Yields, Takes, Arming, Acts, dropped, view, is_dropped, settle, leave, begin_call, invoke, perform, move, step}
-use Rattle.jump_meaning.specs.Runs.{run, shows}
-use Rattle.jump_core.specs.Better.{IsLeaf, LeTree, le_leaf, le_arm, le_if, le_while, le_do, le_for, le_switch, le_block, LeAll, le_nil, le_then, LeSections, le_no_section, le_section, LeBody, le_no_body, le_body, LeFunction, LeCode}
+use Rattle.jump_meaning.specs.Step.{Guards, switch_kind, Frame, Waits, State, At, HasEnded, HasTrapped, View, Finishes, Goes, Guarding, Yields, Takes, Arming, Acts, dropped, view, is_dropped, settle}
+use Rattle.jump_core.specs.Better.{IsLeaf, LeTree, le_leaf, le_arm, le_if, le_while, le_do, le_for, le_switch, le_block, LeAll, le_nil, le_then, LeSections, le_no_section, le_section}
 use Rattle.jump_core.proofs.Lookup.{no_goal, seek_of, seek_of_inner}
-use Rattle.jump_core.proofs.Match.{IsNoArm, SafeAt}
+use Rattle.jump_core.proofs.Match.{IsNoArm}
 
 -- ---- tasks and states that differ so
 

@@ -1,54 +1,36 @@
 -- Programs that differ by Arms alone behave the same, where the first meets none.
-use mathlib.Core.Path.{ap₂}
 use Rattle.std.proofs.Common.{ℕ, zero, suc, ℤ, List, [], ◌∷◌, map, take, All, IsSome, IsNone, ◌↔◌, ◌≡◌, refl, sym, ap, ◌∙◌, subst, None, Option, Some, Result, Ok, Err}
 use Rattle.std.specs.Option.{option_map_or}
 use Rattle.c_types.specs.declared.trap.Trap.{Trap}
-use Rattle.c_types.specs.declared.kinds.IntKind.{IntKind}
-use Rattle.c_tree.specs.declared.tree.Slot.{Slot}
 use Rattle.c_tree.specs.Trees.{Tree, Forest, Nil, Arm}
 use Rattle.jump_meaning.specs.Values.{Value, Integer}
 use Rattle.jump_meaning.specs.Code.{FunctionTree, Code, items_of}
-use Rattle.jump_meaning.specs.World.{World, Outcome, push, world_at_start}
+use Rattle.jump_meaning.specs.World.{World, push, world_at_start}
 use Rattle.jump_meaning.specs.Operations.{holds}
 use Rattle.jump_meaning.specs.Known.{call_without_body}
 use Rattle.jump_meaning.specs.Calls.{returned, fallen, leave_call, leave_entry}
 use Rattle.jump_meaning.specs.Effects.{Effect, Does, Fails, Stops, Invokes, Leaves, effect, top, rest}
 use Rattle.jump_meaning.specs.Tasks.{Task, Runs}
 use Rattle.jump_meaning.specs.Behaviour.{Covers}
-use Rattle.jump_meaning.specs.Step.{Guards, no_guards, with_guard, Frame, Waits, State, At, HasEnded, HasTrapped, View, is_dropped, settle, leave, begin_call, invoke, perform, move, step}
+use Rattle.jump_meaning.specs.Step.{Guards, no_guards, with_guard, Frame, Waits, State, View, is_dropped, settle, leave, begin_call, invoke, perform, move, step}
 use Rattle.jump_meaning.specs.Runs.{run, shows, IsEntry, start, jump_run, SameBehaviour}
 use Rattle.jump_meaning.proofs.Covering.{covers_refl}
-use Rattle.jump_core.specs.Better.{IsLeaf, LeTree, le_leaf, le_arm, LeAll, le_nil, LeBody, le_no_body, le_body, LeFunction, LeCode}
+use Rattle.jump_core.specs.Better.{le_leaf, le_arm, LeAll, le_nil, LeBody, le_no_body, le_body, LeFunction, LeCode}
 use Rattle.jump_core.proofs.Match.{IsNoArm, SafeAt}
 use Rattle.jump_core.proofs.Same.{same_world}
-use Rattle.jump_core.proofs.Order.{LeTask, le_runs, LeTasks, le_no_task, le_task, LeFrames, le_no_frame, le_frame, LeState, le_at, le_ended, le_trapped, items_le, works_le, settle_le, dropped_alike, LeView, le_finishes, le_goes, le_guarding, le_yields, le_takes, le_arming, le_acts, view_le}
+use Rattle.jump_core.proofs.Faces.{HaveSameFace, push_alike, entry_alike, call_alike, returned_alike, without_body_alike, same_entries}
+use Rattle.jump_core.proofs.Order.{le_runs, LeTasks, le_no_task, le_task, LeFrames, le_no_frame, le_frame, LeState, le_at, le_ended, le_trapped, items_le, works_le, settle_le, dropped_alike, LeView, le_finishes, le_goes, le_guarding, le_yields, le_takes, le_arming, le_acts, view_le}
 
--- ---- what the functions give
+-- ---- calls
 
--- a function with these parts, and no body
-abbrev parts : Option IntKind → ℕ → List Slot → FunctionTree
-parts r n s = record { result = r; params = n; slots = s; body = None }
+face : {f h : FunctionTree} → LeFunction f h → HaveSameFace f h
+face le = record { result = le.result; params = le.params; slots = le.slots }
 
 module _ {f h : FunctionTree} (le : LeFunction f h) where
-  pub push_alike : (vs : List Value) (w : World) → push f vs w ≡ push h vs w
-  push_alike vs w = ap₂ (λ n s. push (parts None n s) vs w) le.params le.slots
-
-  entry_alike : (x : Value) (w : World) → leave_entry f x w ≡ leave_entry h x w
-  entry_alike x w = ap (λ r. leave_entry (parts r 0 []) x w) le.result
-
-  call_alike : (d : _) (x : Value) (w : World) → leave_call d f x w ≡ leave_call d h x w
-  call_alike d x w = ap₂ (λ r s. leave_call d (parts r 0 s) x w) le.result le.slots
-
-  returned_alike : (x : Value) → returned f x ≡ returned h x
-  returned_alike x = ap (λ r. returned (parts r 0 []) x) le.result
-
-  without_body_alike : (m : List ℕ) (vs : List Value) (w : World) → call_without_body m f vs w ≡ call_without_body m h vs w
-  without_body_alike m vs w = ap₂ (λ r s. call_without_body m (parts r 0 s) vs w) le.result le.slots
-
   leave_le : (x : Value) (w : World) {cs cs' : List Frame} → LeFrames cs cs' → LeState (leave f x cs w) (leave h x cs' w)
-  leave_le x w le_no_frame = subst (λ o. LeState (leave f x [] w) (settle o [] no_guards [] [] [])) (entry_alike x w) (settle_le (leave_entry f x w) [] no_guards [] le_no_task le_no_frame)
+  leave_le x w le_no_frame = subst (λ o. LeState (leave f x [] w) (settle o [] no_guards [] [] [])) (entry_alike (face le) x w) (settle_le (leave_entry f x w) [] no_guards [] le_no_task le_no_frame)
   leave_le x w (le_frame m g v {k = k} {k' = k'} {cs = cs} {cs' = cs'} p q) =
-      subst (λ o. LeState (leave f x (Waits m g k v ∷ cs) w) (settle o m g k' v cs')) (ap (λ d. leave_call d f x w) (dropped_alike p) ∙ call_alike (is_dropped k') x w)
+      subst (λ o. LeState (leave f x (Waits m g k v ∷ cs) w) (settle o m g k' v cs')) (ap (λ d. leave_call d f x w) (dropped_alike p) ∙ call_alike (face le) (is_dropped k') x w)
       (settle_le (leave_call (is_dropped k) f x w) m g v p q)
 
 begin_le : (m : List ℕ) (r : Result World Trap) (w : World) {a a' : Forest} {cs cs' : List Frame} → LeAll a a' → LeFrames cs cs' → LeState (begin_call m a r cs w) (begin_call m a' r cs' w)
@@ -58,9 +40,9 @@ begin_le m (Err t) w' p q = le_trapped t w'.events
 invoke_le : {b b' : Option Forest} → LeBody b b' → {h h' : FunctionTree} → LeFunction h h' → (m : List ℕ) (vs : List Value) (f : List ℕ) (g : Guards) (v : List Value) (w : World) {k k' : List Task} {cs cs' : List Frame} → LeTasks k k' → LeFrames cs cs'
     → LeState (invoke b h m vs f g k v cs w) (invoke b' h' m vs f g k' v cs' w)
 invoke_le (le_body {a = a} {a' = a'} e) {h = h} {h' = h'} le m vs f g v w {k = k} {k' = k'} {cs = cs} {cs' = cs'} p q =
-    subst (λ r. LeState (invoke (Some a) h m vs f g k v cs w) (begin_call m a' r (Waits f g k' v ∷ cs') w)) (push_alike le vs w) (begin_le m (push h vs w) w e (le_frame f g v p q))
+    subst (λ r. LeState (invoke (Some a) h m vs f g k v cs w) (begin_call m a' r (Waits f g k' v ∷ cs') w)) (push_alike (face le) vs w) (begin_le m (push h vs w) w e (le_frame f g v p q))
 invoke_le le_no_body {h = h} {h' = h'} le m vs f g v w {k = k} {k' = k'} {cs = cs} {cs' = cs'} p q =
-    subst (λ o. LeState (invoke None h m vs f g k v cs w) (settle o f g k' v cs')) (without_body_alike le m vs w) (settle_le (call_without_body m h vs w) f g v p q)
+    subst (λ o. LeState (invoke None h m vs f g k v cs w) (settle o f g k' v cs')) (without_body_alike (face le) m vs w) (settle_le (call_without_body m h vs w) f g v p q)
 
 body_le : {b b' : Option Forest} → LeBody b b' → LeAll (option_map_or (λ a. a) b Nil) (option_map_or (λ a. a) b' Nil)
 body_le (le_body e) = e
@@ -79,7 +61,7 @@ module _ (p q : Code) (le : LeCode p q) where
   perform_le (Stops n w) f g r s = le_ended n w.events
   perform_le (Invokes m vs v w) f g r s = invoke_le (le.functions m).body (le.functions m) m vs f g v w r s
   perform_le (Leaves (Some x) w) f g {cs = cs} {cs' = cs'} r s =
-      subst (λ y. LeState (leave (p.functions f) (returned (p.functions f) x) cs w) (leave (q.functions f) y cs' w)) (returned_alike (le.functions f) x) (leave_le (le.functions f) (returned (p.functions f) x) w s)
+      subst (λ y. LeState (leave (p.functions f) (returned (p.functions f) x) cs w) (leave (q.functions f) y cs' w)) (returned_alike (face (le.functions f)) x) (leave_le (le.functions f) (returned (p.functions f) x) w s)
   perform_le (Leaves None w) f g r s = leave_le (le.functions f) (fallen f) w s
 
   move_le : {x x' : View} → LeView x x' → (f : List ℕ) (g : Guards) (v : List Value) (w : World) {cs cs' : List Frame} → LeFrames cs cs' → LeState (move p x f g v cs w) (move q x' f g v cs' w)
@@ -106,25 +88,11 @@ module _ (p q : Code) (le : LeCode p q) where
       let w = world_at_start p input answers in
       let e = same_world p q le.globals le.cells input answers in
       subst (λ u. LeState (start p m arguments input answers) (begin_call m (items_of (q.functions m)) (push (q.functions m) vs u) [] u)) e
-      (subst (λ r. LeState (start p m arguments input answers) (begin_call m (items_of (q.functions m)) r [] w)) (push_alike (le.functions m) vs w)
+      (subst (λ r. LeState (start p m arguments input answers) (begin_call m (items_of (q.functions m)) r [] w)) (push_alike (face (le.functions m)) vs w)
       (begin_le m (push (p.functions m) vs w) w (body_le (le.functions m).body) le_no_frame))
 
   entries_le : (m : List ℕ) (arguments : List ℤ) → IsEntry p m arguments ↔ IsEntry q m arguments
-  entries_le m arguments =
-      let h = le.functions m in
-      let f = p.functions m in
-      let f' = q.functions m in (
-        (λ e. record {
-          defined = (some_le h.body).0 e.defined;
-          numbers = subst (λ s. All (λ s. IsNone s.cells) (take f'.params s)) h.slots (subst (λ n. All (λ s. IsNone s.cells) (take n f.slots)) h.params e.numbers);
-          given = e.given ∙ h.params;
-        }),
-        (λ e. record {
-          defined = (some_le h.body).1 e.defined;
-          numbers = subst (λ s. All (λ s. IsNone s.cells) (take f.params s)) (sym h.slots) (subst (λ n. All (λ s. IsNone s.cells) (take n f'.slots)) (sym h.params) e.numbers);
-          given = e.given ∙ sym h.params;
-        }),
-      )
+  entries_le m arguments = same_entries p q m (face (le.functions m)) (some_le (le.functions m).body) arguments
 
   shows_le : {c d : State} → LeState c d → shows c ≡ shows d
   shows_le (le_at f g v w r s) = refl

@@ -1,7 +1,7 @@
 -- Whole runs of a program and of its core, side by side.
 use Rattle.std.proofs.Common.{ℕ, zero, suc, ◌+◌, ◌≤◌, ◌<◌, ◌≡◌, refl, ap, ◌∙◌, arith, subst}
 use Rattle.jump_meaning.specs.Code.{Code}
-use Rattle.jump_meaning.specs.Step.{State, At, HasEnded, HasTrapped, step}
+use Rattle.jump_meaning.specs.Step.{State, At, HasEnded, HasTrapped}
 use Rattle.jump_meaning.specs.Runs.{run}
 use Rattle.jump_meaning.proofs.RunFacts.{run_add}
 use Rattle.jump_core.specs.Core.{core_code}

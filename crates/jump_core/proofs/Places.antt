@@ -1,20 +1,17 @@
 -- In a well made body, and in one without guards, each item has what it owes.
-use Rattle.std.proofs.Common.{Option, Some, None, ℕ, zero, suc, ◌+◌, ◌<◌, ◌≤◌, Bool, true, false, cond, eqb, ◌==◌, List, [], ◌∷◌, ◌≡◌, refl, ap, sym, ◌∙◌, subst, arith, eq-eqb, eqb-true, true≢false}
-use Rattle.c_types.specs.declared.kinds.IntKind.{IntKind}
-use Rattle.c_tree.specs.ExpressionTrees.{ExpressionTree}
-use Rattle.c_tree.specs.TestTrees.{TestTree, SelectorTree}
+use Rattle.std.proofs.Common.{Option, Some, None, ℕ, zero, suc, ◌+◌, ◌<◌, ◌≤◌, Bool, true, false, cond, eqb, ◌==◌, List, [], ◌∷◌, ◌≡◌, refl, ap, sym, ◌∙◌, arith, eq-eqb, eqb-true, true≢false}
 use Rattle.c_tree.specs.Trees.{Tree, Forest, Nil, Then, Sections, NoSection, Section, Evaluate, Return, If, While, Do, For, Switch, Block, Local, Break, Continue, Goto, Mark, Arm, Leap, Land, Arrival, Note}
 use Rattle.c_tree.specs.Everywhere.{total, total_of, total_in, Everywhere, EverywhereOf, EverywhereIn}
 use Rattle.c_tree.specs.Labels.{land_of, lands, lands_of}
 use Rattle.c_tree.specs.Exits.{breaks, breaks_of, continues, continues_of, continues_in}
 use Rattle.jump_meaning.specs.Code.{Code}
 use Rattle.jump_meaning.specs.Tasks.{WhileLoop, DoLoop, ForLoop, Task, Runs, Loops, Heads, items, end_of, tail_tasks}
-use Rattle.jump_meaning.specs.Search.{Goal, ToLabel, ToCase, ToDefault, is_goal, enters_switches, or_else, seek, seek_in, seek_sections, first_of_three, find}
+use Rattle.jump_meaning.specs.Search.{ToLabel, or_else, seek, seek_sections, first_of_three, find}
 use Rattle.jump_meaning.specs.Step.{no_guards}
 use Rattle.jump_core.specs.Ways.{Peeled, Ask, Known, peel}
 use Rattle.jump_core.proofs.Lookup.{Stays, HasKeptExit, HasKeptLoop, seek_of}
 use Rattle.jump_core.proofs.Reach.{body_in}
-use Rattle.jump_core.proofs.Lawful.{HasNoInnerCase, IsLanded}
+use Rattle.jump_core.proofs.Lawful.{HasNoInnerCase}
 use Rattle.jump_core.proofs.All.{AllIn, AllOf, AllSections, kept_items, kept_end, kept_tail}
 use Rattle.jump_core.proofs.Theorem.{Here}
 

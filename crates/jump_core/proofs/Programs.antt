@@ -8,12 +8,12 @@ use Rattle.c_tree.specs.declared.tree.Function.{Function}
 use Rattle.c_tree.specs.declared.tree.Top.{Top}
 use Rattle.c_tree.specs.declared.tree.Top.TheVariants as T
 use Rattle.c_tree.specs.declared.tree.Program.{Program}
-use Rattle.c_tree.specs.Trees.{Tree, Forest, Nil, Then, Sections, NoSection, Section, Evaluate, Return, If, While, Do, For, Switch, Block, Local, Break, Continue, Goto, Mark, Arm, Leap, Land, Arrival, Note, trees_of}
+use Rattle.c_tree.specs.Trees.{Tree, Forest, Nil, Then, Sections, NoSection, Section, If, While, Do, For, Switch, Block, Goto, Mark, trees_of}
 use Rattle.c_tree.specs.Everywhere.{Everywhere, EverywhereOf, EverywhereIn}
 use Rattle.c_tree.specs.InRange.{IsProgramInRange, body_of}
-use Rattle.jump_meaning.specs.Code.{FunctionTree, Code, items_of, function_tree, undeclared, function_in, first_of, function_named, code_of}
+use Rattle.jump_meaning.specs.Code.{FunctionTree, Code, items_of, function_tree, undeclared, function_in, first_of, code_of}
 use Rattle.jump_meaning.specs.Runs.{SameBehaviour, BehaveTheSame}
-use Rattle.jump_meaning.specs.Steady.{IsUnjumping, IsUnarmed, IsConvertedFunction, IsMadeWell, IsTopMadeWell, IsSteadyCode, IsSteady}
+use Rattle.jump_meaning.specs.Steady.{IsUnjumping, IsConvertedFunction, IsMadeWell, IsTopMadeWell, IsSteadyCode, IsSteady}
 use Rattle.jump_meaning.proofs.Growth.{either}
 use Rattle.jump_core.specs.Core.{core_code}
 use Rattle.jump_core.specs.Better.{LeCode}
@@ -100,10 +100,10 @@ made_bodies p h m =
 of_codes : (p q : Code) → HasMadeBodies p → HasMadeBodies q → LeCode (core_code p) (core_code q) → IsSteadyCode p → IsSteadyCode q × SameBehaviour p q
 of_codes p q b d le st = rewritten p q (placed p b) (placed q d) le st
 
-of_programs : (p q : Program) → IsProgramInRange q → All IsTopMadeWell q.tops → LeCode (core_code (code_of p)) (core_code (code_of q)) → IsSteady p → IsSteady q × BehaveTheSame p q
-of_programs p q ranged made le st =
+pub same_cores : (p q : Program) → IsProgramInRange q → All IsTopMadeWell q.tops → LeCode (core_code (code_of p)) (core_code (code_of q)) → IsSteady p → IsSteady q × BehaveTheSame p q
+same_cores p q ranged made le st =
     let r = of_codes (code_of p) (code_of q) (made_bodies p st.made) (made_bodies q made) le st.states in
     (record { ranged = ranged; made = made; states = r.0 }, record { codes = r.1 })
 
 pub core_laws : CoreLaws
-core_laws = record { of_codes = of_codes; of_programs = of_programs }
+core_laws = record { of_codes = of_codes; of_programs = same_cores }

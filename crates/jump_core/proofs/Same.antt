@@ -1,11 +1,11 @@
 -- A program behaves as its core does.
 use mathlib.Core.Path.{ap₂, fun_ext}
-use Rattle.std.proofs.Common.{ℕ, zero, suc, ◌≤◌, ℤ, List, [], ◌∷◌, map, Option, Some, None, option_map, IsSome, ◌↔◌, ◌≡◌, refl, ap, sym, ◌∙◌, subst, arith}
+use Rattle.std.proofs.Common.{ℕ, suc, ℤ, List, [], map, Option, Some, None, option_map, IsSome, ◌↔◌, ◌≡◌, refl, ap, sym, ◌∙◌, subst, arith}
 use Rattle.std.specs.Option.{option_map_or}
 use Rattle.c_tree.specs.Trees.{Forest, Nil}
 use Rattle.jump_meaning.specs.Values.{Owner, OfFile, OfCall, Integer}
 use Rattle.jump_meaning.specs.Code.{FunctionTree, Code, items_of}
-use Rattle.jump_meaning.specs.World.{World, push, variables_at_start, world_at_start}
+use Rattle.jump_meaning.specs.World.{push, variables_at_start, world_at_start}
 use Rattle.jump_meaning.specs.Behaviour.{Covers}
 use Rattle.jump_meaning.specs.Step.{State, At, HasEnded, HasTrapped, begin_call}
 use Rattle.jump_meaning.specs.Runs.{run, shows, IsEntry, start, jump_run, SameBehaviour}

@@ -1,12 +1,10 @@
 -- The two reasons why the way of each Arm that is met lands: the run is steady, or the core's run meets no Arm.
-use Rattle.std.proofs.Common.{ℕ, true, cond, List, [], ◌∷◌, None, ◌≡◌, refl, subst}
-use Rattle.c_tree.specs.Trees.{Nil, Arm}
-use Rattle.c_tree.specs.Changed.{one}
-use Rattle.jump_meaning.specs.Values.{Value}
+use Rattle.std.proofs.Common.{ℕ, true, cond, List, ◌∷◌, None, ◌≡◌, refl, subst}
+use Rattle.c_tree.specs.Trees.{Arm}
 use Rattle.jump_meaning.specs.Code.{Code}
 use Rattle.jump_meaning.specs.Operations.{holds}
 use Rattle.jump_meaning.specs.Effects.{top}
-use Rattle.jump_meaning.specs.Tasks.{Task, Runs, Arms, items}
+use Rattle.jump_meaning.specs.Tasks.{Task, Runs, Arms}
 use Rattle.jump_meaning.specs.Step.{State, At}
 use Rattle.jump_meaning.specs.Runs.{run}
 use Rattle.jump_core.specs.Ways.{Way, Lands, Past, Lost}

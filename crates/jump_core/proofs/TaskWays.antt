@@ -52,7 +52,7 @@ exit_cut l (Enters kind c ∷ k) = exit_cut l k
 exit_cut l (EndsSection ∷ k) = exit_cut l k
 exit_cut l (Out ∷ k) = refl
 
-exit_items : (l : ℕ) (a : Forest) (k : List Task) → exit_way (items a k) l ≡ exit_way k l
+pub exit_items : (l : ℕ) (a : Forest) (k : List Task) → exit_way (items a k) l ≡ exit_way k l
 exit_items l Nil k = refl
 exit_items l (Then x a) k = exit_items l a k
 

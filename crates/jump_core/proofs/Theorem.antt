@@ -1,18 +1,16 @@
 -- Two programs of which the first is steady behave the same where their cores do, and the second is steady.
-use Rattle.std.proofs.Common.{Option, None, ℕ, zero, suc, ◌<◌, ◌+◌, ℤ, Bool, true, false, cond, eqb, List, [], ◌∷◌, ◌≡◌, refl, ap, sym, ◌∙◌, subst, arith, eq-eqb, eqb-true, true≢false}
-use Rattle.c_tree.specs.TestTrees.{Source, Selects}
-use Rattle.c_tree.specs.Trees.{Tree, Forest, Switch, If, While, Do, Break, Continue, Arm, Leap, Land}
+use Rattle.std.proofs.Common.{None, ℕ, zero, suc, ◌<◌, ◌+◌, ℤ, Bool, true, false, cond, eqb, List, [], ◌∷◌, ◌≡◌, refl, ap, sym, ◌∙◌, subst, arith, eq-eqb, eqb-true, true≢false}
+use Rattle.c_tree.specs.Trees.{Tree, Switch, If, While, Do, Break, Continue, Arm, Leap, Land}
 use Rattle.jump_meaning.specs.Values.{Value}
 use Rattle.jump_meaning.specs.Code.{Code}
 use Rattle.jump_meaning.specs.World.{World}
-use Rattle.jump_meaning.specs.Operations.{holds}
 use Rattle.jump_meaning.specs.Behaviour.{events_of}
-use Rattle.jump_meaning.specs.Effects.{top, rest, Computes}
-use Rattle.jump_meaning.specs.Tasks.{Task, Runs, Works, Asks, Arms}
+use Rattle.jump_meaning.specs.Effects.{rest}
+use Rattle.jump_meaning.specs.Tasks.{Task, Runs, Works, Arms}
 use Rattle.jump_meaning.specs.Search.{find}
 use Rattle.jump_meaning.specs.Step.{Guards, no_guards, with_guard, Frame, Waits, State, At, HasEnded, HasTrapped, step}
 use Rattle.jump_meaning.specs.Runs.{run, shows, IsEntry, start, SameBehaviour}
-use Rattle.jump_meaning.specs.Steady.{AllReset, AtMostOneSet, IsSourceTask, IsSilentTask, IsSilent, HasLanded, LeadsTo, IsSteadyCall, AreSteadyFrames, IsSteadyState, IsSteadyCode}
+use Rattle.jump_meaning.specs.Steady.{AtMostOneSet, IsSourceTask, IsSilentTask, IsSilent, HasLanded, LeadsTo, IsSteadyCall, AreSteadyFrames, IsSteadyState, IsSteadyCode}
 use Rattle.jump_meaning.proofs.RunFacts.{run_add, same_sym, same_trans}
 use Rattle.jump_core.specs.Ways.{only, Lands}
 use Rattle.jump_core.specs.Core.{core_code}
@@ -88,7 +86,7 @@ sure_at p (At f g (Arms l ∷ k) v cs w) h st =
     λ e. arm_led p l f g k (rest v) cs w h.0.1.0 (subst (λ b. IsSteadyState p (At f (with_guard l b g) k (rest v) cs w)) e st)
 sure_at p _ h st = tt
 
-real_sures : (p : Code) → Placed p → IsSteadyCode p → (m : List ℕ) (arguments : List ℤ) → IsEntry p m arguments → (input : List ℕ) (answers : List ℤ) → RealSure p (start p m arguments input answers)
+pub real_sures : (p : Code) → Placed p → IsSteadyCode p → (m : List ℕ) (arguments : List ℤ) → IsEntry p m arguments → (input : List ℕ) (answers : List ℤ) → RealSure p (start p m arguments input answers)
 real_sures p b st m arguments e input answers i =
     let c = start p m arguments input answers in
     sure_at p (run p i c) (all_run p b i c (all_start (Here p) p b.body m arguments input answers)) (subst (IsSteadyState p) (run_suc p i c) (st.at m arguments e input answers (suc i)))
@@ -162,20 +160,33 @@ good_steady : (p : Code) {c : State} → Good p c → IsSteadyState p c
 good_steady p (calmly {c = c} h) = calm_state p c h
 good_steady p (walking l f v cs w cf s) = walking_state p l f v cs w cf s
 
+-- a program whose Arms all have ways that land is steady
+pub sure_steady : (p : Code) → Placed p → ((m : List ℕ) (arguments : List ℤ) → IsEntry p m arguments → (input : List ℕ) (answers : List ℤ) → RealSure p (start p m arguments input answers)) → IsSteadyCode p
+sure_steady p b sures = record {
+  at = λ m arguments e input answers n. good_steady p (all_good p (AllState (Here p)) (lawful p b) (RealSure p) (real_sure p) (all_start (Here p) p b.body) sures m arguments e input answers n);
+}
+
 -- ---- the theorem
 
-pub rewritten : (p q : Code) → Placed p → Placed q → LeCode (core_code p) (core_code q) → IsSteadyCode p → IsSteadyCode q × SameBehaviour p q
-rewritten p q b d le st =
+-- no run of the program meets an Arm
+abbrev pub MeetsNoArm : Code → Type 0
+MeetsNoArm p = (m : List ℕ) (arguments : List ℤ) → IsEntry p m arguments → (input : List ℕ) (answers : List ℤ) (n : ℕ) → SafeAt (run p n (start p m arguments input answers))
+
+-- whatever keeps the behaviour of a core that meets no Arm, and the fact that it meets none, keeps that of the program
+pub between : (p q : Code) → Placed p → Placed q → (MeetsNoArm (core_code p) → SameBehaviour (core_code p) (core_code q)) → (MeetsNoArm (core_code p) → MeetsNoArm (core_code q)) → IsSteadyCode p → IsSteadyCode q × SameBehaviour p q
+between p q b d same keep st =
     let starts_p = all_start (Here p) p b.body in
     let starts_q = all_start (Here q) q d.body in
     let sures_p = real_sures p b st in
     let same_p = as_core p (AllState (Here p)) (lawful p b) (RealSure p) (real_sure p) starts_p sures_p in
-    let safe_p = λ (m : List ℕ) (arguments : List ℤ) (e : IsEntry (core_code p) m arguments) (input : List ℕ) (answers : List ℤ). all_safe p (AllState (Here p)) (lawful p b) (RealSure p) (real_sure p) starts_p sures_p m arguments ((entry_core p m arguments).1 e) input answers in
-    let same_pq = same_le (core_code p) (core_code q) le safe_p in
-    let safe_q = safe_on (core_code p) (core_code q) le safe_p in
+    let safe_p : MeetsNoArm (core_code p) = λ m arguments e input answers. all_safe p (AllState (Here p)) (lawful p b) (RealSure p) (real_sure p) starts_p sures_p m arguments ((entry_core p m arguments).1 e) input answers in
+    let safe_q = keep safe_p in
     let sures_q : (m : List ℕ) (arguments : List ℤ) → IsEntry q m arguments → (input : List ℕ) (answers : List ℤ) → CoreSafe q (start q m arguments input answers) =
     λ m arguments e input answers i. subst (λ c. SafeAt (run (core_code q) i c)) (sym (start_core q m arguments input answers)) (safe_q m arguments ((entry_core q m arguments).0 e) input answers i) in
     let same_q = as_core q (AllState (Here q)) (lawful q d) (CoreSafe q) (core_safe q) starts_q sures_q in (
       record { at = λ m arguments e input answers n. good_steady q (all_good q (AllState (Here q)) (lawful q d) (CoreSafe q) (core_safe q) starts_q sures_q m arguments e input answers n) },
-      same_trans p (core_code p) q same_p (same_trans (core_code p) (core_code q) q same_pq (same_sym q (core_code q) same_q)),
+      same_trans p (core_code p) q same_p (same_trans (core_code p) (core_code q) q (same safe_p) (same_sym q (core_code q) same_q)),
     )
+
+pub rewritten : (p q : Code) → Placed p → Placed q → LeCode (core_code p) (core_code q) → IsSteadyCode p → IsSteadyCode q × SameBehaviour p q
+rewritten p q b d le st = between p q b d (same_le (core_code p) (core_code q) le) (safe_on (core_code p) (core_code q) le) st

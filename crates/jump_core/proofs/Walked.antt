@@ -1,17 +1,17 @@
 -- A call whose guard leads silently to its Land stands where the way of the guard lands.
-use Rattle.std.proofs.Common.{Option, Some, None, ℕ, zero, suc, ◌<◌, ℤ, pos, Bool, true, false, not, cond, eqb, List, [], ◌∷◌, ◌≡◌, ◌≢◌, refl, ap, sym, ◌∙◌, subst, arith, eq-eqb, ne_eqb}
+use Rattle.std.proofs.Common.{Option, Some, None, ℕ, zero, suc, ◌<◌, ℤ, pos, Bool, true, false, not, cond, List, [], ◌∷◌, ◌≡◌, refl, ap, sym, ◌∙◌, arith, eq-eqb, ne_eqb}
 use Rattle.c_tree.specs.Operators.{truth}
 use Rattle.c_tree.specs.ExpressionTrees.{ExpressionTree}
 use Rattle.c_tree.specs.TestTrees.{TestTree, Source, On, Off, AndOff, OrOn, SelectorTree, Selects, Pick}
-use Rattle.c_tree.specs.Trees.{Tree, Forest, Sections, If, While, Do, Switch, Leap, Land}
+use Rattle.c_tree.specs.Trees.{Forest, Sections, If, While, Do, Switch, Leap, Land}
 use Rattle.jump_meaning.specs.Values.{Value, Integer, integer}
 use Rattle.jump_meaning.specs.Code.{Code}
 use Rattle.jump_meaning.specs.World.{World}
 use Rattle.jump_meaning.specs.Operations.{holds}
 use Rattle.jump_meaning.specs.Effects.{top, rest}
 use Rattle.jump_meaning.specs.Tasks.{Loop, WhileLoop, DoLoop, ForLoop, Task, Runs, Asks, Branches, Turns, Loops, Heads, AsksSelector, Enters, EndsSection, Out, items, turn}
-use Rattle.jump_meaning.specs.Search.{Goal, ToCase, ToDefault, seek_sections, first_of_three, find}
-use Rattle.jump_meaning.specs.Step.{Guards, with_guard, switch_kind, Frame, State, At, HasEnded, HasTrapped, View, Goes, Yields, dropped, move, step}
+use Rattle.jump_meaning.specs.Search.{ToCase, ToDefault, seek_sections, first_of_three, find}
+use Rattle.jump_meaning.specs.Step.{Guards, switch_kind, Frame, State, At, HasEnded, HasTrapped, View, Goes, Yields, dropped, move, step}
 use Rattle.jump_meaning.specs.Runs.{run}
 use Rattle.jump_meaning.specs.Steady.{IsSilentTask, IsSilent, HasLanded, LeadsTo}
 use Rattle.jump_meaning.proofs.Growth.{either}

@@ -1,6 +1,6 @@
 -- The core of a body: the goto program that lies under it. While all guards are reset, made tests, Leaps and
 -- Lands do nothing, and an Arm whose way lands is a goto.
-use Rattle.std.specs.Prelude.{ℕ, zero, suc, ◌+◌, pos, Bool, true, false, Option, Some, None, option_map}
+use Rattle.std.specs.Prelude.{ℕ, zero, suc, ◌+◌, pos, Bool, true, false, Some, None, option_map}
 use Rattle.c_types.specs.declared.kinds.IntKind.TheVariants.{Int}
 use Rattle.c_tree.specs.ExpressionTrees.{ExpressionTree, Typed, Number}
 use Rattle.c_tree.specs.TestTrees.{Source, Selects}

@@ -81,11 +81,11 @@ LeMaybe None None = Unit {0}
 LeMaybe (Some x) (Some y) = LeWay x y
 LeMaybe _ _ = ⊥
 
-maybe_here : (b : Bool) (x y : Way) (o p : Option Way) → LeWay x y → LeMaybe o p → LeMaybe (cond b (Some x) o) (cond b (Some y) p)
+pub maybe_here : (b : Bool) (x y : Way) (o p : Option Way) → LeWay x y → LeMaybe o p → LeMaybe (cond b (Some x) o) (cond b (Some y) p)
 maybe_here true x y o p h k = h
 maybe_here false x y o p h k = k
 
-maybe_first : (o p o' p' : Option Way) → LeMaybe o o' → LeMaybe p p' → LeWay (first_of_three o p Past) (first_of_three o' p' Past)
+pub maybe_first : (o p o' p' : Option Way) → LeMaybe o o' → LeMaybe p p' → LeWay (first_of_three o p Past) (first_of_three o' p' Past)
 maybe_first (Some x) p (Some y) p' h k = h
 maybe_first (Some x) p None p' h k = absurd h
 maybe_first None p (Some y) p' h k = absurd h

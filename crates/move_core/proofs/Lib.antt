@@ -11,9 +11,10 @@ pub mod SwitchOut
 pub mod SwitchIn
 pub mod MovedWhere
 pub mod BetterMoved
-pub mod Laws
 pub mod Simplified
+pub mod NamedFunctions
 pub mod BodiesMoved
 pub mod RangesKept
 pub mod ProgramsMoved
 pub mod SteadyMoved
+pub mod Laws

@@ -1,0 +1,4 @@
+pub mod ConvertedTrees
+pub mod BetterConverted
+pub mod Kept
+pub mod ProgramsConverted

@@ -1,0 +1,4 @@
+pub mod Simpler
+pub mod Numbers
+pub mod Kept
+pub mod ProgramsSimplified
