@@ -1,0 +1,12 @@
+//! Worked examples of the four movements, each from the body that the conversion gives to the last
+//! join. This crate holds their tests alone, so that the movements are not proved twice for them.
+#![tactic(auto)]
+
+#[cfg(test)]
+mod bodies;
+#[cfg(test)]
+mod printed;
+#[cfg(test)]
+mod tests;
+#[cfg(test)]
+mod walk;
