@@ -1,8 +1,14 @@
 use Rattle.std.proofs.Common.{◌≡◌, ℕ, zero, suc, ◌+◌, ◌-◌, ◌<◌, ◌≤◌, List, [], ◌∷◌, ◌++◌, length, take, drop, slice_range, refl, sym, ap, ◌∙◌, arith, add-one, append_assoc}
+use Rattle.std.proofs.lemmas.List.{drop-take}
 use Rattle.std.proofs.Math.ListN.{set, length-take, length-drop}
 use Rattle.c_tree.specs.declared.tree.Item.{Item, If}
 use Rattle.c_tree.specs.declared.tree.Test.{Off}
 use Rattle.c_tree.specs.Join.{guarded, joined_after}
+
+-- the stretch that is cut, once what comes after it is gone
+
+pub cut_front : {X : Type 0} (xs : List X) (i j : ℕ) → i ≤ j → drop i (take j xs) ≡ slice_range xs i j
+cut_front xs i j h = let e : i + (j - i) ≡ j = omega arith in ap (λ n. drop i (take n xs)) (sym e) ∙ drop-take i (j - i) xs
 
 -- an item put into what is left of a list from which a stretch was cut
 

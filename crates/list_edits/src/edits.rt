@@ -10,16 +10,16 @@ pub fn cut<T: Drop>(items: &mut Vec<T>, from: usize, to: usize) -> Result<Vec<T>
     ensures rest { OnOk result (items.new.items ≡ take from items.old.items ++ drop to items.old.items) }
     ensures err { OnErr result (items.new.items ≡ items.old.items) }
 {
-    let mut mid = items.split_off(from)?;
-    match mid.split_off(to - from) {
-        Ok(mut tail) => match items.append(&mut tail) {
-            Ok(()) => Ok(mid),
-            Err(_) => unreachable!(),
-        },
-        Err(_) => match items.append(&mut mid) {
-            Ok(()) => Err(Memory),
-            Err(_) => unreachable!(),
-        },
+    // The tail goes first, so that what is moved out keeps no room for it.
+    let mut tail = items.split_off(to)?;
+    let mid = items.split_off(from);
+    match items.append(&mut tail) {
+        Ok(()) => {}
+        Err(_) => unreachable!(),
+    }
+    match mid {
+        Ok(mid) => Ok(mid),
+        Err(_) => Err(Memory),
     }
 }
 
