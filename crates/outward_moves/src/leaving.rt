@@ -47,10 +47,11 @@ fn rooms_for(item: &Item, branch: Branch) -> usize
     }
 }
 
-pub fn make_spare(alloc: Global, item: &Item, branch: Branch, label: u32) -> Result<Spare, Memory>
+pub fn make_spare(alloc: Global, item: &Item, branch: Branch) -> Result<Spare, Memory>
     ensures { IfOk result (λ s. vec_len s.rooms ≡ fallen_after branch item.now) }
 {
-    let test = Boxed::new(alloc, Test::On(label))?;
+    // A placeholder, which the test of the loop replaces.
+    let test = Boxed::new(alloc, Test::On(0))?;
     let rooms = make_rooms(alloc, rooms_for(item, branch))?;
     Ok(Spare { test, rooms })
 }

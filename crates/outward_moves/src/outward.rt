@@ -53,7 +53,7 @@ fn move_out_items(
     if items.len() >= MOST {
         return Err(Memory);
     }
-    let spare = make_spare(alloc, &items[at], branch, label)?;
+    let spare = make_spare(alloc, &items[at], branch)?;
     items.reserve(1)?;
     leave_at(alloc, items, at, branch, leap, label, spare)?;
     insert_at(items, at + 1, Item::Leap(label));
