@@ -8,8 +8,8 @@ use Rattle.c_tree.specs.declared.tree.Expression.{Expression}
 use Rattle.c_tree.specs.declared.tree.Test.{Test}
 use Rattle.c_tree.specs.declared.tree.Selector.{Selector}
 use Rattle.c_tree.specs.declared.tree.Section.{Section}
-use Rattle.c_tree.specs.declared.tree.Item.{Item, Evaluate, Return, If, While, Do, For, Switch, Block, Local, Mark, Arm, Leap, Land, Arrival, fold-roll-Item}
-use Rattle.c_tree.specs.declared.tree.Item.TheVariants.{rolls-Evaluate, rolls-Return, rolls-If, rolls-While, rolls-Do, rolls-For, rolls-Switch, rolls-Block, rolls-Local, rolls-Mark, rolls-Arm, rolls-Leap, rolls-Land, rolls-Arrival}
+use Rattle.c_tree.specs.declared.tree.Item.{Item, Evaluate, Return, If, While, Do, For, Switch, Block, Local, Goto, Mark, Arm, Leap, Land, Arrival, fold-roll-Item}
+use Rattle.c_tree.specs.declared.tree.Item.TheVariants.{rolls-Evaluate, rolls-Return, rolls-If, rolls-While, rolls-Do, rolls-For, rolls-Switch, rolls-Block, rolls-Local, rolls-Goto, rolls-Mark, rolls-Arm, rolls-Leap, rolls-Land, rolls-Arrival}
 use Rattle.c_tree.specs.declared.tree.Item.TheOpen as I
 use Rattle.c_tree.specs.TextPieces.{Piece, Text, ◌⨾◌, nothing, space, newline, indentation, word, punctuator}
 use Rattle.c_tree.specs.TextExpressions.{expression_text}
@@ -34,26 +34,26 @@ module _ (f : Function) where
     lines_of_printed : (p : Printed) → printed f item ≡ p → p.lines depth ≡ (printed f item).lines depth
     lines_of_printed p e = sym (ap (λ (q : Printed). q.lines depth) e)
 
-    pub evaluate_lines : (e : Expression) (s : List Slot) → item ≡ Evaluate e → s ≡ f.slots → (expression_text s e 1 ⨾ end) ≡ (printed f item).lines depth
-    evaluate_lines e s is q0 = rw (q0) (lines_of_printed _ (ap (printed f) (is ∙ sym (rolls-Evaluate e)) ∙ fold-roll-Item Printed PrintedSection (item_step f) (section_step f) (I.Evaluate e)))
+    pub evaluate_lines : (e : Expression) → item ≡ Evaluate e → (expression_text f.slots e 1 ⨾ end) ≡ (printed f item).lines depth
+    evaluate_lines e is = lines_of_printed _ (ap (printed f) (is ∙ sym (rolls-Evaluate e)) ∙ fold-roll-Item Printed PrintedSection (item_step f) (section_step f) (I.Evaluate e))
 
-    pub return_lines : (v : Option Expression) (s : List Slot) → item ≡ Return v → s ≡ f.slots → (word (codes "return") ⨾ part_text s v ⨾ end) ≡ (printed f item).lines depth
-    return_lines v s is q0 = rw (q0) (lines_of_printed _ (ap (printed f) (is ∙ sym (rolls-Return v)) ∙ fold-roll-Item Printed PrintedSection (item_step f) (section_step f) (I.Return v)))
+    pub return_lines : (v : Option Expression) → item ≡ Return v → (word (codes "return") ⨾ part_text f.slots v ⨾ end) ≡ (printed f item).lines depth
+    return_lines v is = lines_of_printed _ (ap (printed f) (is ∙ sym (rolls-Return v)) ∙ fold-roll-Item Printed PrintedSection (item_step f) (section_step f) (I.Return v))
 
-    pub if_lines : (t : Test) (a : List Item) (b : List Item) (s : List Slot) (x : List Item) (y : List Item) → item ≡ If t a b → s ≡ f.slots → x ≡ a → y ≡ b → ((word (codes "if") ⨾ space ⨾ test_text s t) ⨾ space ⨾ braced (texts x) depth ⨾ else_text (texts y) depth) ≡ (printed f item).lines depth
-    if_lines t a b s x y is q0 q1 q2 = rw (q0, q1, q2) (lines_of_printed _ (ap (printed f) (is ∙ sym (rolls-If t a b)) ∙ fold-roll-Item Printed PrintedSection (item_step f) (section_step f) (I.If t a b)))
+    pub if_lines : (t : Test) (a : List Item) (b : List Item) (x : List Item) (y : List Item) → item ≡ If t a b → x ≡ a → y ≡ b → ((word (codes "if") ⨾ space ⨾ test_text f.slots t ⨾ space) ⨾ braced (texts x) depth ⨾ else_text (texts y) depth) ≡ (printed f item).lines depth
+    if_lines t a b x y is q0 q1 = rw (q0, q1) (lines_of_printed _ (ap (printed f) (is ∙ sym (rolls-If t a b)) ∙ fold-roll-Item Printed PrintedSection (item_step f) (section_step f) (I.If t a b)))
 
-    pub while_lines : (t : Test) (a : List Item) (s : List Slot) (x : List Item) → item ≡ While t a → s ≡ f.slots → x ≡ a → ((word (codes "while") ⨾ space ⨾ test_text s t) ⨾ space ⨾ braced (texts x) depth ⨾ newline) ≡ (printed f item).lines depth
-    while_lines t a s x is q0 q1 = rw (q0, q1) (lines_of_printed _ (ap (printed f) (is ∙ sym (rolls-While t a)) ∙ fold-roll-Item Printed PrintedSection (item_step f) (section_step f) (I.While t a)))
+    pub while_lines : (t : Test) (a : List Item) (x : List Item) → item ≡ While t a → x ≡ a → ((word (codes "while") ⨾ space ⨾ test_text f.slots t ⨾ space) ⨾ braced (texts x) depth ⨾ newline) ≡ (printed f item).lines depth
+    while_lines t a x is q0 = rw (q0) (lines_of_printed _ (ap (printed f) (is ∙ sym (rolls-While t a)) ∙ fold-roll-Item Printed PrintedSection (item_step f) (section_step f) (I.While t a)))
 
-    pub do_lines : (a : List Item) (t : Test) (s : List Slot) (x : List Item) → item ≡ Do a t → s ≡ f.slots → x ≡ a → ((word (codes "do") ⨾ space) ⨾ braced (texts x) depth ⨾ (space ⨾ word (codes "while") ⨾ space ⨾ test_text s t ⨾ end)) ≡ (printed f item).lines depth
-    do_lines a t s x is q0 q1 = rw (q0, q1) (lines_of_printed _ (ap (printed f) (is ∙ sym (rolls-Do a t)) ∙ fold-roll-Item Printed PrintedSection (item_step f) (section_step f) (I.Do a t)))
+    pub do_lines : (a : List Item) (t : Test) (x : List Item) → item ≡ Do a t → x ≡ a → ((word (codes "do") ⨾ space) ⨾ braced (texts x) depth ⨾ space ⨾ word (codes "while") ⨾ space ⨾ test_text f.slots t ⨾ end) ≡ (printed f item).lines depth
+    do_lines a t x is q0 = rw (q0) (lines_of_printed _ (ap (printed f) (is ∙ sym (rolls-Do a t)) ∙ fold-roll-Item Printed PrintedSection (item_step f) (section_step f) (I.Do a t)))
 
-    pub for_lines : (first : List Item) (t : Option Expression) (u : Option Expression) (a : List Item) (y : List Item) (x : List Item) → item ≡ For first t u a → y ≡ first → x ≡ a → ((word (codes "for") ⨾ space) ⨾ (punctuator (codes "(") ⨾ first_text (texts y) ⨾ punctuator (codes ";") ⨾ part_text f.slots t ⨾ punctuator (codes ";") ⨾ part_text f.slots u ⨾ punctuator (codes ")")) ⨾ space ⨾ braced (texts x) depth ⨾ newline) ≡ (printed f item).lines depth
+    pub for_lines : (first : List Item) (t : Option Expression) (u : Option Expression) (a : List Item) (y : List Item) (x : List Item) → item ≡ For first t u a → y ≡ first → x ≡ a → ((word (codes "for") ⨾ space ⨾ punctuator (codes "(") ⨾ first_text (texts y) ⨾ punctuator (codes ";") ⨾ part_text f.slots t ⨾ punctuator (codes ";") ⨾ part_text f.slots u ⨾ punctuator (codes ")") ⨾ space) ⨾ braced (texts x) depth ⨾ newline) ≡ (printed f item).lines depth
     for_lines first t u a y x is q0 q1 = rw (q0, q1) (lines_of_printed _ (ap (printed f) (is ∙ sym (rolls-For first t u a)) ∙ fold-roll-Item Printed PrintedSection (item_step f) (section_step f) (I.For first t u a)))
 
-    pub switch_lines : (e : Selector) (ss : List Section) (s : List Slot) (x : List Section) → item ≡ Switch e ss → s ≡ f.slots → x ≡ ss → ((word (codes "switch") ⨾ space ⨾ selector_text s e ⨾ space ⨾ punctuator (codes "{") ⨾ newline) ⨾ sections_text (map (printed_section f) x) depth ⨾ close depth ⨾ newline) ≡ (printed f item).lines depth
-    switch_lines e ss s x is q0 q1 = rw (q0, q1) (lines_of_printed _ (ap (printed f) (is ∙ sym (rolls-Switch e ss)) ∙ fold-roll-Item Printed PrintedSection (item_step f) (section_step f) (I.Switch e ss)))
+    pub switch_lines : (e : Selector) (ss : List Section) (x : List Section) → item ≡ Switch e ss → x ≡ ss → ((word (codes "switch") ⨾ space ⨾ selector_text f.slots e ⨾ space ⨾ punctuator (codes "{") ⨾ newline) ⨾ sections_text (map (printed_section f) x) depth ⨾ close depth ⨾ newline) ≡ (printed f item).lines depth
+    switch_lines e ss x is q0 = rw (q0) (lines_of_printed _ (ap (printed f) (is ∙ sym (rolls-Switch e ss)) ∙ fold-roll-Item Printed PrintedSection (item_step f) (section_step f) (I.Switch e ss)))
 
     pub block_lines : (a : List Item) (x : List Item) → item ≡ Block a → x ≡ a → (braced (texts x) depth ⨾ newline) ≡ (printed f item).lines depth
     block_lines a x is q0 = rw (q0) (lines_of_printed _ (ap (printed f) (is ∙ sym (rolls-Block a)) ∙ fold-roll-Item Printed PrintedSection (item_step f) (section_step f) (I.Block a)))
@@ -61,19 +61,22 @@ module _ (f : Function) where
     pub local_lines : (k : ℕ) (given : Option (List Expression)) → item ≡ Local k given → (local_text f k given ⨾ end) ≡ (printed f item).lines depth
     local_lines k given is = lines_of_printed _ (ap (printed f) (is ∙ sym (rolls-Local k given)) ∙ fold-roll-Item Printed PrintedSection (item_step f) (section_step f) (I.Local k given))
 
-    pub mark_lines : (l : ℕ) (n : List ℕ) → item ≡ Mark l → n ≡ label_name f l → (word n ⨾ punctuator (codes ":") ⨾ space ⨾ end) ≡ (printed f item).lines depth
-    mark_lines l n is q0 = rw (q0) (lines_of_printed _ (ap (printed f) (is ∙ sym (rolls-Mark l)) ∙ fold-roll-Item Printed PrintedSection (item_step f) (section_step f) (I.Mark l)))
+    pub goto_lines : (l : ℕ) → item ≡ Goto l → (word (codes "goto") ⨾ space ⨾ word (label_name f l) ⨾ end) ≡ (printed f item).lines depth
+    goto_lines l is = lines_of_printed _ (ap (printed f) (is ∙ sym (rolls-Goto l)) ∙ fold-roll-Item Printed PrintedSection (item_step f) (section_step f) (I.Goto l))
 
-    pub arm_lines : (l : ℕ) (c : Option Expression) → item ≡ Arm l c → (nothing) ≡ (printed f item).lines depth
+    pub mark_lines : (l : ℕ) → item ≡ Mark l → (word (label_name f l) ⨾ punctuator (codes ":") ⨾ space ⨾ end) ≡ (printed f item).lines depth
+    mark_lines l is = lines_of_printed _ (ap (printed f) (is ∙ sym (rolls-Mark l)) ∙ fold-roll-Item Printed PrintedSection (item_step f) (section_step f) (I.Mark l))
+
+    pub arm_lines : (l : ℕ) (c : Option Expression) → item ≡ Arm l c → nothing ≡ (printed f item).lines depth
     arm_lines l c is = lines_of_printed _ (ap (printed f) (is ∙ sym (rolls-Arm l c)) ∙ fold-roll-Item Printed PrintedSection (item_step f) (section_step f) (I.Arm l c))
 
-    pub leap_lines : (l : ℕ) → item ≡ Leap l → (nothing) ≡ (printed f item).lines depth
+    pub leap_lines : (l : ℕ) → item ≡ Leap l → nothing ≡ (printed f item).lines depth
     leap_lines l is = lines_of_printed _ (ap (printed f) (is ∙ sym (rolls-Leap l)) ∙ fold-roll-Item Printed PrintedSection (item_step f) (section_step f) (I.Leap l))
 
-    pub land_lines : (l : ℕ) → item ≡ Land l → (nothing) ≡ (printed f item).lines depth
+    pub land_lines : (l : ℕ) → item ≡ Land l → nothing ≡ (printed f item).lines depth
     land_lines l is = lines_of_printed _ (ap (printed f) (is ∙ sym (rolls-Land l)) ∙ fold-roll-Item Printed PrintedSection (item_step f) (section_step f) (I.Land l))
 
-    pub arrival_lines : (c : Option Expression) → item ≡ Arrival c → (nothing) ≡ (printed f item).lines depth
+    pub arrival_lines : (c : Option Expression) → item ≡ Arrival c → nothing ≡ (printed f item).lines depth
     arrival_lines c is = lines_of_printed _ (ap (printed f) (is ∙ sym (rolls-Arrival c)) ∙ fold-roll-Item Printed PrintedSection (item_step f) (section_step f) (I.Arrival c))
 
   -- an else-list

@@ -3,19 +3,21 @@
 ghost use Rattle.std.specs.Prelude.{◌≡◌, map, codes};
 ghost use Rattle.c_tree.specs.declared.tree.Section.{out-Section};
 ghost use Rattle.c_tree.specs.TextPieces.{◌⨾◌, only_if, space, newline, indentation, word, punctuator, joined};
-ghost use Rattle.c_tree.specs.TextExpressions.{expression_text};
-ghost use Rattle.c_tree.specs.TextItems.{deeper as the_deeper, test_text, selector_text, part_text, first_text, is_printed as the_is_printed, line, null_line, default_line, case_line, list_text, braced, else_text, section_end, sections_text, printed, printed_section};
+ghost use Rattle.c_tree.specs.TextItems.{deeper as the_deeper, part_text, first_text, is_printed as the_is_printed, line, null_line, default_line, case_line, list_text, braced, else_text, section_end, sections_text, printed, printed_section};
 ghost use Rattle.c_printer.specs.Writing.{Prints};
 
 use crate::declarations::{
-    label_name, put_condition, put_end, put_further, put_keyword, put_local, put_part,
-    put_selector, put_verbatim_line,
+    put_end, put_further, put_keyword, put_local, put_part, put_verbatim_line,
 };
 use crate::expressions::put_expression;
 use crate::pieces::{put_indentation, put_newline, put_punctuator, put_space, put_word};
 use crate::shape::{begins_with_local, ends_in_note, is_lone_if, is_printed};
+use crate::statements::{
+    put_close, put_close_line, put_evaluation, put_goto, put_keyword_line, put_local_line,
+    put_mark, put_repeat, put_return, put_switch, put_tested,
+};
 use crate::writer::Output;
-use c_tree::{Expression, Function, Item, Section, Selector, Slot, Test};
+use c_tree::{Expression, Function, Item, Section, Slot};
 
 /// The depth of a list in one of this depth.
 fn deeper(depth: u32) -> u32
@@ -120,32 +122,19 @@ fn put_brackets<W: Output>(
     put_punctuator(out, ")");
 }
 
-/// The end of a `do`.
-fn put_repeat<W: Output>(out: &mut W, slots: &[Slot], test: &Test)
-    ensures { Prints (W.progress out.old) (W.progress out.new) (space ⨾ word (codes "while") ⨾ space ⨾ test_text slots.now test.now ⨾ punctuator (codes ";") ⨾ newline) }
+/// A `for` up to its list.
+fn put_for<W: Output>(
+    out: &mut W,
+    function: &Function,
+    first: &[Item],
+    test: &Option<Expression>,
+    step: &Option<Expression>,
+)
+    ensures { Prints (W.progress out.old) (W.progress out.new) (word (codes "for") ⨾ space ⨾ punctuator (codes "(") ⨾ first_text (map (printed function.now) first.now) ⨾ punctuator (codes ";") ⨾ part_text function.now.slots test.now ⨾ punctuator (codes ";") ⨾ part_text function.now.slots step.now ⨾ punctuator (codes ")") ⨾ space) }
 {
+    put_keyword(out, "for");
+    put_brackets(out, function, first, test, step);
     put_space(out);
-    put_condition(out, "while", slots, test);
-    put_end(out);
-}
-
-/// The first line of a `switch`.
-fn put_switch<W: Output>(out: &mut W, slots: &[Slot], selector: &Selector)
-    ensures { Prints (W.progress out.old) (W.progress out.new) (word (codes "switch") ⨾ space ⨾ selector_text slots.now selector.now ⨾ space ⨾ punctuator (codes "{") ⨾ newline) }
-{
-    put_keyword(out, "switch");
-    put_selector(out, slots, selector);
-    put_space(out);
-    put_punctuator(out, "{");
-    put_newline(out);
-}
-
-/// The `}` of a construct, at the construct's depth.
-fn put_close<W: Output>(out: &mut W, depth: u32)
-    ensures { Prints (W.progress out.old) (W.progress out.new) (indentation depth ⨾ punctuator (codes "}")) }
-{
-    put_indentation(out, depth);
-    put_punctuator(out, "}");
 }
 
 /// The spaces before the first line of an item, if it has lines.
@@ -209,8 +198,7 @@ fn put_section_end<W: Output>(
     let items = section.list.as_slice();
     if section.ends {
         put_indentation(out, depth);
-        put_word(out, "break");
-        put_end(out);
+        put_keyword_line(out, "break");
     } else {
         put_null_line(
             out,
@@ -225,79 +213,40 @@ fn put_section_end<W: Output>(
 fn put_lines<W: Output>(out: &mut W, function: &Function, item: &Item, depth: u32)
     ensures { Prints (W.progress out.old) (W.progress out.new) ((printed function.now item.now).lines depth) }
 {
-    let slots = function.slots.as_slice();
     match item {
-        Item::Evaluate(e) => {
-            put_expression(out, slots, e, 1);
-            put_end(out);
-        }
-        Item::Return(value) => {
-            put_word(out, "return");
-            put_part(out, slots, value);
-            put_end(out);
-        }
+        Item::Evaluate(e) => put_evaluation(out, function, e),
+        Item::Return(value) => put_return(out, function, value),
         Item::If(test, then, otherwise) => {
-            put_condition(out, "if", slots, test);
-            put_space(out);
+            put_tested(out, "if", function, test);
             put_braced(out, function, then.as_slice(), depth);
             put_else(out, function, otherwise.as_slice(), depth);
         }
         Item::While(test, body) => {
-            put_condition(out, "while", slots, test);
-            put_space(out);
-            put_braced(out, function, body.as_slice(), depth);
-            put_newline(out);
+            put_tested(out, "while", function, test);
+            put_block(out, function, body.as_slice(), depth);
         }
         Item::Do(body, test) => {
             put_keyword(out, "do");
             put_braced(out, function, body.as_slice(), depth);
-            put_repeat(out, slots, test);
+            put_repeat(out, function, test);
         }
         Item::For(first, test, step, body) => {
-            put_keyword(out, "for");
-            put_brackets(out, function, first.as_slice(), test, step);
-            put_space(out);
-            put_braced(out, function, body.as_slice(), depth);
-            put_newline(out);
+            put_for(out, function, first.as_slice(), test, step);
+            put_block(out, function, body.as_slice(), depth);
         }
         Item::Switch(selector, sections) => {
-            put_switch(out, slots, selector);
+            put_switch(out, function, selector);
             put_sections(out, function, sections.as_slice(), depth);
-            put_close(out, depth);
-            put_newline(out);
+            put_close_line(out, depth);
         }
-        Item::Block(body) => {
-            put_braced(out, function, body.as_slice(), depth);
-            put_newline(out);
-        }
-        Item::Local(at, given) => {
-            put_local(out, function, *at, given);
-            put_end(out);
-        }
-        Item::Break => {
-            put_word(out, "break");
-            put_end(out);
-        }
-        Item::Continue => {
-            put_word(out, "continue");
-            put_end(out);
-        }
-        Item::Goto(at) => {
-            put_keyword(out, "goto");
-            put_word(out, label_name(function, *at));
-            put_end(out);
-        }
-        Item::Mark(at) => {
-            put_word(out, label_name(function, *at));
-            put_punctuator(out, ":");
-            put_space(out);
-            put_end(out);
-        }
+        Item::Block(body) => put_block(out, function, body.as_slice(), depth),
+        Item::Local(at, given) => put_local_line(out, function, *at, given),
+        Item::Break => put_keyword_line(out, "break"),
+        Item::Continue => put_keyword_line(out, "continue"),
+        Item::Goto(at) => put_goto(out, function, *at),
+        Item::Mark(at) => put_mark(out, function, *at),
         Item::Note(bytes) => put_verbatim_line(out, bytes.as_slice()),
-        Item::Arm(..) => {}
-        Item::Leap(_) => {}
-        Item::Land(_) => {}
-        Item::Arrival(_) => {}
+        Item::Arm(..) | Item::Leap(_) | Item::Land(_) | Item::Arrival(_) => {}
     }
 }
 
@@ -323,6 +272,15 @@ pub fn put_braced<W: Output>(out: &mut W, function: &Function, items: &[Item], d
     put_close(out, depth);
 }
 
+/// A list in braces, and the end of its line.
+#[cycle(put_list)]
+fn put_block<W: Output>(out: &mut W, function: &Function, items: &[Item], depth: u32)
+    ensures { Prints (W.progress out.old) (W.progress out.new) (braced (map (printed function.now) items.now) depth ⨾ newline) }
+{
+    put_braced(out, function, items, depth);
+    put_newline(out);
+}
+
 /// An else-list, which goes on as `else if` where it is one `if`.
 #[cycle(put_list)]
 fn put_else<W: Output>(out: &mut W, function: &Function, items: &[Item], depth: u32)
@@ -337,8 +295,7 @@ fn put_else<W: Output>(out: &mut W, function: &Function, items: &[Item], depth: 
     if is_lone_if(items) {
         put_lines(out, function, &items[0], depth);
     } else {
-        put_braced(out, function, items, depth);
-        put_newline(out);
+        put_block(out, function, items, depth);
     }
 }
 

@@ -9,6 +9,7 @@ mod items;
 mod pieces;
 mod shape;
 mod spelling;
+mod statements;
 mod tops;
 mod whole;
 mod writer;
