@@ -1,9 +1,12 @@
 //! How operators are spelled and how tightly they bind, and the names of slots.
 
-ghost use Rattle.std.specs.Prelude.{◌≡◌, ◌≤◌};
-ghost use Rattle.c_tree.specs.TextExpressions.{unary_spelling as the_unary_spelling, arith_spelling as the_arith_spelling, binary_spelling as the_binary_spelling, update_spelling as the_update_spelling, count_spelling as the_count_spelling, arith_level as the_arith_level, binary_level as the_binary_level, slot_name as the_slot_name, home_name as the_home_name};
+ghost use Rattle.std.specs.Prelude.{◌≡◌, ◌≤◌, List, Option, codes};
+ghost use Rattle.c_types.specs.declared.kinds.IntKind.{IntKind};
+ghost use Rattle.c_tree.specs.declared.tree.Slot.{Slot};
+ghost use Rattle.c_tree.specs.TextPieces.{◌⨾◌, punctuator, only_if};
+ghost use Rattle.c_tree.specs.TextExpressions.{unary_spelling as the_unary_spelling, arith_spelling as the_arith_spelling, binary_spelling as the_binary_spelling, update_spelling as the_update_spelling, count_spelling as the_count_spelling, arith_level as the_arith_level, binary_level as the_binary_level, slot_name as the_slot_name, home_name as the_home_name, node_text};
 
-use c_tree::{BinaryOp, Home, Slot, UnaryOp};
+use c_tree::{BinaryOp, Home, Node, Slot, UnaryOp};
 use c_types::ArithOp;
 
 pub fn unary_spelling(op: UnaryOp) -> &'static str
@@ -105,6 +108,29 @@ pub fn binary_level(op: BinaryOp) -> u32
         BinaryOp::Unequal => 9,
         BinaryOp::AndThen => 5,
         BinaryOp::OrElse => 4,
+    }
+}
+
+/// Whether brackets stand round a node where the grammar needs a level.
+pub fn is_bracketed(node: &Node, need: u32) -> bool
+    ensures { (slots : List Slot) (kind : Option IntKind) → node_text slots node.now kind need ≡ (only_if result (punctuator (codes "(")) ⨾ node_text slots node.now kind 0 ⨾ only_if result (punctuator (codes ")"))) }
+{
+    match node {
+        Node::Number(_) => false,
+        Node::Character(_) => false,
+        Node::EnumName(..) => false,
+        Node::Text(_) => false,
+        Node::Array(_) => false,
+        Node::Read(_) => false,
+        Node::Unary(..) => 14 < need,
+        Node::Cast(_) => 14 < need,
+        Node::Binary(op, ..) => binary_level(*op) < need,
+        Node::Conditional(..) => 3 < need,
+        Node::Assign(..) => 2 < need,
+        Node::Update(..) => 2 < need,
+        Node::Count(_, _, after) => !*after && 14 < need,
+        Node::Comma(..) => 1 < need,
+        Node::Call(..) => false,
     }
 }
 
