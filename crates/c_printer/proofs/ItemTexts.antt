@@ -8,7 +8,7 @@ use Rattle.c_tree.specs.declared.tree.Expression.{Expression}
 use Rattle.c_tree.specs.declared.tree.Test.{Test}
 use Rattle.c_tree.specs.declared.tree.Selector.{Selector}
 use Rattle.c_tree.specs.declared.tree.Section.{Section}
-use Rattle.c_tree.specs.declared.tree.Item.{Item, Evaluate, Return, If, While, Do, For, Switch, Block, Local, Goto, Mark, Arm, Leap, Land, Arrival, fold-roll-Item}
+use Rattle.c_tree.specs.declared.tree.Item.{Item, Evaluate, Return, If, While, Do, For, Switch, Block, Local, Goto, Mark, Arm, Leap, Land, Arrival, Item-F, out-Item, roll-Item, roll-out-Item, map-Item, fold-roll-Item}
 use Rattle.c_tree.specs.declared.tree.Item.TheVariants.{rolls-Evaluate, rolls-Return, rolls-If, rolls-While, rolls-Do, rolls-For, rolls-Switch, rolls-Block, rolls-Local, rolls-Goto, rolls-Mark, rolls-Arm, rolls-Leap, rolls-Land, rolls-Arrival}
 use Rattle.c_tree.specs.declared.tree.Item.TheOpen as I
 use Rattle.c_tree.specs.TextPieces.{Piece, Text, ◌⨾◌, nothing, space, newline, indentation, word, punctuator}
@@ -28,6 +28,23 @@ module _ (f : Function) where
   pub evaluate_head : (item : Item) (e : Expression) (s : List Slot) → item ≡ Evaluate e → s ≡ f.slots → expression_text s e 1 ≡ (printed f item).head
   evaluate_head item e s is q =
       rw q (sym (ap (λ (p : Printed). p.head) (ap (printed f) (is ∙ sym (rolls-Evaluate e)) ∙ fold-roll-Item Printed PrintedSection (item_step f) (section_step f) (I.Evaluate e))))
+
+  -- what neither an expression nor a declaration prints in the first part of a `for`
+  step_of : (item : Item) (x : Item-F Item Section) → item ≡ roll-Item x → printed f item ≡ item_step f (map-Item Item Section Printed PrintedSection (printed f) (printed_section f) x)
+  step_of item x is = ap (printed f) is ∙ fold-roll-Item Printed PrintedSection (item_step f) (section_step f) x
+
+  pub other_further : (item : Item) → ((k : ℕ) (given : Option (List Expression)) → item ≡ Local k given → ⊥) → nothing ≡ (printed f item).further
+  other_further item apart = at_layer (out-Item item) (sym (roll-out-Item item)) where
+    at_layer : (x : Item-F Item Section) → item ≡ roll-Item x → nothing ≡ (printed f item).further
+    at_layer (I.Local k given) is = absurd (apart k given (is ∙ rolls-Local k given))
+    at_layer x is = sym (ap (λ (p : Printed). p.further) (step_of item x is))
+
+  pub other_head : (item : Item) → ((e : Expression) → item ≡ Evaluate e → ⊥) → ((k : ℕ) (given : Option (List Expression)) → item ≡ Local k given → ⊥) → nothing ≡ (printed f item).head
+  other_head item no_value apart = at_layer (out-Item item) (sym (roll-out-Item item)) where
+    at_layer : (x : Item-F Item Section) → item ≡ roll-Item x → nothing ≡ (printed f item).head
+    at_layer (I.Evaluate e) is = absurd (no_value e (is ∙ rolls-Evaluate e))
+    at_layer (I.Local k given) is = absurd (apart k given (is ∙ rolls-Local k given))
+    at_layer x is = sym (ap (λ (p : Printed). p.head) (step_of item x is))
 
   -- the lines of an item of each variant, over what stands for its parts
   module _ (item : Item) (depth : ℕ) where

@@ -39,29 +39,14 @@ fn put_first<W: Output>(out: &mut W, function: &Function, items: &[Item])
     }
 }
 
-/// An item as the first part of a `for`.
+/// An item as the first part of a `for`, which is an expression or a declaration.
 fn put_head<W: Output>(out: &mut W, function: &Function, item: &Item)
     ensures { Prints (W.progress out.old) (W.progress out.new) (printed function.now item.now).head }
 {
     match item {
         Item::Evaluate(e) => put_expression(out, function.slots.as_slice(), e, 1),
         Item::Local(at, given) => put_local(out, function, *at, given),
-        Item::Return(_)
-        | Item::If(..)
-        | Item::While(..)
-        | Item::Do(..)
-        | Item::For(..)
-        | Item::Switch(..)
-        | Item::Block(_)
-        | Item::Break
-        | Item::Continue
-        | Item::Goto(_)
-        | Item::Mark(_)
-        | Item::Arm(..)
-        | Item::Leap(_)
-        | Item::Land(_)
-        | Item::Arrival(_)
-        | Item::Note(_) => {}
+        _ => {}
     }
 }
 
@@ -69,25 +54,8 @@ fn put_head<W: Output>(out: &mut W, function: &Function, item: &Item)
 fn put_next<W: Output>(out: &mut W, function: &Function, item: &Item)
     ensures { Prints (W.progress out.old) (W.progress out.new) (printed function.now item.now).further }
 {
-    match item {
-        Item::Local(at, given) => put_further(out, function, *at, given),
-        Item::Evaluate(_)
-        | Item::Return(_)
-        | Item::If(..)
-        | Item::While(..)
-        | Item::Do(..)
-        | Item::For(..)
-        | Item::Switch(..)
-        | Item::Block(_)
-        | Item::Break
-        | Item::Continue
-        | Item::Goto(_)
-        | Item::Mark(_)
-        | Item::Arm(..)
-        | Item::Leap(_)
-        | Item::Land(_)
-        | Item::Arrival(_)
-        | Item::Note(_) => {}
+    if let Item::Local(at, given) = item {
+        put_further(out, function, *at, given);
     }
 }
 
