@@ -23,6 +23,7 @@ pub fn put_evaluation<W: Output>(out: &mut W, function: &Function, e: &Expressio
     put_end(out);
 }
 
+/// A `return`, with its value, if it has one.
 pub fn put_return<W: Output>(out: &mut W, function: &Function, value: &Option<Expression>)
     ensures { Prints (W.progress out.old) (W.progress out.new) (word (codes "return") ⨾ part_text function.now.slots value.now ⨾ punctuator (codes ";") ⨾ newline) }
 {
@@ -52,6 +53,7 @@ pub fn put_keyword_line<W: Output>(out: &mut W, text: &str)
     put_end(out);
 }
 
+/// A `goto` and the name of its label.
 pub fn put_goto<W: Output>(out: &mut W, function: &Function, at: u32)
     ensures { Prints (W.progress out.old) (W.progress out.new) (word (codes "goto") ⨾ space ⨾ word (the_label_name function.now at) ⨾ punctuator (codes ";") ⨾ newline) }
 {
