@@ -11,6 +11,7 @@ use Rattle.c_tree.specs.declared.tree.Test as test
 use Rattle.first_form.specs.Reading.{◌>>=◌}
 use Rattle.first_form.specs.Fixed.{begins, after}
 use Rattle.first_form.specs.Names.{name_at, place_of, label_at, are_distinct, labels_of, targets_of}
+use Rattle.c_lexer.specs.declared.token.Token.{Token}
 use Rattle.first_form.specs.Text.{words_of}
 use Rattle.first_form.specs.Form.{after_head, declarations_at, function, program, are_lawful, body_of, whole_of, program_of, first_form}
 use Rattle.c_tree.specs.declared.tree.Program.{Program}
@@ -88,11 +89,11 @@ bodies n xs ys p q = record {
 
 -- what was read
 
-bound : {A B : Type 0} (o : Option A) (f : A → Option B) (y : B) → (o >>= f) ≡ Some y → (x : A) × (o ≡ Some x) × (f x ≡ Some y)
+pub bound : {A B : Type 0} (o : Option A) (f : A → Option B) (y : B) → (o >>= f) ≡ Some y → (x : A) × (o ≡ Some x) × (f x ≡ Some y)
 bound None f y e = cc
 bound (Some x) f y e = (x, refl, e)
 
-chosen : {A : Type 0} (b : Bool) (x y z : Option A) → (if b then x else y) ≡ z → (x ≡ z) ⊎ (y ≡ z)
+pub chosen : {A : Type 0} (b : Bool) (x y z : Option A) → (if b then x else y) ≡ z → (x ≡ z) ⊎ (y ≡ z)
 chosen true x y z e = inl e
 chosen false x y z e = inr e
 
@@ -104,7 +105,7 @@ position_below : (t : List ℕ → Bool) (xs : List (List ℕ)) (i k : ℕ) → 
 position_below t [] i k e = cc
 position_below t (x ∷ xs) i k e = here_or_later (t x) i k (length xs) (position_from t (i + 1) xs) (position_below t xs (i + 1) k) e
 
-abbrev Parsed : Type 0
+abbrev pub Parsed : Type 0
 Parsed = Item × List Word
 
 abbrev Branch : Type 0
@@ -265,9 +266,9 @@ whole_read labels words p e =
       | inr none ↦ cc
     ]
 
-pub first_form_whole : (text : List ℕ) (p : Program) → first_form text ≡ Some p → IsWhole p
-first_form_whole text p e =
-    let a = bound (words_of text) program_of p e in
+pub first_form_whole : (text : List ℕ) (tokens : List Token) (p : Program) → first_form text tokens ≡ Some p → IsWhole p
+first_form_whole text tokens p e =
+    let a = bound (words_of text tokens) program_of p e in
     elim (chosen (are_lawful (labels_of a.0) (targets_of a.0)) (whole_of (labels_of a.0) a.0) None (Some p) a.2) [
       | inl some ↦ whole_read (labels_of a.0) a.0 p some
       | inr none ↦ cc

@@ -1,5 +1,5 @@
 -- Reading one after the other, as a loop does.
-use Rattle.std.proofs.Common.{◌≡◌, ℕ, zero, suc, ◌-◌, ◌+◌, ◌≤◌, ◌<◌, ◌==◌, true, false, List, [], ◌∷◌, ◌++◌, length, drop, Option, Some, None, refl, sym, ap, subst, ◌∙◌, append_assoc, arith}
+use Rattle.std.proofs.Common.{◌≡◌, ℕ, zero, suc, ◌-◌, ◌+◌, ◌≤◌, ◌<◌, true, false, List, [], ◌∷◌, ◌++◌, length, drop, get_or, add-one, drop-cons, Option, Some, None, refl, sym, ap, subst, ◌∙◌, append_assoc, arith}
 use Rattle.std.specs.Option.{option_to_list}
 use Rattle.std.proofs.lemmas.List.{append-nil}
 use Rattle.c_types.specs.declared.kinds.ArithOp.{ArithOp}
@@ -12,7 +12,8 @@ use Rattle.first_form.specs.declared.word.Fixed.TheVariants as fixed
 use Rattle.first_form.specs.declared.word.Word.{Word}
 use Rattle.first_form.specs.Reading.{◌>>=◌, Fails}
 use Rattle.first_form.specs.Fixed.{begins}
-use Rattle.first_form.specs.Text.{after_space, word_at, words_in}
+use Rattle.c_lexer.specs.declared.token.Token.{Token}
+use Rattle.first_form.specs.Text.{word_of, words_of}
 use Rattle.first_form.specs.Sum.{sign_at, extended, more_at}
 use Rattle.first_form.specs.Item.{goto_at, item_at, items_at, list_at, branch_at}
 use Rattle.first_form.specs.Form.{declaration_at, declarations_in}
@@ -158,7 +159,7 @@ declarations_end front n i words total le so_far =
 
 -- ---- words
 
--- the words before, and those that are still read
+-- the words before, and those that the tokens left are
 abbrev pub words_before : List Word → Option (List Word) → Option (List Word)
 words_before front read = read >>= λ words. Some (front ++ words)
 
@@ -166,35 +167,21 @@ words_regroup : (front : List Word) (word : Word) (read : Option (List Word)) �
 words_regroup front word None = refl
 words_regroup front word (Some words) = ap (λ (ws : List Word). Some ws) (simp append_assoc)
 
-pub words_go_on : (front : List Word) (n i : ℕ) (bytes : List ℕ) (word : Word) (after : List ℕ) (total : Option (List Word)) → i < n → (length (after_space bytes) == 0) ≡ false → word_at (after_space bytes) ≡ Some (word, after)
-    → words_before front (words_in (n - i) bytes) ≡ total → words_before (front ++ word ∷ []) (words_in (n - (i + 1)) after) ≡ total
-unfolding words_in
-words_go_on front n i bytes word after total lt more h so_far =
-    let one : words_before front (words_in (n - i) bytes) ≡ words_before (front ++ word ∷ []) (words_in (n - (i + 1)) after) = rw (step n i lt, more, h) (words_regroup front word (words_in (n - (i + 1)) after)) in
+-- the words of tokens from the first on
+words_step : (text : List ℕ) (tokens : List Token) (i : ℕ) (d : Token) → i < length tokens
+    → words_of text (drop i tokens) ≡ (word_of text (get_or tokens i d) >>= λ word. words_of text (drop (i + 1) tokens) >>= λ words. Some (word ∷ words))
+words_step text tokens i d lt = rw (add-one) (ap (words_of text) (drop-cons tokens i d lt))
+
+pub words_go_on : (text : List ℕ) (tokens : List Token) (front : List Word) (i : ℕ) (d : Token) (word : Word) (total : Option (List Word)) → i < length tokens → word_of text (get_or tokens i d) ≡ Some word
+    → words_before front (words_of text (drop i tokens)) ≡ total → words_before (front ++ word ∷ []) (words_of text (drop (i + 1) tokens)) ≡ total
+words_go_on text tokens front i d word total lt h so_far =
+    let one : words_before front (words_of text (drop i tokens)) ≡ words_before (front ++ word ∷ []) (words_of text (drop (i + 1) tokens)) =
+    rw (words_step text tokens i d lt, h) (words_regroup front word (words_of text (drop (i + 1) tokens))) in
     sym one ∙ so_far
 
-pub words_fail : (e : ReadStop) (front : List Word) (n i : ℕ) (bytes : List ℕ) (total : Option (List Word)) → i < n → (length (after_space bytes) == 0) ≡ false → Fails e (word_at (after_space bytes))
-    → words_before front (words_in (n - i) bytes) ≡ total → Fails e total
-unfolding words_in
-words_fail stops.Memory front n i bytes total lt more h so_far = tt
-words_fail stops.Other front n i bytes total lt more h so_far =
-    let one : words_before front (words_in (n - i) bytes) ≡ None = rw (step n i lt, more, h) refl in
-    sym so_far ∙ one
-
-words_none : (front : List Word) (n : ℕ) (bytes : List ℕ) → (length (after_space bytes) == 0) ≡ true → words_before front (words_in n bytes) ≡ Some front
-unfolding words_in
-words_none front zero bytes closed = rw closed (ap (λ (ws : List Word). Some ws) (append-nil front))
-words_none front (suc n) bytes closed = rw closed (ap (λ (ws : List Word). Some ws) (append-nil front))
-
-pub words_close : (front : List Word) (n i : ℕ) (bytes : List ℕ) (total : Option (List Word)) → (length (after_space bytes) == 0) ≡ true
-    → words_before front (words_in (n - i) bytes) ≡ total → total ≡ Some front
-unfolding words_in
-words_close front n i bytes total closed so_far = sym so_far ∙ words_none front (n - i) bytes closed
-
-pub words_end : (front : List Word) (n i : ℕ) (bytes : List ℕ) (total : Option (List Word)) → n ≤ i → (length (after_space bytes) == 0) ≡ false
-    → words_before front (words_in (n - i) bytes) ≡ total → total ≡ None
-unfolding words_in
-words_end front n i bytes total le more so_far =
-    let k : n - i ≡ 0 = omega arith in
-    let one : words_before front (words_in (n - i) bytes) ≡ None = rw (k, more) refl in
+pub words_fail : (e : ReadStop) (text : List ℕ) (tokens : List Token) (front : List Word) (i : ℕ) (d : Token) (total : Option (List Word)) → i < length tokens → Fails e (word_of text (get_or tokens i d))
+    → words_before front (words_of text (drop i tokens)) ≡ total → Fails e total
+words_fail stops.Memory text tokens front i d total lt h so_far = tt
+words_fail stops.Other text tokens front i d total lt h so_far =
+    let one : words_before front (words_of text (drop i tokens)) ≡ None = rw (words_step text tokens i d lt, h) refl in
     sym so_far ∙ one

@@ -1,6 +1,5 @@
 -- The words that the grammar names by their spelling.
-use Rattle.std.specs.Prelude.{ℕ, Bool, false, List, [], ◌∷◌, length, take, drop, Option, Some, None, codes, find, if◌then◌else◌}
-use Rattle.std.specs.Option.{option_map_or}
+use Rattle.std.specs.Prelude.{ℕ, Bool, false, List, [], ◌∷◌, drop, Option, Some, None, codes, find, if◌then◌else◌}
 use Rattle.std.specs.Str.{bytes_eq}
 use Rattle.first_form.specs.declared.word.Fixed.{Fixed}
 use Rattle.first_form.specs.declared.word.Fixed.TheVariants.{Int, Main, Void, Putchar, Return, Goto, If, Equal, AtLeast, OpenParen, CloseParen, OpenBrace, CloseBrace, Semicolon, Colon, Assign, Plus, Minus, Less}
@@ -28,32 +27,31 @@ spelling Plus = codes "+"
 spelling Minus = codes "-"
 spelling Less = codes "<"
 
--- the words that are spelled like names
-abbrev pub spelled_like_names : List Fixed
-spelled_like_names = Int ∷ Main ∷ Void ∷ Putchar ∷ Return ∷ Goto ∷ If ∷ []
+-- the names that the grammar has
+abbrev pub names : List Fixed
+names = Main ∷ Putchar ∷ []
 
--- The marks, those of two bytes first. No two marks that stand beside each other in the grammar begin
--- a longer mark of C, so that a mark of the grammar is the longest token wherever the grammar takes it.
+-- the keywords that the grammar has
+abbrev pub keywords : List Fixed
+keywords = Int ∷ Void ∷ Return ∷ Goto ∷ If ∷ []
+
+-- the marks that the grammar has
 abbrev pub marks : List Fixed
 marks =
     Equal ∷ AtLeast ∷ OpenParen ∷ CloseParen ∷ OpenBrace ∷ CloseBrace ∷ Semicolon ∷ Colon ∷ Assign ∷ Plus ∷ Minus ∷ Less ∷ []
 
--- the word that is spelled by all of these bytes
-abbrev pub fixed_name : List ℕ → Option Fixed
-fixed_name bytes = find (λ fixed. bytes_eq (spelling fixed) bytes) spelled_like_names
+-- the word of the list that is spelled by all of these bytes
+abbrev pub spelled_by : List Fixed → List ℕ → Option Fixed
+spelled_by words bytes = find (λ word. bytes_eq (spelling word) bytes) words
 
--- the bytes after this mark, which comes first
-abbrev pub after_mark : Fixed → List ℕ → Option (List ℕ)
-after_mark mark bytes = if bytes_eq (take (length (spelling mark)) bytes) (spelling mark) then Some (drop (length (spelling mark)) bytes) else None
+abbrev pub named : List ℕ → Option Fixed
+named bytes = spelled_by names bytes
 
--- the first mark of the list that comes first in the bytes, and the bytes after it
-abbrev pub first_mark : List Fixed → List ℕ → Option (Word × List ℕ)
-first_mark [] bytes = None
-first_mark (mark ∷ others) bytes = option_map_or (λ rest. Some (word.Fixed mark, rest)) (after_mark mark bytes) (first_mark others bytes)
+abbrev pub keyword : List ℕ → Option Fixed
+keyword bytes = spelled_by keywords bytes
 
--- the longest mark that comes first, and the bytes after it
-abbrev pub mark_at : List ℕ → Option (Word × List ℕ)
-mark_at bytes = first_mark marks bytes
+abbrev pub mark : List ℕ → Option Fixed
+mark bytes = spelled_by marks bytes
 
 -- whether the first word is this one
 abbrev pub begins : Fixed → List Word → Bool

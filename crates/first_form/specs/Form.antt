@@ -6,6 +6,7 @@ use Rattle.c_tree.specs.declared.tree.Slot.{Slot}
 use Rattle.c_tree.specs.declared.tree.Function.{Function}
 use Rattle.c_tree.specs.declared.tree.Top.TheVariants as top
 use Rattle.c_tree.specs.declared.tree.Program.{Program}
+use Rattle.c_lexer.specs.declared.token.Token.{Token}
 use Rattle.first_form.specs.Reading.{◌>>=◌}
 use Rattle.first_form.specs.Fixed.{begins, after}
 use Rattle.first_form.specs.Text.{words_of}
@@ -93,6 +94,6 @@ whole_of labels words = do
 abbrev pub program_of : List Word → Option Program
 program_of words = if are_lawful (labels_of words) (targets_of words) then whole_of (labels_of words) words else None
 
--- the resolved program of a text of the first form
-abbrev pub first_form : List ℕ → Option Program
-first_form text = words_of text >>= program_of
+-- the resolved program of a text of the first form, with these tokens
+abbrev pub first_form : List ℕ → List Token → Option Program
+first_form text tokens = words_of text tokens >>= program_of

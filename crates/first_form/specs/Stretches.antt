@@ -8,6 +8,7 @@ use Rattle.c_tree.specs.declared.tree.Top.TheVariants as top
 use Rattle.c_tree.specs.declared.tree.Program.{Program}
 use Rattle.c_tree.specs.Trees.{Tree, Forest, Nil, Then, Sections, NoSection, Section, If, While, Do, For, Switch, Block, Goto, Mark, trees_of}
 use Rattle.c_tree.specs.Everywhere.{total, Everywhere}
+use Rattle.c_lexer.specs.Pieces.{Piece, Spells, tokens_of, comments_of}
 use Rattle.first_form.specs.Form.{first_form}
 
 -- 1 for a goto to the label
@@ -96,8 +97,12 @@ TopsClose [] = Unit {0}
 TopsClose (top.Function f ∷ ts) = FunctionCloses f × TopsClose ts
 TopsClose (t ∷ ts) = TopsClose ts
 
--- the text is of the first form: it is spelled by the grammar, and its jumps meet the conditions
-pub record IsFirstForm (text : List ℕ) : Type 0 where
+-- The text is of the first form: it has no comments, the grammar of the form reads its tokens, and its jumps meet
+-- the conditions.
+pub record IsFirstForm (t : List ℕ) : Type 0 where
+  pub pieces : List Piece
+  pub spells : Spells pieces t
+  pub uncommented : comments_of pieces ≡ []
   pub program : Program
-  pub spelled : first_form text ≡ Some program
+  pub spelled : first_form t (tokens_of pieces) ≡ Some program
   pub closes : TopsClose program.tops

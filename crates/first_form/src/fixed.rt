@@ -1,19 +1,17 @@
 //! The words that the grammar names by their spelling.
 
-ghost use Rattle.std.specs.Prelude.{◌≡◌, find, drop, IfErr};
-ghost use Rattle.std.specs.Option.{option_copied};
-ghost use Rattle.std.specs.Str.{bytes_eq};
+ghost use Rattle.std.specs.Prelude.{◌≡◌, drop, IfErr};
 ghost use Rattle.first_form.specs.Fixed as spec;
 ghost use Rattle.first_form.specs.Reading.{Gives};
 
 use crate::stop::ReadStop;
 use crate::word::{Fixed, Word};
 
-const SPELLED_LIKE_NAMES: [Fixed; 7] = [
+const NAMES: [Fixed; 2] = [Fixed::Main, Fixed::Putchar];
+
+const KEYWORDS: [Fixed; 5] = [
     Fixed::Int,
-    Fixed::Main,
     Fixed::Void,
-    Fixed::Putchar,
     Fixed::Return,
     Fixed::Goto,
     Fixed::If,
@@ -61,49 +59,37 @@ pub fn spelling(fixed: Fixed) -> &'static str
     }
 }
 
-/// The first word of the list that is spelled by all of these bytes.
-fn spelled_by(list: &[Fixed], bytes: &[u8]) -> Option<Fixed>
-    ensures { result ≡ find (λ fixed. bytes_eq (spec.spelling fixed) bytes.now) list.now }
+/// The word of the list that is spelled by all of these bytes.
+fn spelled_by(words: &[Fixed], bytes: &[u8]) -> Option<Fixed>
+    ensures { result ≡ spec.spelled_by words.now bytes.now }
 {
-    for fixed in list {
-        if spelling(*fixed).as_bytes() == bytes {
-            return Some(*fixed);
+    for word in words {
+        if spelling(*word).as_bytes() == bytes {
+            return Some(*word);
         }
     }
     None
 }
 
-/// The word of the grammar that is spelled by all of these bytes.
-pub fn fixed_name(bytes: &[u8]) -> Option<Fixed>
-    ensures { result ≡ spec.fixed_name bytes.now }
+/// The name of the grammar that is spelled so.
+pub fn named(bytes: &[u8]) -> Option<Fixed>
+    ensures { result ≡ spec.named bytes.now }
 {
-    spelled_by(&SPELLED_LIKE_NAMES, bytes)
+    spelled_by(&NAMES, bytes)
 }
 
-/// The bytes after this mark, which comes first.
-fn after_mark(mark: Fixed, bytes: &[u8]) -> Option<&[u8]>
-    ensures { option_copied result ≡ spec.after_mark mark bytes.now }
+/// The keyword of the grammar that is spelled so.
+pub fn keyword(bytes: &[u8]) -> Option<Fixed>
+    ensures { result ≡ spec.keyword bytes.now }
 {
-    bytes.strip_prefix(spelling(mark).as_bytes())
+    spelled_by(&KEYWORDS, bytes)
 }
 
-/// The first mark of the list that comes first in the bytes, and the bytes after it.
-fn first_mark<'a>(list: &[Fixed], bytes: &'a [u8]) -> Result<(Word, &'a [u8]), ReadStop>
-    ensures { Gives (λ x. (x.0, x.1.now)) result (spec.first_mark list.now bytes.now) }
+/// The mark of the grammar that is spelled so.
+pub fn mark(bytes: &[u8]) -> Option<Fixed>
+    ensures { result ≡ spec.mark bytes.now }
 {
-    for mark in list {
-        if let Some(rest) = after_mark(*mark, bytes) {
-            return Ok((Word::Fixed(*mark), rest));
-        }
-    }
-    Err(ReadStop::Other)
-}
-
-/// The longest mark of the grammar that comes first, and the bytes after it.
-pub fn mark_at(bytes: &[u8]) -> Result<(Word, &[u8]), ReadStop>
-    ensures { Gives (λ x. (x.0, x.1.now)) result (spec.mark_at bytes.now) }
-{
-    first_mark(&MARKS, bytes)
+    spelled_by(&MARKS, bytes)
 }
 
 /// Whether the first word is this one.

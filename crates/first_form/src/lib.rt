@@ -4,12 +4,12 @@
 
 mod fixed;
 mod item;
-mod lexer;
 mod names;
 mod stop;
 mod sum;
 mod whole;
 mod word;
+mod words;
 
 pub use stop::ReadStop;
 pub use whole::read;

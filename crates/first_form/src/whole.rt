@@ -1,15 +1,17 @@
 //! Whole texts.
 
-ghost use Rattle.std.specs.Prelude.{◌≡◌, ◌++◌, None, Some, Err, IfOk, IfErr};
+ghost use Rattle.std.specs.Prelude.{◌≡◌, ◌++◌, None, Some, Err, All, IfOk, IfErr};
+ghost use Rattle.c_lexer.specs.Pieces.{IsWithin};
 ghost use Rattle.first_form.specs.Form as spec;
 ghost use Rattle.first_form.specs.Reading.{Gives};
 
 use crate::fixed::{after, begins};
 use crate::item::items_at;
-use crate::lexer::words_of;
 use crate::names::{Scope, are_distinct, labels_of, name_at, targets_of};
 use crate::stop::ReadStop;
 use crate::word::{Fixed, Word};
+use crate::words::words_of;
+use c_lexer::Token;
 use c_tree::{Function, Item, Program, Slot, Top};
 use c_types::{IntKind, List, MOST, Name};
 use std::alloc::Global;
@@ -181,14 +183,15 @@ fn program_of(alloc: Global, words: &[Word]) -> Result<Program, ReadStop>
     whole_of(alloc, labels, words)
 }
 
-/// The resolved program of a text of the first form: `int main(void) { .. }`, whose variables are
+/// The resolved program of a text of the first form, with these tokens: `int main(void) { .. }`, whose variables are
 /// declared first, and whose statements are assignments of sums, `putchar`, `return`, `if`, labels
 /// and `goto`. A sum has at most 100 atoms, lists are nested at most 100 deep, and there are at most
 /// 20 gotos, each to a label of its own. `Other` comes exactly where the text isn't of this form.
-pub fn read(alloc: Global, text: &[u8]) -> Result<Program, ReadStop>
-    ensures ok { IfOk result (λ program. spec.first_form text.now ≡ Some program) }
-    ensures other { result ≡ Err ReadStop.Other → spec.first_form text.now ≡ None }
+pub fn read(alloc: Global, text: &[u8], tokens: &List<Token>) -> Result<Program, ReadStop>
+    requires { All (λ token. IsWithin text.now token.start token.end) tokens.now }
+    ensures ok { IfOk result (λ program. spec.first_form text.now tokens.now ≡ Some program) }
+    ensures other { result ≡ Err ReadStop.Other → spec.first_form text.now tokens.now ≡ None }
 {
-    let words = words_of(alloc, text)?;
+    let words = words_of(alloc, text, tokens)?;
     program_of(alloc, &words)
 }

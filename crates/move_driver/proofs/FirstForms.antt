@@ -1,8 +1,7 @@
--- A text is restructured exactly if it is of the first form.
-use Rattle.std.proofs.Common.{◌≡◌, ℕ, suc, ◌+◌, ◌≤◌, ◌<◌, Bool, true, false, not, ◌&&◌, ◌||◌, cond, List, [], ◌∷◌, ◌++◌, Option, Some, None, is_some, Ok, Err, length, option_map, option_and_then, inl, inr, refl, sym, ap, subst, ◌∙◌, arith}
+-- A program of the first form is restructured exactly if its jumps meet the conditions.
+use Rattle.std.proofs.Common.{◌≡◌, ℕ, suc, ◌+◌, ◌≤◌, ◌<◌, Bool, true, false, not, ◌&&◌, ◌||◌, cond, List, [], ◌∷◌, ◌++◌, Option, Some, None, is_some, length, option_map, option_and_then, inl, inr, refl, sym, ap, ◌∙◌, arith}
 use Rattle.std.specs.Prelude.{◌==◌, nat_lt, if◌then◌else◌}
 use Rattle.std.proofs.lemmas.Bool.{cases_Bool, and_from, and_left, and_right, or_left, or_right, eqb-true, eq-eqb, ne_eqb, lt-ltb, le-ltb, cases_lt, cases_eq, or_cases}
-use Rattle.c_types.specs.declared.refusal.Refusal.{Refusal}
 use Rattle.c_types.specs.declared.name.Name.{Name}
 use Rattle.c_tree.specs.declared.tree.Item.{Item}
 use Rattle.c_tree.specs.declared.tree.Function.{Function}
@@ -14,15 +13,14 @@ use Rattle.c_copies.specs.Names.{names}
 use Rattle.flat_form.specs.Flattened.{is_in, is_some_label, named, kept_numbers, kept_names, flat_item, flat_list}
 use Rattle.guard_vars.specs.Conversion.{converted, converted_list}
 use Rattle.first_form.specs.declared.names.Scope.{Scope}
-use Rattle.first_form.specs.Form.{locals, function, program, first_form}
-use Rattle.first_form.specs.Stretches.{is_named, TopsClose, IsFirstForm}
-use Rattle.first_form.proofs.Bodies.{Body, End, Evaluate, Return, Goto, Mark, If, items, GotosBelow, first_form_whole}
-use Rattle.label_offsets.proofs.Outlines.{Outline, has, nests, join-End, still_nests}
+use Rattle.first_form.specs.Form.{locals, function, program}
+use Rattle.first_form.specs.Stretches.{is_named, TopsClose}
+use Rattle.first_form.proofs.Bodies.{Body, End, Evaluate, Return, Goto, Mark, If, items, GotosBelow}
+use Rattle.label_offsets.proofs.Outlines.{Outline, nests, join-End, still_nests}
 use Rattle.label_offsets.proofs.Outlines as outlines
 use Rattle.move_driver.specs.declared.counts.Counts.{Counts}
 use Rattle.move_driver.specs.Moves.{derived}
 use Rattle.move_driver.specs.Derivation.{moved_converted, counts_of, shown, restructured}
-use Rattle.move_driver.specs.Text.{Output, not_built, or_not_built, printed, and_then, read_text, rewritten_program, restructured_text}
 use Rattle.move_driver.proofs.Nesting.{derived_nests}
 use Rattle.move_driver.proofs.Flattening.{flat, flat_items, flat-Local, flat_list-append, plan_is, lone, is_blank, with_if, sketch, f, flat_planned, LabelsIn, nests_relabelled}
 use Rattle.move_driver.proofs.Sketches.{gotos, named_items, is_in-append, AreLocals, locals_are, named_after, names_are, sketch_closes, closes_sketch}
@@ -249,77 +247,3 @@ module _ (scope : Scope) (b : Body) (below : GotosBelow (length scope.labels) b)
 
   pub closes_restructured : TopsClose (program main).tops → is_some (restructured (program main)) ≡ true
   closes_restructured c = restructures ∙ closes_sketch front b are_locals c.0
-
--- a text
-
-shown_ok : (o : Option (Program × Counts)) (out : Output) → and_then (or_not_built o) (λ rewritten. Ok (printed rewritten)) ≡ Ok out → is_some o ≡ true
-shown_ok None out e = cc
-shown_ok (Some r) out e = refl
-
-read_ok : (o : Option Program) (out : Output) → and_then (or_not_built o) (λ program. and_then (rewritten_program program) (λ rewritten. Ok (printed rewritten))) ≡ Ok out
-    → (p : Program) × (o ≡ Some p) × (is_some (restructured p) ≡ true)
-read_ok None out e = cc
-read_ok (Some p) out e = (p, refl, shown_ok (restructured p) out e)
-
--- a text that is restructured is of the first form
-pub accepted : (text : List ℕ) (out : Output) → restructured_text text ≡ Ok out → IsFirstForm text
-unfolding restructured_text
-accepted text out e =
-    let r = read_ok (first_form text) out e in
-    let w = first_form_whole text r.0 r.1 in
-    record {
-      program = r.0;
-      spelled = r.1;
-      closes = subst (λ (p : Program). TopsClose p.tops) (sym w.program_is)
-          (restructured_closes w.scope w.body w.below (ap (λ p. is_some (restructured p)) (sym w.program_is) ∙ r.2));
-    }
-
-ok_shown : (o : Option (Program × Counts)) → is_some o ≡ true → (out : Output) × (and_then (or_not_built o) (λ rewritten. Ok (printed rewritten)) ≡ Ok out)
-ok_shown None h = cc
-ok_shown (Some r) h = (printed r, refl)
-
--- a text of the first form is restructured
-pub restructured_first : (text : List ℕ) → IsFirstForm text → (out : Output) × (restructured_text text ≡ Ok out)
-unfolding restructured_text
-restructured_first text first =
-    let w = first_form_whole text first.program first.spelled in
-    let done = ap (λ p. is_some (restructured p)) w.program_is
-    ∙ closes_restructured w.scope w.body w.below (subst (λ (p : Program). TopsClose p.tops) w.program_is first.closes) in
-    let shown_is = ok_shown (restructured first.program) done in (
-      shown_is.0,
-      ap (λ o. and_then (or_not_built o) (λ program. and_then (rewritten_program program) (λ rewritten. Ok (printed rewritten)))) first.spelled ∙ shown_is.1,
-    )
-
--- and so one that is refused is not
-pub refused_other : (text : List ℕ) (refusal : Refusal) → restructured_text text ≡ Err refusal → IsFirstForm text → ⊥
-refused_other text refusal e first = let done = restructured_first text first in let both = sym done.1 ∙ e in cc
-
--- a text has one refusal
-read_err : (o : Option Program) (refusal : Refusal) → and_then (or_not_built o) (λ program. and_then (rewritten_program program) (λ rewritten. Ok (printed rewritten))) ≡ Err refusal
-    → refusal ≡ not_built
-read_err None refusal e = cc
-read_err (Some p) refusal e = shown_err (restructured p) e
-  where
-    shown_err : (o : Option (Program × Counts)) → and_then (or_not_built o) (λ rewritten. Ok (printed rewritten)) ≡ Err refusal → refusal ≡ not_built
-    shown_err None e = cc
-    shown_err (Some r) e = cc
-
-pub refusal_is : (text : List ℕ) (refusal : Refusal) → restructured_text text ≡ Err refusal → refusal ≡ not_built
-unfolding restructured_text
-refusal_is text refusal e = read_err (first_form text) refusal e
-
--- the same, step by step
-
-pub accepted_steps : (text : List ℕ) (p : Program) (r : Program × Counts) → read_text text ≡ Ok p → rewritten_program p ≡ Ok r → IsFirstForm text
-unfolding restructured_text
-accepted_steps text p r e g =
-    accepted text (printed r)
-    (ap (λ o. and_then o (λ program. and_then (rewritten_program program) (λ rewritten. Ok (printed rewritten)))) e
-    ∙ ap (λ o. and_then o (λ rewritten. Ok (printed rewritten))) g)
-
-pub refused_steps : (text : List ℕ) (p : Program) (refusal : Refusal) → read_text text ≡ Ok p → rewritten_program p ≡ Err refusal → IsFirstForm text → ⊥
-unfolding restructured_text
-refused_steps text p refusal e g =
-    refused_other text refusal
-    (ap (λ o. and_then o (λ program. and_then (rewritten_program program) (λ rewritten. Ok (printed rewritten)))) e
-    ∙ ap (λ o. and_then o (λ rewritten. Ok (printed rewritten))) g)

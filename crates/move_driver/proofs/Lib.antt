@@ -6,4 +6,5 @@ pub mod Flattening
 pub mod Sketches
 pub mod Leftover
 pub mod FirstForms
+pub mod Texts
 pub mod JoinLemmas

@@ -1,14 +1,18 @@
-ghost use Rattle.std.specs.Prelude.{◌≡◌, IfOk, Err, true};
+ghost use Rattle.std.specs.Prelude.{◌≡◌, All, IfOk, IfErr, Err, true};
+ghost use Rattle.c_lexer.specs.Pieces.{IsWithin};
 ghost use Rattle.c_tree.specs.Jumps.{is_plain_program};
 ghost use Rattle.c_types.specs.Stop.{Gives};
+ghost use Rattle.first_form.specs.Form.{first_form};
 ghost use Rattle.first_form.specs.Stretches.{IsFirstForm};
-ghost use Rattle.move_driver.specs.Text.{read_text, rewritten_program, restructured_text, output, IsPlainText};
+ghost use Rattle.move_driver.specs.Text.{or_not_built, read_text, rewritten_program, restructured_text, output, IsPlainText, IsRefusedFor};
 
 use crate::counts::{Counts, DriverStop};
 use crate::program::restructure_program;
+use c_lexer::{Token, comments, tokens};
+use c_parser::parse;
 use c_printer::print;
 use c_tree::Program;
-use c_types::{Bytes, ReadStop, Refusal};
+use c_types::{Bytes, List, ReadStop, Refusal};
 use first_form::read;
 use std::alloc::Global;
 
@@ -27,14 +31,29 @@ pub struct Written {
     pub counts: Counts,
 }
 
-fn read_program(alloc: Global, text: &[u8]) -> Result<Program, ReadStop>
-    ensures { Gives (λ program. program) result (read_text text.now) }
+/// The program of these tokens of the text, which are all that it has but white space.
+fn form_program(alloc: Global, text: &[u8], tokens: &List<Token>) -> Result<Program, ReadStop>
+    requires { All (λ token. IsWithin text.now token.start token.end) tokens.now }
+    ensures { Gives (λ program. program) result (or_not_built (first_form text.now tokens.now)) }
 {
-    match read(alloc, text) {
+    match read(alloc, text, tokens) {
         Ok(program) => Ok(program),
         Err(first_form::ReadStop::Other) => Err(ReadStop::Refused(NOT_BUILT)),
         Err(first_form::ReadStop::Memory) => Err(ReadStop::Memory),
     }
+}
+
+/// The program of a text, in the order in which faults are named: bytes, then tokens, then the form.
+fn read_program(alloc: Global, text: &[u8]) -> Result<Program, ReadStop>
+    ensures { Gives (λ program. program) result (read_text text.now) }
+{
+    let tokens = tokens(alloc, text)?;
+    parse(alloc, text, &tokens)?;
+    let comments = comments(alloc, text)?;
+    if !comments.is_empty() {
+        return Err(ReadStop::Refused(NOT_BUILT));
+    }
+    form_program(alloc, text, &tokens)
 }
 
 fn rewrite(alloc: Global, program: Program) -> Result<(Program, Counts), ReadStop>
@@ -48,17 +67,28 @@ fn rewrite(alloc: Global, program: Program) -> Result<(Program, Counts), ReadSto
     }
 }
 
-/// Restructures a text: reads it, moves every jump to its label, and prints the program that is left.
-/// Refused with reason 99 is exactly a text that isn't of the first form (docs/SUBSET.md).
-#[tactic(auto, using(crate::proofs::FirstForms::accepted, crate::proofs::FirstForms::refused_other), unfolding(crate::specs::Text::restructured_text))]
-pub fn restructure_text(alloc: Global, text: &[u8]) -> Result<Written, ReadStop>
+/// The restructured text of a text.
+#[tactic(auto, unfolding(crate::specs::Text::restructured_text))]
+fn rewrite_text(alloc: Global, text: &[u8]) -> Result<Written, ReadStop>
     ensures value { Gives output result (restructured_text text.now) }
     ensures plain { IfOk result (λ written. IsPlainText written.text) }
-    ensures accepted { IfOk result (λ written. IsFirstForm text.now) }
-    ensures refused { (refusal : Refusal) → result ≡ Err (ReadStop.Refused refusal) → ¬ IsFirstForm text.now }
 {
     let program = read_program(alloc, text)?;
     let (program, counts) = rewrite(alloc, program)?;
     let text = print(alloc, &program)?;
     Ok(Written { text, counts })
+}
+
+/// Restructures a text: reads it, moves every jump to its label, and prints the program that is left.
+/// A text is refused at its first fault: with reason 2 to 6 at the first byte that begins no token, else with
+/// reason 10 or 11 at the first token that no file has where it stands, or that is over a limit, else with reason 99
+/// where it isn't of the first form (docs/SUBSET.md).
+pub fn restructure_text(alloc: Global, text: &[u8]) -> Result<Written, ReadStop>
+    ensures value { Gives output result (restructured_text text.now) }
+    ensures plain { IfOk result (λ written. IsPlainText written.text) }
+    ensures accepted { IfOk result (λ written. IsFirstForm text.now) }
+    ensures refused { (refusal : Refusal) → result ≡ Err (ReadStop.Refused refusal) → IsRefusedFor text.now refusal }
+    ensures complete { IsFirstForm text.now → IfErr result (λ stop. stop ≡ ReadStop.Memory) }
+{
+    rewrite_text(alloc, text)
 }

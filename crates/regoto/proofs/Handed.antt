@@ -7,7 +7,7 @@ use Rattle.first_form.specs.Stretches.{IsFirstForm}
 use Rattle.std.specs.FinMap.{get}
 use Rattle.rg_ports.specs.Files.{Files}
 use Rattle.move_driver.specs.Text.{Output, restructured_text}
-use Rattle.move_driver.proofs.FirstForms.{accepted, refused_other, refusal_is}
+use Rattle.move_driver.proofs.Texts.{accepted, refused, refused_other}
 use Rattle.regoto.specs.declared.status.Status.{Status}
 use Rattle.regoto.specs.declared.status.Status.TheVariants as status
 use Rattle.regoto.specs.Restructure.{HandsOver, Lacks, RefusedFor, Restructures, Completes, restructuring, too_long}
@@ -16,8 +16,8 @@ some_and : {X : Type 0} (o : Option X) (P : X → Type 0) → IsSomeAnd o P → 
 some_and None P h = elim h [ ]
 some_and (Some x) P h = (x, refl, h)
 
-refused : (text : List ℕ) → 1048576 < length text → restructuring text ≡ Err too_long
-refused text h = ap (λ b. if b then Err too_long else restructured_text text) (lt-ltb 1048576 (length text) h)
+long_refused : (text : List ℕ) → 1048576 < length text → restructuring text ≡ Err too_long
+long_refused text h = ap (λ b. if b then Err too_long else restructured_text text) (lt-ltb 1048576 (length text) h)
 
 chosen : {X : Type 0} (b : Bool) (x y z : X) → (if b then x else y) ≡ z → ((b ≡ true) × (x ≡ z)) ⊎ ((b ≡ false) × (y ≡ z))
 chosen true x y z e = inl (refl, e)
@@ -29,7 +29,7 @@ pub too_long_text : (held : Option Files) (from : List ℕ) → IfSome held (λ 
 too_long_text None from h = tt
 too_long_text (Some files) from h =
     let found = some_and (get files from) (λ (bytes : List ℕ). 1048576 < length bytes) h in
-    (found.0, found.1, refused found.0 found.2)
+    (found.0, found.1, long_refused found.0 found.2)
 
 -- the text that the shelf hands over is the one that it holds
 handed : (before : Option Files) (files : Files) (from text : List ℕ) (P : List ℕ → Type 0) → before ≡ Some files → get files from ≡ Some text
@@ -55,10 +55,9 @@ first_form_of text output e = elim (chosen (nat_lt 1048576 (length text)) (Err t
 refused_for : (refusal : Refusal) (text : List ℕ) → restructuring text ≡ Err refusal → RefusedFor refusal text
 refused_for refusal text e = elim (chosen (nat_lt 1048576 (length text)) (Err too_long) (restructured_text text) (Err refusal) e) [
   | inl long ↦
-      let same : too_long ≡ refusal = let both = long.1 in cc in
-      inl (ltb-true 1048576 (length text) long.0, ap (λ (r : Refusal). r.reason) (sym same))
-  | inr whole ↦
-      inr (ltb-false 1048576 (length text) whole.0, refused_other text refusal whole.1, ap (λ (r : Refusal). r.reason) (refusal_is text refusal whole.1))
+      let same : refusal ≡ too_long = let both = long.1 in cc in
+      inl (ltb-true 1048576 (length text) long.0, same)
+  | inr whole ↦ inr (ltb-false 1048576 (length text) whole.0, refused text refusal whole.1)
 ]
 
 handed_on : (held : Option Files) (from : List ℕ) (P Q : List ℕ → Type 0) → ((text : List ℕ) → P text → Q text) → HandsOver held from P → HandsOver held from Q
@@ -71,15 +70,18 @@ first_form_handed held from output h = handed_on held from (λ text. restructuri
 pub reason_handed : (held : Option Files) (from : List ℕ) (refusal : Refusal) → HandsOver held from (λ text. restructuring text ≡ Err refusal) → HandsOver held from (RefusedFor refusal)
 reason_handed held from refusal h = handed_on held from (λ text. restructuring text ≡ Err refusal) (RefusedFor refusal) (λ text e. refused_for refusal text e) h
 
-taken_not_refused : (refusal : Refusal) (text : List ℕ) → length text ≤ 1048576 → IsFirstForm text → RefusedFor refusal text → ⊥
-taken_not_refused refusal text short first why = elim why [ inl long ↦ omega (arith, long.0) | inr other ↦ other.1 first ]
+taken_not_refused : (refusal : Refusal) (text : List ℕ) → length text ≤ 1048576 → IsFirstForm text → restructuring text ≡ Err refusal → ⊥
+taken_not_refused refusal text short first e = elim (chosen (nat_lt 1048576 (length text)) (Err too_long) (restructured_text text) (Err refusal) e) [
+  | inl long ↦ let above = ltb-true 1048576 (length text) long.0 in omega arith
+  | inr whole ↦ refused_other text refusal whole.1 first
+]
 
 -- what each status says leaves two of them where a text is there and no count rose
 pub completes : (said : List ℕ → Type 0) (from to : List ℕ) (before after : Option Files) (reads reads' writes writes' : ℕ) (result : Status)
     → Restructures said from to before after reads reads' writes writes' result → Completes from before reads reads' writes writes' result
 completes said from to before after reads reads' writes writes' status.Done h = λ files text told there short first still stay. inl refl
 completes said from to before after reads reads' writes writes' (status.Refused refusal) h = λ files text told there short first still stay.
-    absurd (taken_not_refused refusal text short first (handed before files from text (RefusedFor refusal) told there h.reason))
+    absurd (taken_not_refused refusal text short first (handed before files from text (λ held. restructuring held ≡ Err refusal) told there h.text))
 completes said from to before after reads reads' writes writes' status.Usage h = absurd h
 completes said from to before after reads reads' writes writes' status.Memory h = λ files text told there short first still stay. inr refl
 completes said from to before after reads reads' writes writes' status.ReadFault h = λ files text told there short first still stay. absurd (still h.rose)

@@ -8,7 +8,15 @@ use Rattle.rg_ports.specs.Written.{Written, more, FrontWritten}
 -- what is wrong, by the number of the reason
 abbrev pub reason_text : ℕ → List ℕ
 reason_text reason =
-    if reason == 1 then codes "text too long" else if reason == 99 then codes "form not built yet" else []
+    if reason == 1 then codes "text too long"
+    else (if reason == 2 then codes "byte begins no token"
+    else (if reason == 3 then codes "comment without end"
+    else (if reason == 4 then codes "bad character constant or string"
+    else (if reason == 5 then codes "bad integer constant"
+    else (if reason == 6 then codes "unsupported directive"
+    else (if reason == 10 then codes "unexpected token"
+    else (if reason == 11 then codes "nested too deeply"
+    else (if reason == 99 then codes "form not built yet" else []))))))))
 
 abbrev pub counts_line : Counts → List ℕ
 counts_line counts =

@@ -3,7 +3,7 @@ use Rattle.std.specs.Prelude.{◌≡◌, ◌⊎◌, ℕ, ◌<◌, ◌≤◌, Lis
 use Rattle.std.specs.FinMap.{get, insert}
 use Rattle.c_types.specs.declared.refusal.Refusal.{Refusal}
 use Rattle.first_form.specs.Stretches.{IsFirstForm}
-use Rattle.move_driver.specs.Text.{Output, restructured_text, IsPlainText}
+use Rattle.move_driver.specs.Text.{Output, restructured_text, IsPlainText, IsRefusedFor}
 use Rattle.rg_ports.specs.Count.{Rose}
 use Rattle.rg_ports.specs.Files.{Files, HoldsPrefix}
 use Rattle.regoto.specs.declared.status.Status.{Status}
@@ -38,9 +38,9 @@ pub record IsDone (said : List ℕ → Type 0) (from to : List ℕ) (before afte
   pub written : after ≡ option_map (λ files. insert files to output.text) before
   pub line : said (counts_line output.counts)
 
--- why a text is refused: it has more than 1,048,576 bytes, or else it isn't of the first form
+-- why a text is refused: it has more than 1,048,576 bytes, or else by its first fault, or since its form isn't built
 abbrev pub RefusedFor : Refusal → List ℕ → Type 0
-RefusedFor refusal text = ((1048576 < length text) × (refusal.reason ≡ 1)) ⊎ ((length text ≤ 1048576) × ¬ IsFirstForm text × (refusal.reason ≡ 99))
+RefusedFor refusal text = ((1048576 < length text) × (refusal ≡ too_long)) ⊎ ((length text ≤ 1048576) × IsRefusedFor text refusal)
 
 -- the text is outside the subset, for this reason and at this place, and no file changed
 pub record IsRefused (said : List ℕ → Type 0) (from : List ℕ) (before after : Option Files) (refusal : Refusal) : Type 0 where

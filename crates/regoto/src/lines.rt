@@ -70,12 +70,17 @@ pub fn tell_counts<E: Sink>(err: &mut E, counts: &Counts)
 fn reason_text(reason: u32) -> &'static str
     ensures { result.now ≡ the_reason_text reason }
 {
-    if reason == 1 {
-        "text too long"
-    } else if reason == 99 {
-        "form not built yet"
-    } else {
-        ""
+    match reason {
+        1 => "text too long",
+        2 => "byte begins no token",
+        3 => "comment without end",
+        4 => "bad character constant or string",
+        5 => "bad integer constant",
+        6 => "unsupported directive",
+        10 => "unexpected token",
+        11 => "nested too deeply",
+        99 => "form not built yet",
+        _ => "",
     }
 }
 

@@ -1,5 +1,5 @@
 use super::*;
-use c_types::{Bytes, List, Memory, Name};
+use c_types::{Bytes, List, Memory, Name, Refusal};
 use rg_ports::{MemShelf, MemSink, NoInput};
 use std::alloc::Global;
 use std::test::Fail;
@@ -115,6 +115,13 @@ fn tells_what_is_wrong(rt: HostRuntime) -> Result<(), Fail> {
             1,
             "a.c:1:1: error 99: form not built yet\n",
         ),
+        (
+            to_b,
+            "int main(void) {\n    L: goto L;",
+            [].as_slice(),
+            1,
+            "a.c:2:15: error 10: unexpected token\n",
+        ),
         (no_file, SOURCE, [].as_slice(), 8, "regoto: no file c.c\n"),
         (
             report,
@@ -140,6 +147,76 @@ fn tells_what_is_wrong(rt: HostRuntime) -> Result<(), Fail> {
         assert!(rt; ran.shelf.held("b.c").is_none());
         assert_eq!(rt; ran.shelf.held("a.c").ok_or("kept")?, source.as_bytes());
         assert_eq!(rt; ran.shelf.held("r.txt").ok_or("kept")?, b"kept".as_slice());
+    }
+    Ok(())
+}
+
+/// The refusal at an offset of the first line.
+fn refused_at(reason: u32, at: u32) -> Status {
+    Status::Refused(Refusal {
+        reason,
+        line: 1,
+        column: at as u64 + 1,
+        at: at as u64,
+    })
+}
+
+#[test]
+fn refuses_at_the_first_fault(rt: HostRuntime) -> Result<(), Fail> {
+    let cases = [
+        ("int x; @", 2, 7),
+        ("int x; /*", 3, 7),
+        ("int x = 'ab'; @", 4, 8),
+        ("int main(void) { return 09; } float", 5, 24),
+        ("#define N 1", 6, 0),
+        ("float x;", 10, 0),
+        ("int f(int a, int b) { a + b = 1; }", 10, 28),
+        ("int main(void) { L: goto L;", 10, 27),
+        ("int main(void) { if (1) ; else else ; }", 10, 31),
+        ("", 99, 0),
+        ("int main(void) { return 0; } // end", 99, 0),
+        ("int main(void) { again: goto again; }", 99, 0),
+    ];
+    for (source, reason, at) in cases {
+        let words = ["restructure", "a.c", "b.c"];
+        let ran = run(rt.alloc(), &words, source, &[], &[])?;
+        assert_eq!(rt; ran.status, refused_at(reason, at), "{source}");
+        assert!(rt; ran.shelf.held("b.c").is_none());
+    }
+    Ok(())
+}
+
+#[test]
+fn refuses_what_is_nested_too_deeply(rt: HostRuntime) -> Result<(), Fail> {
+    for (count, reason) in [(400, 10), (401, 11), (65536, 11)] {
+        let mut source = String::from_str(rt.alloc(), "int x = ")?;
+        for _ in 0..count {
+            source.push('(')?;
+        }
+        let words = ["restructure", "a.c", "b.c"];
+        let ran = run(rt.alloc(), &words, source.as_str(), &[], &[])?;
+        assert_eq!(rt; ran.status, refused_at(reason, 408), "{count}");
+    }
+    Ok(())
+}
+
+#[test]
+fn refuses_each_front_of_a_text(rt: HostRuntime) -> Result<(), Fail> {
+    let source =
+        "int main(void) { int i = 0; loop: if (i >= 3) goto done; putchar('a' + i); i++; goto loop; done: return 0; }";
+    assert_eq!(rt; source.len(), 108);
+    for length in 1u32..108 {
+        let (reason, at) = match length {
+            1 | 2 => (10, 0),
+            10 | 11 | 12 => (10, 9),
+            53 => (10, 51),
+            66 | 67 => (4, 65),
+            _ => (10, length),
+        };
+        let front = source.get(..length as usize).ok_or("a front of the text")?;
+        let words = ["restructure", "a.c", "b.c"];
+        let ran = run(rt.alloc(), &words, front, &[], &[])?;
+        assert_eq!(rt; ran.status, refused_at(reason, at), "{front}");
     }
     Ok(())
 }

@@ -1,7 +1,6 @@
-use Rattle.std.proofs.Common.{◌≡◌, drop, find}
-use Rattle.std.specs.Str.{bytes_eq}
-use Rattle.first_form.specs.Fixed.{spelling}
+use Rattle.std.proofs.Common.{◌≡◌, drop}
+use Rattle.first_form.specs.Fixed.{spelled_by}
 use Rattle.first_form.proofs.fixed.spelled_by.Given as goal
 
-abbrev pub invariant-loop-fixed : goal.invariant-loop-fixed
-invariant-loop-fixed l = find (λ fixed. bytes_eq (spelling fixed) l.bytes) (drop l.fixed-index l.list) ≡ find (λ fixed. bytes_eq (spelling fixed) l.bytes) l.list
+abbrev pub invariant-loop-word : goal.invariant-loop-word
+invariant-loop-word l = spelled_by (drop l.word-index l.words) l.bytes ≡ spelled_by l.words l.bytes
