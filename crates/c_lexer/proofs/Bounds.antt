@@ -9,11 +9,12 @@ use Rattle.c_lexer.specs.declared.token.Token.{Token}
 use Rattle.c_lexer.specs.declared.token.TokenKind.{TokenKind}
 use Rattle.c_lexer.specs.declared.token.TokenKind.TheVariants as k
 use Rattle.c_lexer.specs.declared.token.Span.{Span}
-use Rattle.c_lexer.specs.Pieces.{Piece, Space, Word, Number, Char, Text, Sign, Directive, Line, Block, spelled, text, Fits, Good, first_behind, behind, onto_bare, bare, word_kind, token, span, token_of, comment_of, all_of, tokens_of, comments_of, IsWithin}
-use Rattle.c_lexer.specs.Answers.{read_tokens, read_comments, IsReading}
+use Rattle.c_lexer.specs.declared.token.Scanned.{Scanned}
+use Rattle.c_lexer.specs.Pieces.{Piece, Space, Word, Number, Char, Text, Sign, Directive, Line, Block, spelled, text, Fits, Good, first_behind, behind, onto_bare, bare, word_kind, token, span, token_of, comment_of, all_of, tokens_of, comments_of, scanned_of, IsWithin}
+use Rattle.c_lexer.specs.Answers.{scanning, IsReading}
 use Rattle.c_lexer.proofs.PieceLemmas.{spelled_split}
 use Rattle.c_lexer.proofs.Later.{has_byte}
-use Rattle.c_lexer.proofs.Theorem.{tokens_reading, comments_reading}
+use Rattle.c_lexer.proofs.Theorem.{scan_reading}
 
 one_bare : (c : Bool) (b : ℕ) → length (cond c [] (b ∷ [])) ≤ 1
 one_bare true b = omega arith
@@ -74,20 +75,20 @@ all_inside {X} start end f inside first (p ∷ ps) at total g h =
 same_length : (t u : List ℕ) → t ≡ u → 0 + length u ≤ length t
 same_length t u e = let h = ap length e in omega arith
 
-tokens_within : (t : List ℕ) (found : List Token) → IsReading tokens_of t (Ok found) → All (λ (x : Token). IsWithin t x.start x.end) found
+tokens_within : (t : List ℕ) (found : Scanned) → IsReading scanned_of t (Ok found) → All (λ (x : Token). IsWithin t x.start x.end) found.tokens
 tokens_within t found (ps, s, e) =
-    All-same (λ (x : Token). IsWithin t x.start x.end) found (tokens_of ps) e
+    All-same (λ (x : Token). IsWithin t x.start x.end) found.tokens (tokens_of ps) (ap (λ (x : Scanned). x.tokens) e)
     (all_inside (λ (x : Token). x.start) (λ (x : Token). x.end) token_of tokens_inside true ps 0 (length t) s.good (same_length t (text ps []) s.spells))
 
-comments_within : (t : List ℕ) (found : List Span) → IsReading comments_of t (Ok found) → All (λ (x : Span). IsWithin t x.start x.end) found
+comments_within : (t : List ℕ) (found : Scanned) → IsReading scanned_of t (Ok found) → All (λ (x : Span). IsWithin t x.start x.end) found.comments
 comments_within t found (ps, s, e) =
-    All-same (λ (x : Span). IsWithin t x.start x.end) found (comments_of ps) e
+    All-same (λ (x : Span). IsWithin t x.start x.end) found.comments (comments_of ps) (ap (λ (x : Scanned). x.comments) e)
     (all_inside (λ (x : Span). x.start) (λ (x : Span). x.end) comment_of comments_inside true ps 0 (length t) s.good (same_length t (text ps []) s.spells))
 
-pub tokens_bound : (t : List ℕ) (r : Result (List Token) ReadStop) → Gives (λ (x : List Token). x) r (read_tokens t) → IfOk r (λ found. All (λ (x : Token). IsWithin t x.start x.end) found)
-tokens_bound t (Ok found) h = tokens_within t found (subst (λ (x : Result (List Token) Refusal). IsReading tokens_of t x) h (tokens_reading t))
+pub tokens_bound : (t : List ℕ) (r : Result Scanned ReadStop) → Gives (λ (x : Scanned). x) r (scanning t) → IfOk r (λ found. All (λ (x : Token). IsWithin t x.start x.end) found.tokens)
+tokens_bound t (Ok found) h = tokens_within t found (subst (λ (x : Result Scanned Refusal). IsReading scanned_of t x) h (scan_reading t))
 tokens_bound t (Err stop) h = tt
 
-pub comments_bound : (t : List ℕ) (r : Result (List Span) ReadStop) → Gives (λ (x : List Span). x) r (read_comments t) → IfOk r (λ found. All (λ (x : Span). IsWithin t x.start x.end) found)
-comments_bound t (Ok found) h = comments_within t found (subst (λ (x : Result (List Span) Refusal). IsReading comments_of t x) h (comments_reading t))
+pub comments_bound : (t : List ℕ) (r : Result Scanned ReadStop) → Gives (λ (x : Scanned). x) r (scanning t) → IfOk r (λ found. All (λ (x : Span). IsWithin t x.start x.end) found.comments)
+comments_bound t (Ok found) h = comments_within t found (subst (λ (x : Result Scanned Refusal). IsReading scanned_of t x) h (scan_reading t))
 comments_bound t (Err stop) h = tt

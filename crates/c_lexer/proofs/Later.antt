@@ -127,7 +127,7 @@ finish_moves t (InLine s end) at h = step_moves t (InLine s end) 10 at h
 up : (a b c : ℕ) → a ≤ b → b ≤ c → a ≤ c
 up a b c h k = omega arith
 
-abbrev faulty : ℕ → ℕ → Lexed Ended
+abbrev faulty : ℕ → ℕ → Lexed (List Ended)
 faulty reason place = Faulty reason place
 
 place_same : (low place k reason other : ℕ) → low ≤ place → faulty reason place ≡ faulty other k → low ≤ k

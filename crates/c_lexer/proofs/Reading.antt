@@ -36,7 +36,7 @@ add_all (ended.Token t) out = out ++ ended.Token t ∷ []
 add_all (ended.Dots a b) out = (out ++ ended.Token a ∷ []) ++ ended.Token b ∷ []
 add_all (ended.Comment c) out = out ++ ended.Comment c ∷ []
 
-abbrev pub scan : List ℕ → State → ℕ → List Ended → List ℕ → Lexed Ended
+abbrev pub scan : List ℕ → State → ℕ → List Ended → List ℕ → Lexed (List Ended)
 scan t s at out bs = run add_all t s at out bs
 
 -- ---- bytes
@@ -89,15 +89,15 @@ not_false false h = cc
 
 -- ---- what the next byte ends
 
-same_cond : (c : Bool) (x y v w : Taken) (out more : List Ended) (f : State → List Ended → Lexed Ended) → go_on add_all x out f ≡ go_on add_all v more f → go_on add_all y out f ≡ go_on add_all w more f → go_on add_all (cond c x y) out f ≡ go_on add_all (cond c v w) more f
+same_cond : (c : Bool) (x y v w : Taken) (out more : List Ended) (f : State → List Ended → Lexed (List Ended)) → go_on add_all x out f ≡ go_on add_all v more f → go_on add_all y out f ≡ go_on add_all w more f → go_on add_all (cond c x y) out f ≡ go_on add_all (cond c v w) more f
 same_cond true x y v w out more f h k = h
 same_cond false x y v w out more f h k = k
 
-begin_mark : (o : Option Mark) (e : Ended) (at : ℕ) (out : List Ended) (f : State → List Ended → Lexed Ended) → go_on add_all (of_mark o e at) out f ≡ go_on add_all (of_mark o ended.Nothing at) (add_all e out) f
+begin_mark : (o : Option Mark) (e : Ended) (at : ℕ) (out : List Ended) (f : State → List Ended → Lexed (List Ended)) → go_on add_all (of_mark o e at) out f ≡ go_on add_all (of_mark o ended.Nothing at) (add_all e out) f
 begin_mark (Some m) e at out f = refl
 begin_mark None e at out f = refl
 
-pub begin_after : (e : Ended) (b at : ℕ) (out : List Ended) (f : State → List Ended → Lexed Ended) → go_on add_all (begin false e b at) out f ≡ go_on add_all (begin false ended.Nothing b at) (add_all e out) f
+pub begin_after : (e : Ended) (b at : ℕ) (out : List Ended) (f : State → List Ended → Lexed (List Ended)) → go_on add_all (begin false e b at) out f ≡ go_on add_all (begin false ended.Nothing b at) (add_all e out) f
 begin_after e b at out f =
     same_cond (is_space b) _ _ _ _ out (add_all e out) f refl
     (same_cond (is_letter b) _ _ _ _ out (add_all e out) f refl
@@ -106,7 +106,7 @@ begin_after e b at out f =
     (same_cond (b == 34) _ _ _ _ out (add_all e out) f refl
     (same_cond (b == 35) _ _ _ _ out (add_all e out) f refl (begin_mark (mark_at b) e at out f))))))
 
-abbrev all_read : State → List Ended → Lexed Ended
+abbrev all_read : State → List Ended → Lexed (List Ended)
 all_read z more = Read more
 
 taken : (t : List ℕ) (s : State) (b at : ℕ) (out : List Ended) (r : List ℕ) (n : Taken) → step t s b at ≡ n → scan t s at out (b ∷ r) ≡ go_on add_all n out (λ z more. run add_all t z (at + 1) more r)

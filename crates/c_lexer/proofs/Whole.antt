@@ -95,7 +95,7 @@ closes_at_end t (InLine s end) at P (ps, w, i, none) e = closed (Line w) s at P 
 
 -- ---- whole texts
 
-abbrev pub Outcome : ℕ → Bool → Lexed Ended → List ℕ → Type 0
+abbrev pub Outcome : ℕ → Bool → Lexed (List Ended) → List ℕ → Type 0
 Outcome base first (Read z) x = Spelled first x
 Outcome base first (Faulty reason place) x = StuckAt base first reason place x
 

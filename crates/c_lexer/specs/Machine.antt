@@ -6,6 +6,7 @@ use Rattle.c_lexer.specs.declared.token.TokenKind.{TokenKind}
 use Rattle.c_lexer.specs.declared.token.TokenKind.TheVariants as k
 use Rattle.c_lexer.specs.declared.token.Token.{Token}
 use Rattle.c_lexer.specs.declared.token.Span.{Span}
+use Rattle.c_lexer.specs.declared.token.Scanned.{Scanned}
 use Rattle.c_lexer.specs.declared.state.State.{State}
 use Rattle.c_lexer.specs.declared.state.State.TheVariants.{Between, InWord, InNumber, InMark, Dots, CharOpened, CharEscape, CharHeld, InText, TextEscape, InDirective, InComment, InLine}
 use Rattle.c_lexer.specs.declared.state.Escape.{Escape}
@@ -148,15 +149,18 @@ abbrev pub add_comment : Ended → List Span → List Span
 add_comment (ends.Comment found) out = out ++ found ∷ []
 add_comment _ out = out
 
+abbrev pub add_ended : Ended → Scanned → Scanned
+add_ended ended out = record { tokens = add_token ended out.tokens; comments = add_comment ended out.comments }
+
 -- what reading gives: all of it, or a reason and a place
 pub data Lexed (X : Type 0) : Type 0 where
-  Read : List X → Lexed X
+  Read : X → Lexed X
   Faulty : ℕ → ℕ → Lexed X
 
-abbrev pub go_on : {X : Type 0} → (Ended → List X → List X) → Taken → List X → (State → List X → Lexed X) → Lexed X
+abbrev pub go_on : {X : Type 0} → (Ended → X → X) → Taken → X → (State → X → Lexed X) → Lexed X
 go_on add (Go s ended) out f = f s (add ended out)
 go_on add (Fault reason place) out f = Faulty reason place
 
-abbrev pub run : {X : Type 0} → (Ended → List X → List X) → List ℕ → State → ℕ → List X → List ℕ → Lexed X
+abbrev pub run : {X : Type 0} → (Ended → X → X) → List ℕ → State → ℕ → X → List ℕ → Lexed X
 run add t s at out [] = go_on add (finish t s at) out (λ z more. Read more)
 run add t s at out (b ∷ bs) = go_on add (step t s b at) out (λ z more. run add t z (at + 1) more bs)

@@ -7,6 +7,7 @@ use Rattle.c_lexer.specs.declared.token.TokenKind.{TokenKind}
 use Rattle.c_lexer.specs.declared.token.TokenKind.TheVariants as k
 use Rattle.c_lexer.specs.declared.token.Token.{Token}
 use Rattle.c_lexer.specs.declared.token.Span.{Span}
+use Rattle.c_lexer.specs.declared.token.Scanned.{Scanned}
 use Rattle.c_types.specs.Words.{is_word, is_word_byte, is_keyword}
 use Rattle.c_lexer.specs.Bytes.{is_space, is_blank, is_newline, is_run_byte, is_text_byte, is_character_byte, NotFirst}
 use Rattle.c_lexer.specs.Numbers.{is_run, ends_with_power, integer_of}
@@ -158,6 +159,9 @@ tokens_of ps = all_of token_of ps 0
 
 abbrev pub comments_of : List Piece → List Span
 comments_of ps = all_of comment_of ps 0
+
+abbrev pub scanned_of : List Piece → Scanned
+scanned_of ps = record { tokens = tokens_of ps; comments = comments_of ps }
 
 -- these places are of a byte at least in the text
 abbrev pub IsWithin : List ℕ → ℕ → ℕ → Type 0

@@ -10,7 +10,6 @@ mod mark;
 mod number;
 mod place;
 mod read;
-mod scan;
 mod state;
 mod step;
 #[cfg(test)]
@@ -21,6 +20,6 @@ mod word;
 pub use mark::{Mark, mark_of};
 pub use number::{Integer, integer_constant};
 pub use place::refusal_at;
-pub use read::{comments, tokens};
-pub use token::{Span, Token, TokenKind};
+pub use read::{comments, scan, tokens};
+pub use token::{Scanned, Span, Token, TokenKind};
 pub use word::is_name;

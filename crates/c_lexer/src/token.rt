@@ -1,3 +1,5 @@
+use c_types::List;
+
 /// What a token is (ISO/IEC 9899:2011, 6.4).
 #[derive(Clone, Copy, Debug, PartialEq, Eq)]
 pub enum TokenKind {
@@ -32,4 +34,11 @@ pub struct Token {
 pub struct Span {
     pub start: u64,
     pub end: u64,
+}
+
+/// The tokens and the comments of a text, each in order.
+#[derive(Debug, Drop)]
+pub struct Scanned {
+    pub tokens: List<Token>,
+    pub comments: List<Span>,
 }

@@ -7,10 +7,11 @@ use Rattle.c_types.specs.declared.refusal.ReadStop.TheVariants as stops
 use Rattle.c_types.specs.Stop.{Gives}
 use Rattle.c_lexer.specs.declared.token.Token.{Token}
 use Rattle.c_lexer.specs.declared.token.Span.{Span}
-use Rattle.c_lexer.specs.Pieces.{Piece, Spells, tokens_of, comments_of}
+use Rattle.c_lexer.specs.declared.token.Scanned.{Scanned}
+use Rattle.c_lexer.specs.Pieces.{Piece, Spells, tokens_of, comments_of, scanned_of}
 use Rattle.c_lexer.specs.Faults.{IsFirstFault}
-use Rattle.c_lexer.specs.Answers.{read_tokens, read_comments, IsReading}
-use Rattle.c_lexer.proofs.Theorem.{tokens_reading, tokens_read_back, comments_read_back}
+use Rattle.c_lexer.specs.Answers.{scanning, IsReading}
+use Rattle.c_lexer.proofs.Theorem.{scan_reading, scan_read_back}
 use Rattle.c_grammar.specs.declared.syntax.Syntax.{Syntax}
 use Rattle.c_grammar.specs.TokenClasses.{classes_of}
 use Rattle.c_grammar.specs.Derives.{Derives, IsUnexpected, IsTooMany}
@@ -49,25 +50,25 @@ unbuilt : {A : Type 0} (o : Option A) (r : Refusal) → or_not_built o ≡ Err r
 unbuilt None r e = let same : not_built ≡ r = cc in sym same
 unbuilt (Some y) r e = cc
 
-ok_same : {A : Type 0} (o : Result A Refusal) (x y : A) → o ≡ Ok x → o ≡ Ok y → x ≡ y
-ok_same o x y e g = cc
-
 not_both : {A : Type 0} (o : Result A Refusal) (x : A) (r : Refusal) → o ≡ Ok x → o ≡ Err r → ⊥
 not_both o x r e g = cc
 
 -- ---- what the three readings say
 
--- the pieces of a text whose tokens were read
-record IsLexed (t : List ℕ) (tokens : List Token) : Type 0 where
+-- the pieces of a text that was scanned
+record IsScanned (t : List ℕ) (scanned : Scanned) : Type 0 where
   pieces : List Piece
   spells : Spells pieces t
-  tokens_are : tokens ≡ tokens_of pieces
+  tokens_are : scanned.tokens ≡ tokens_of pieces
+  comments_are : scanned.comments ≡ comments_of pieces
 
-lexed : (t : List ℕ) (tokens : List Token) → read_tokens t ≡ Ok tokens → IsLexed t tokens
-lexed t tokens e = let p = subst (λ (o : Result (List Token) Refusal). IsReading tokens_of t o) e (tokens_reading t) in record { pieces = p.0; spells = p.1; tokens_are = p.2 }
+scanned_as : (t : List ℕ) (scanned : Scanned) → scanning t ≡ Ok scanned → IsScanned t scanned
+scanned_as t scanned e =
+    let p = subst (λ (o : Result Scanned Refusal). IsReading scanned_of t o) e (scan_reading t) in
+    record { pieces = p.0; spells = p.1; tokens_are = ap (λ (s : Scanned). s.tokens) p.2; comments_are = ap (λ (s : Scanned). s.comments) p.2 }
 
-first_fault : (t : List ℕ) (refusal : Refusal) → read_tokens t ≡ Err refusal → IsFirstFault t refusal
-first_fault t refusal e = subst (λ (o : Result (List Token) Refusal). IsReading tokens_of t o) e (tokens_reading t)
+first_fault : (t : List ℕ) (refusal : Refusal) → scanning t ≡ Err refusal → IsFirstFault t refusal
+first_fault t refusal e = subst (λ (o : Result Scanned Refusal). IsReading scanned_of t o) e (scan_reading t)
 
 derived : (t : List ℕ) (tokens : List Token) (x : Syntax) → parsed t tokens ≡ Ok x → Derives (classes_of t tokens) x
 derived t tokens x e = reads t tokens (Ok x) e
@@ -89,25 +90,19 @@ record IsTaken (t : List ℕ) (p : Program) : Type 0 where
 
 taken : (t : List ℕ) (p : Program) → read_text t ≡ Ok p → IsTaken t p
 taken t p e =
-    let a = went_on (read_tokens t) _ p e in
-    let b = went_on (parsed t a.0) _ p a.2 in
-    let c = went_on (read_comments t) _ p b.2 in
-    let f = formed_is t a.0 c.0 p (built (formed t a.0 c.0) p c.2) in
-    let l = lexed t a.0 a.1 in
-    record {
-      pieces = l.pieces;
-      spells = l.spells;
-      uncommented = ok_same (read_comments t) (comments_of l.pieces) c.0 (comments_read_back t l.pieces l.spells) c.1 ∙ f.0;
-      spelled = ap (first_form t) (sym l.tokens_are) ∙ f.1;
-    }
+    let a = went_on (scanning t) _ p e in
+    let b = went_on (parsed t a.0.tokens) _ p a.2 in
+    let f = formed_is t a.0.tokens a.0.comments p (built (formed t a.0.tokens a.0.comments) p b.2) in
+    let l = scanned_as t a.0 a.1 in
+    record { pieces = l.pieces; spells = l.spells; uncommented = sym l.comments_are ∙ f.0; spelled = ap (first_form t) (sym l.tokens_are) ∙ f.1 }
 
 first_read : (t : List ℕ) (first : IsFirstForm t) → read_text t ≡ Ok first.program
 first_read t first =
     let tokens = tokens_of first.pieces in
     let d = tokens_derive t tokens first.program first.spelled in
-    goes_on (read_tokens t) _ tokens (tokens_read_back t first.pieces first.spells)
+    goes_on (scanning t) _ (scanned_of first.pieces) (scan_read_back t first.pieces first.spells)
     ∙ goes_on (parsed t tokens) _ d.0 (parses t tokens d.0 d.1)
-    ∙ goes_on (read_comments t) (λ comments. or_not_built (formed t tokens comments)) [] (comments_read_back t first.pieces first.spells ∙ ap Ok first.uncommented)
+    ∙ ap (λ comments. or_not_built (formed t tokens comments)) first.uncommented
     ∙ ap or_not_built first.spelled
 
 -- ---- a text that was restructured
@@ -154,47 +149,40 @@ refused_other t refusal e first = let done = restructured_first t first in not_b
 
 -- ---- why a text is refused
 
-unformed : (t : List ℕ) (refusal : Refusal) → restructured_text t ≡ Err refusal → (tokens : List Token) (x : Syntax) → read_tokens t ≡ Ok tokens → parsed t tokens ≡ Ok x → refusal ≡ not_built → IsNotBuilt t refusal
-unformed t refusal e tokens x lex parse place =
-    let l = lexed t tokens lex in
+unformed : (t : List ℕ) (refusal : Refusal) → restructured_text t ≡ Err refusal → (scanned : Scanned) (x : Syntax) → scanning t ≡ Ok scanned → parsed t scanned.tokens ≡ Ok x → refusal ≡ not_built → IsNotBuilt t refusal
+unformed t refusal e scanned x scan parse place =
+    let l = scanned_as t scanned scan in
     record {
       pieces = l.pieces;
       spells = l.spells;
       syntax_of = x;
-      derives = subst (λ (ts : List Token). Derives (classes_of t ts) x) l.tokens_are (derived t tokens x parse);
+      derives = subst (λ (ts : List Token). Derives (classes_of t ts) x) l.tokens_are (derived t scanned.tokens x parse);
       other = refused_other t refusal e;
       place = place;
     }
 
-outside : (t : List ℕ) (refusal : Refusal) (tokens : List Token) → read_tokens t ≡ Ok tokens → parsed t tokens ≡ Err refusal → IsOutside t refusal
-outside t refusal tokens lex parse =
-    let l = lexed t tokens lex in
+outside : (t : List ℕ) (refusal : Refusal) (scanned : Scanned) → scanning t ≡ Ok scanned → parsed t scanned.tokens ≡ Err refusal → IsOutside t refusal
+outside t refusal scanned scan parse =
+    let l = scanned_as t scanned scan in
     record {
       pieces = l.pieces;
       spells = l.spells;
-      fault = subst (λ (ts : List Token). IsRefusedAt IsUnexpected 10 t ts refusal ⊎ IsRefusedAt IsTooMany 11 t ts refusal) l.tokens_are (faulty t tokens refusal parse);
+      fault = subst (λ (ts : List Token). IsRefusedAt IsUnexpected 10 t ts refusal ⊎ IsRefusedAt IsTooMany 11 t ts refusal) l.tokens_are (faulty t scanned.tokens refusal parse);
     }
 
--- what the reading of comments, and the form, refuse behind tokens that derive
-form_refused : (t : List ℕ) (refusal : Refusal) (tokens : List Token) → read_tokens t ≡ Ok tokens → and_then (read_comments t) (λ comments. or_not_built (formed t tokens comments)) ≡ Err refusal → refusal ≡ not_built
-form_refused t refusal tokens lex e = elim (stopped (read_comments t) (λ comments. or_not_built (formed t tokens comments)) refusal e) [
-  | inl faulty ↦ let l = lexed t tokens lex in absurd (not_both (read_comments t) (comments_of l.pieces) refusal (comments_read_back t l.pieces l.spells) faulty)
-  | inr c ↦ unbuilt (formed t tokens c.0) refusal c.2
-]
-
 read_refused : (t : List ℕ) (refusal : Refusal) → restructured_text t ≡ Err refusal → read_text t ≡ Err refusal → IsRefusedFor t refusal
-read_refused t refusal whole e = elim (stopped (read_tokens t) _ refusal e) [
+read_refused t refusal whole e = elim (stopped (scanning t) _ refusal e) [
   | inl lexical ↦ inl (first_fault t refusal lexical)
-  | inr a ↦ elim (stopped (parsed t a.0) _ refusal a.2) [
+  | inr a ↦ elim (stopped (parsed t a.0.tokens) _ refusal a.2) [
     | inl parse ↦ inr (inl (outside t refusal a.0 a.1 parse))
-    | inr b ↦ inr (inr (unformed t refusal whole a.0 b.0 a.1 b.1 (form_refused t refusal a.0 a.1 b.2)))
+    | inr b ↦ inr (inr (unformed t refusal whole a.0 b.0 a.1 b.1 (unbuilt (formed t a.0.tokens a.0.comments) refusal b.2)))
   ]
 ]
 
 moves_refused : (t : List ℕ) (refusal : Refusal) (p : Program) → restructured_text t ≡ Err refusal → read_text t ≡ Ok p → refusal ≡ not_built → IsNotBuilt t refusal
 moves_refused t refusal p whole e place =
-    let a = went_on (read_tokens t) _ p e in
-    let b = went_on (parsed t a.0) _ p a.2 in
+    let a = went_on (scanning t) _ p e in
+    let b = went_on (parsed t a.0.tokens) _ p a.2 in
     unformed t refusal whole a.0 b.0 a.1 b.1 place
 
 pub refused : (t : List ℕ) (refusal : Refusal) → restructured_text t ≡ Err refusal → IsRefusedFor t refusal

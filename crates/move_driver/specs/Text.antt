@@ -5,7 +5,7 @@ use Rattle.c_lexer.specs.declared.token.Token.{Token}
 use Rattle.c_lexer.specs.declared.token.Span.{Span}
 use Rattle.c_lexer.specs.Pieces.{Piece, Spells, tokens_of}
 use Rattle.c_lexer.specs.Faults.{IsFirstFault}
-use Rattle.c_lexer.specs.Answers.{read_tokens, read_comments}
+use Rattle.c_lexer.specs.Answers.{scanning}
 use Rattle.c_grammar.specs.declared.syntax.Syntax.{Syntax}
 use Rattle.c_grammar.specs.TokenClasses.{classes_of}
 use Rattle.c_grammar.specs.Derives.{Derives, IsUnexpected, IsTooMany}
@@ -50,7 +50,7 @@ formed text tokens (_ ∷ _) = None
 -- else for the form.
 abbrev pub read_text : List ℕ → Result Program Refusal
 read_text text =
-    and_then (read_tokens text) (λ tokens. and_then (parsed text tokens) (λ syntax. and_then (read_comments text) (λ comments. or_not_built (formed text tokens comments))))
+    and_then (scanning text) (λ scanned. and_then (parsed text scanned.tokens) (λ syntax. or_not_built (formed text scanned.tokens scanned.comments)))
 
 abbrev pub rewritten_program : Program → Result (Program × Counts) Refusal
 rewritten_program program = or_not_built (restructured program)

@@ -8,7 +8,7 @@ ghost use Rattle.move_driver.specs.Text.{or_not_built, read_text, rewritten_prog
 
 use crate::counts::{Counts, DriverStop};
 use crate::program::restructure_program;
-use c_lexer::{Token, comments, tokens};
+use c_lexer::{Token, scan};
 use c_parser::parse;
 use c_printer::print;
 use c_tree::Program;
@@ -47,13 +47,12 @@ fn form_program(alloc: Global, text: &[u8], tokens: &List<Token>) -> Result<Prog
 fn read_program(alloc: Global, text: &[u8]) -> Result<Program, ReadStop>
     ensures { Gives (λ program. program) result (read_text text.now) }
 {
-    let tokens = tokens(alloc, text)?;
-    parse(alloc, text, &tokens)?;
-    let comments = comments(alloc, text)?;
-    if !comments.is_empty() {
+    let scanned = scan(alloc, text)?;
+    parse(alloc, text, &scanned.tokens)?;
+    if !scanned.comments.is_empty() {
         return Err(ReadStop::Refused(NOT_BUILT));
     }
-    form_program(alloc, text, &tokens)
+    form_program(alloc, text, &scanned.tokens)
 }
 
 fn rewrite(alloc: Global, program: Program) -> Result<(Program, Counts), ReadStop>
