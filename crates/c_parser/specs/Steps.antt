@@ -1,7 +1,9 @@
 -- What the functions of the code ensure: what they leave is what the token does, unless memory runs out.
-use Rattle.std.specs.Prelude.{◌≡◌, ℕ, Option, Some, None, Result, Ok, Err}
+use Rattle.std.specs.Prelude.{◌≡◌, ℕ, ◌∷◌, Option, Some, None, Result, Ok, Err}
 use Rattle.c_types.specs.declared.refusal.Memory.{Memory}
 use Rattle.c_grammar.specs.declared.class.Class.{Class}
+use Rattle.c_parser.specs.declared.frame.Found.{Found}
+use Rattle.c_parser.specs.declared.frame.Frame.{Frame}
 use Rattle.c_parser.specs.declared.given.Given.{Given}
 use Rattle.c_parser.specs.declared.given.Given.TheVariants as g
 use Rattle.c_parser.specs.declared.load.Load.{Load}
@@ -19,3 +21,7 @@ Reduces next old t at (Ok (g.Taken l)) new = next ≡ Takes l new
 Reduces next old t at (Ok g.Refused) new = next ≡ Fails
 Reduces next old t at (Ok (g.Passed v)) new = (next ≡ give old v t at) × (new ≡ old)
 Reduces next old t at (Err e) new = Unit {0}
+
+-- What a frame does whatever the token is, and whatever frames stand below, which stay as they are.
+abbrev pub ReducesAlone : Frame → Found → ℕ → Result Given Memory → Type 0
+ReducesAlone frame v at result = (z : Frames) (t : Class) → Reduces (give (frame ∷ z) v t at) z t at result z

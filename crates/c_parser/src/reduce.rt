@@ -2,7 +2,7 @@
 
 ghost use Rattle.std.specs.Prelude.{◌≡◌, ◌<◌, [], ◌∷◌, IfOk};
 ghost use Rattle.c_parser.specs.Machine as spec;
-ghost use Rattle.c_parser.specs.Steps.{Reduces};
+ghost use Rattle.c_parser.specs.Steps.{Reduces, ReducesAlone};
 
 use crate::build::{
     commas, four, leaf, lift, more, node, one, postfix, solid, solid_assignment, solid_binary,
@@ -47,6 +47,12 @@ fn post(
     }
 }
 
+fn operand(alloc: Global, first: u32, found: Found, at: u32) -> Result<Given, Memory>
+    ensures { ReducesAlone (Frame.Operand first) found at result }
+{
+    Ok(Given::Passed(lift(alloc, Production::Binary, first, at, found)?))
+}
+
 fn join(
     alloc: Global,
     stack: &mut Stack<Frame>,
@@ -76,33 +82,21 @@ fn join(
 
 fn prefix(
     alloc: Global,
-    stack: &mut Stack<Frame>,
     first: u32,
     mark: Syntax,
     next: u32,
     found: Found,
-    class: Class,
     at: u32,
 ) -> Result<Given, Memory>
-    requires { at < 4294967295 }
-    ensures { Reduces (spec.give (Frame.Prefix first mark next ∷ stack.old) found class at) stack.old class at result stack.new }
+    ensures { ReducesAlone (Frame.Prefix first mark next) found at result }
 {
     let operand = solid_unary(alloc, next, at, found)?;
     let parts = two(alloc, mark, operand)?;
     Ok(Given::Passed(Found::Whole(node(Production::Unary, first, at, parts))))
 }
 
-fn stepped(
-    alloc: Global,
-    stack: &mut Stack<Frame>,
-    first: u32,
-    mark: Syntax,
-    found: Found,
-    class: Class,
-    at: u32,
-) -> Result<Given, Memory>
-    requires { at < 4294967295 }
-    ensures { Reduces (spec.give (Frame.Stepped first mark ∷ stack.old) found class at) stack.old class at result stack.new }
+fn stepped(alloc: Global, first: u32, mark: Syntax, found: Found, at: u32) -> Result<Given, Memory>
+    ensures { ReducesAlone (Frame.Stepped first mark) found at result }
 {
     match found {
         Found::Lone(v) => {
@@ -140,16 +134,13 @@ fn enclosed(
 
 fn cast(
     alloc: Global,
-    stack: &mut Stack<Frame>,
     first: u32,
     parts: List<Syntax>,
     next: u32,
     found: Found,
-    class: Class,
     at: u32,
 ) -> Result<Given, Memory>
-    requires { at < 4294967295 }
-    ensures { Reduces (spec.give (Frame.Cast first parts next ∷ stack.old) found class at) stack.old class at result stack.new }
+    ensures { ReducesAlone (Frame.Cast first parts next) found at result }
 {
     let operand = solid_unary(alloc, next, at, found)?;
     let parts = more(parts, operand)?;
@@ -210,16 +201,13 @@ fn choice_then(
 
 fn choice_else(
     alloc: Global,
-    stack: &mut Stack<Frame>,
     first: u32,
     parts: List<Syntax>,
     next: u32,
     found: Found,
-    class: Class,
     at: u32,
 ) -> Result<Given, Memory>
-    requires { at < 4294967295 }
-    ensures { Reduces (spec.give (Frame.ChoiceElse first parts next ∷ stack.old) found class at) stack.old class at result stack.new }
+    ensures { ReducesAlone (Frame.ChoiceElse first parts next) found at result }
 {
     let last = solid_conditional(alloc, next, at, found)?;
     let parts = more(parts, last)?;
@@ -247,28 +235,19 @@ fn assigns(
             want_assignment(stack, at + 1)?;
             Ok(Given::Taken(COUNTED))
         }
-        Found::Whole(v) => Ok(Given::Passed(lift(
-            alloc,
-            Production::Assignment,
-            first,
-            at,
-            Found::Whole(v),
-        )?)),
+        found => Ok(Given::Passed(lift(alloc, Production::Assignment, first, at, found)?)),
     }
 }
 
 fn assigns_to(
     alloc: Global,
-    stack: &mut Stack<Frame>,
     first: u32,
     parts: List<Syntax>,
     next: u32,
     found: Found,
-    class: Class,
     at: u32,
 ) -> Result<Given, Memory>
-    requires { at < 4294967295 }
-    ensures { Reduces (spec.give (Frame.AssignsTo first parts next ∷ stack.old) found class at) stack.old class at result stack.new }
+    ensures { ReducesAlone (Frame.AssignsTo first parts next) found at result }
 {
     let last = solid_assignment(alloc, next, at, found)?;
     let parts = more(parts, last)?;
@@ -349,16 +328,8 @@ fn bracketed(
     Ok(Given::Taken(UNCOUNTED))
 }
 
-fn argument_seen(
-    alloc: Global,
-    stack: &mut Stack<Frame>,
-    first: u32,
-    found: Found,
-    class: Class,
-    at: u32,
-) -> Result<Given, Memory>
-    requires { at < 4294967295 }
-    ensures { Reduces (spec.give (Frame.ArgumentSeen first ∷ stack.old) found class at) stack.old class at result stack.new }
+fn argument_seen(alloc: Global, first: u32, found: Found, at: u32) -> Result<Given, Memory>
+    ensures { ReducesAlone (Frame.ArgumentSeen first) found at result }
 {
     let inner = solid_assignment(alloc, first, at, found)?;
     let parts = one(alloc, inner)?;
@@ -396,7 +367,7 @@ fn arguments(
     }
 }
 
-fn cast_type(
+fn cast_end(
     alloc: Global,
     stack: &mut Stack<Frame>,
     first: u32,
@@ -417,17 +388,8 @@ fn cast_type(
     }
 }
 
-fn whole(
-    alloc: Global,
-    stack: &mut Stack<Frame>,
-    kind: Full,
-    start: u32,
-    found: Found,
-    class: Class,
-    at: u32,
-) -> Result<Given, Memory>
-    requires { at < 4294967295 }
-    ensures { Reduces (spec.give (Frame.Whole kind start ∷ stack.old) found class at) stack.old class at result stack.new }
+fn whole(alloc: Global, kind: Full, start: u32, found: Found, at: u32) -> Result<Given, Memory>
+    ensures { ReducesAlone (Frame.Whole kind start) found at result }
 {
     Ok(Given::Passed(Found::Whole(solid(alloc, kind, start, at, found)?)))
 }
@@ -514,19 +476,11 @@ pub fn reduce(
 {
     match frame {
         Frame::Post(first) => post(alloc, stack, first, found, class, at),
-        Frame::Prefix(first, mark, next) => {
-            prefix(alloc, stack, first, mark, next, found, class, at)
-        }
-        Frame::Stepped(first, mark) => stepped(alloc, stack, first, mark, found, class, at),
+        Frame::Prefix(first, mark, next) => prefix(alloc, first, mark, next, found, at),
+        Frame::Stepped(first, mark) => stepped(alloc, first, mark, found, at),
         Frame::Enclosed(first, bracket) => enclosed(alloc, stack, first, bracket, found, class, at),
-        Frame::Cast(first, parts, next) => cast(alloc, stack, first, parts, next, found, class, at),
-        Frame::Operand(first) => Ok(Given::Passed(lift(
-            alloc,
-            Production::Binary,
-            first,
-            at,
-            found,
-        )?)),
+        Frame::Cast(first, parts, next) => cast(alloc, first, parts, next, found, at),
+        Frame::Operand(first) => operand(alloc, first, found, at),
         Frame::Join(first, left, mark, next, bound) => join(
             alloc, stack, first, left, mark, next, bound, found, class, at,
         ),
@@ -534,13 +488,9 @@ pub fn reduce(
         Frame::ChoiceThen(first, test, question, next) => choice_then(
             alloc, stack, first, test, question, next, found, class, at,
         ),
-        Frame::ChoiceElse(first, parts, next) => {
-            choice_else(alloc, stack, first, parts, next, found, class, at)
-        }
+        Frame::ChoiceElse(first, parts, next) => choice_else(alloc, first, parts, next, found, at),
         Frame::Assigns(first) => assigns(alloc, stack, first, found, class, at),
-        Frame::AssignsTo(first, parts, next) => {
-            assigns_to(alloc, stack, first, parts, next, found, class, at)
-        }
+        Frame::AssignsTo(first, parts, next) => assigns_to(alloc, first, parts, next, found, at),
         Frame::Commas(first, start, parts) => {
             after_commas(alloc, stack, first, start, parts, found, class, at)
         }
@@ -550,30 +500,16 @@ pub fn reduce(
         Frame::Bracketed(first, bracket, next) => {
             bracketed(alloc, stack, first, bracket, next, found, class, at)
         }
-        Frame::ArgumentSeen(first) => argument_seen(alloc, stack, first, found, class, at),
+        Frame::ArgumentSeen(first) => argument_seen(alloc, first, found, at),
         Frame::Arguments(first, parts) => arguments(alloc, stack, first, parts, found, class, at),
-        Frame::CastType(first, bracket) => {
-            cast_type(alloc, stack, first, bracket, found, class, at)
-        }
-        Frame::Whole(kind, start) => whole(alloc, stack, kind, start, found, class, at),
+        Frame::CastType(first, bracket) => cast_end(alloc, stack, first, bracket, found, class, at),
+        Frame::Whole(kind, start) => whole(alloc, kind, start, found, at),
         Frame::Rest(form) => rest_of_node(alloc, stack, form, found, class, at),
         Frame::TopType(first, parts, start) => {
             top_type(alloc, stack, first, parts, start, found, class, at)
         }
         Frame::Tops(parts) => tops(alloc, stack, parts, found, class, at),
-        Frame::WantUnary
-        | Frame::WantTarget
-        | Frame::WantArgument
-        | Frame::Opened(..)
-        | Frame::VoidSeen(..)
-        | Frame::Named(..)
-        | Frame::TargetNamed(..)
-        | Frame::Called(..)
-        | Frame::Texts(..)
-        | Frame::Done(_)
-        | Frame::LabelOrName(..)
-        | Frame::External(..)
-        | Frame::TopName(..)
-        | Frame::Accepted(_) => Ok(Given::Refused),
+        // The others await no value.
+        _ => Ok(Given::Refused),
     }
 }

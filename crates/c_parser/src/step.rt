@@ -272,26 +272,7 @@ pub fn step(
             alloc, stack, first, parts, start, kind, name, mark, class, at,
         ),
         Frame::Tops(parts) => at_top(alloc, stack, parts, class, at),
-        Frame::Post(_)
-        | Frame::Prefix(..)
-        | Frame::Stepped(..)
-        | Frame::Enclosed(..)
-        | Frame::CastType(..)
-        | Frame::Cast(..)
-        | Frame::Operand(_)
-        | Frame::Join(..)
-        | Frame::Choice(_)
-        | Frame::ChoiceThen(..)
-        | Frame::ChoiceElse(..)
-        | Frame::Assigns(_)
-        | Frame::AssignsTo(..)
-        | Frame::Commas(..)
-        | Frame::Indexed(..)
-        | Frame::Bracketed(..)
-        | Frame::ArgumentSeen(_)
-        | Frame::Arguments(..)
-        | Frame::Whole(..)
-        | Frame::TopType(..)
-        | Frame::Accepted(_) => Ok(None),
+        // The others await a value first, or nothing more.
+        _ => Ok(None),
     }
 }
