@@ -53,33 +53,25 @@ fn copy_node(alloc: Global, node: &Node) -> Result<Node, Memory>
         Node::Read(place) => Ok(Node::Read(copy_place(alloc, place)?)),
         Node::Unary(op, a) => Ok(Node::Unary(*op, copy_boxed(alloc, a)?)),
         Node::Cast(a) => Ok(Node::Cast(copy_boxed(alloc, a)?)),
-        Node::Binary(op, a, b) => {
-            let a = copy_boxed(alloc, a)?;
-            let b = copy_boxed(alloc, b)?;
-            Ok(Node::Binary(*op, a, b))
-        }
+        Node::Binary(op, a, b) => Ok(Node::Binary(
+            *op,
+            copy_boxed(alloc, a)?,
+            copy_boxed(alloc, b)?,
+        )),
         Node::Conditional(a, b, c) => {
             let a = copy_boxed(alloc, a)?;
             let b = copy_boxed(alloc, b)?;
             let c = copy_boxed(alloc, c)?;
             Ok(Node::Conditional(a, b, c))
         }
-        Node::Assign(place, a) => {
-            let place = copy_place(alloc, place)?;
-            let a = copy_boxed(alloc, a)?;
-            Ok(Node::Assign(place, a))
-        }
+        Node::Assign(to, a) => Ok(Node::Assign(copy_place(alloc, to)?, copy_boxed(alloc, a)?)),
         Node::Update(op, place, a) => {
             let place = copy_place(alloc, place)?;
             let a = copy_boxed(alloc, a)?;
             Ok(Node::Update(*op, place, a))
         }
         Node::Count(place, up, after) => Ok(Node::Count(copy_place(alloc, place)?, *up, *after)),
-        Node::Comma(a, b) => {
-            let a = copy_boxed(alloc, a)?;
-            let b = copy_boxed(alloc, b)?;
-            Ok(Node::Comma(a, b))
-        }
+        Node::Comma(a, b) => Ok(Node::Comma(copy_boxed(alloc, a)?, copy_boxed(alloc, b)?)),
         Node::Call(name, args) => {
             let name = name.copy(alloc)?;
             let args = copy_expressions(alloc, args.as_slice())?;
