@@ -11,3 +11,4 @@ pub mod RuleChanges
 pub mod KeptLemmas
 pub mod ExitsKept
 pub mod WellMoved
+pub mod NumbersBelow

@@ -1,6 +1,6 @@
 -- Each rule keeps a body well made.
-use Rattle.std.proofs.Common.{◌≡◌, ◌≢◌, ℕ, zero, suc, ◌≤◌, ◌<◌, ℤ, pos, Bool, true, false, cond, List, [], ◌∷◌, length, map, Option, Some, None, option_map, ◌⊎◌, inl, inr, IsSome, refl, sym, ap, subst, ◌∙◌, arith}
-use Rattle.std.specs.Prelude.{IfSome, All, AllPairs, slice_index_or}
+use Rattle.std.proofs.Common.{◌≡◌, ◌≢◌, ℕ, ◌≤◌, ◌<◌, ℤ, pos, Bool, true, false, cond, List, [], ◌∷◌, length, map, Option, Some, None, option_map, IsSome, refl, sym, ap, subst, ◌∙◌, arith}
+use Rattle.std.specs.Prelude.{IfSome, All, AllPairs}
 use Rattle.std.specs.Option.{IsSomeAnd}
 use Rattle.std.proofs.lemmas.List.{length-map}
 use Rattle.std.proofs.lemmas.Int.{ints}
@@ -22,6 +22,7 @@ use Rattle.c_tree.specs.Moves.{Moved, guarded, later_guarded, SectionsLeft, left
 use Rattle.c_tree.specs.WellMade.{IsConverted, HasSelectorKind, HasEntries, HasCases, HasPicks, IsPlainFor, HasNoMadeElse, IsWellMade}
 use Rattle.c_tree.proofs.KeptLemmas.{total-join, IsKept, changed_kept}
 use Rattle.c_tree.proofs.ExitsKept.{changed_exits}
+use Rattle.c_tree.proofs.NumbersBelow.{count_below}
 
 -- the Lands stay
 
@@ -204,46 +205,9 @@ tests_kept = record {
   picks = λ m k n s c p q h. tt;
 }
 
--- a list that has n numbers has n items
-
-abbrev In : {A : Type 0} → A → List A → Type 0
-In x [] = ⊥
-In x (y ∷ ys) = (x ≡ y) ⊎ In x ys
-
-in_list : {A : Type 0} (xs : List A) (x : A) (k : ℕ) → k < length xs → slice_index_or xs k x ≡ x → In x xs
-in_list [] x k h e = absurd (omega arith)
-in_list (y ∷ ys) x zero h e = inl (sym e)
-in_list (y ∷ ys) x (suc k) h e = inr (in_list ys x k (omega arith) e)
-
-record Without {A : Type 0} (x : A) (xs : List A) : Type 0 where
-  rest : List A
-  shorter : length xs ≡ suc (length rest)
-  kept : (y : A) → (y ≢ x) → In y xs → In y rest
-
-without : {A : Type 0} (x : A) (xs : List A) → In x xs → Without x xs
-without x [] h = absurd h
-without x (y ∷ ys) h = elim h [
-  | inl e ↦ record { rest = ys; shorter = refl; kept = λ z d i. elim i [ inl f ↦ absurd (d (f ∙ sym e)) | inr r ↦ r ] }
-  | inr r ↦
-      let w = without x ys r in
-      record { rest = y ∷ w.rest; shorter = ap suc w.shorter; kept = λ z d i. elim i [ inl f ↦ inl f | inr q ↦ inr (w.kept z d q) ] }
-]
-
-numbers_differ : (m n : ℕ) → m < n → Some (pos m) ≢ Some (pos n)
-numbers_differ m n h e = let f : m ≡ n = cc in omega arith
-
-count_below : (n : ℕ) (xs : List (Option ℤ)) → ((m : ℕ) → m < n → In (Some (pos m)) xs) → n ≤ length xs
-count_below zero xs h = omega arith
-count_below (suc n) xs h =
-    let w = without (Some (pos n)) xs (h n (omega arith)) in
-    let r = count_below n w.rest (λ m l. w.kept (Some (pos m)) (numbers_differ m n l) (h m (omega arith))) in
-    let s = w.shorter in
-    omega arith
-
 free_below : (k : IntKind) (c : Sections) (n : ℤ) (f : IsFree k c n) → f.count ≤ length (all_cases c)
 free_below k c n f =
-    let h = count_below f.count (case_numbers k c) (λ m l. let i = f.least m l in in_list (case_numbers k c) (Some (pos m)) i.0 i.1 i.2) in
-    subst (λ z. f.count ≤ z) (length-map (all_cases c) (case_number k)) h
+    subst (λ z. f.count ≤ z) (length-map (all_cases c) (case_number k)) (count_below f.count (case_numbers k c) f.least)
 
 -- the number of a Pick is one of the promoted kind
 
