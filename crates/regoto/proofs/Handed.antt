@@ -10,7 +10,7 @@ use Rattle.move_driver.specs.Text.{Output, restructured_text}
 use Rattle.move_driver.proofs.Texts.{accepted, refused, refused_other}
 use Rattle.regoto.specs.declared.status.Status.{Status}
 use Rattle.regoto.specs.declared.status.Status.TheVariants as status
-use Rattle.regoto.specs.Restructure.{HandsOver, Lacks, RefusedFor, Restructures, Completes, restructuring, too_long}
+use Rattle.regoto.specs.Restructure.{HandsOver, Lacks, IsTooLongOrRefused, Restructures, Completes, restructuring, too_long}
 
 some_and : {X : Type 0} (o : Option X) (P : X → Type 0) → IsSomeAnd o P → (x : X) × (o ≡ Some x) × P x
 some_and None P h = elim h [ ]
@@ -52,7 +52,7 @@ first_form_of text output e = elim (chosen (nat_lt 1048576 (length text)) (Err t
   | inr whole ↦ accepted text output whole.1
 ]
 
-refused_for : (refusal : Refusal) (text : List ℕ) → restructuring text ≡ Err refusal → RefusedFor refusal text
+refused_for : (refusal : Refusal) (text : List ℕ) → restructuring text ≡ Err refusal → IsTooLongOrRefused refusal text
 refused_for refusal text e = elim (chosen (nat_lt 1048576 (length text)) (Err too_long) (restructured_text text) (Err refusal) e) [
   | inl long ↦
       let same : refusal ≡ too_long = let both = long.1 in cc in
@@ -67,8 +67,8 @@ handed_on (Some files) from P Q f h = (h.0, h.1, f h.0 h.2)
 pub first_form_handed : (held : Option Files) (from : List ℕ) (output : Output) → HandsOver held from (λ text. restructuring text ≡ Ok output) → HandsOver held from IsFirstForm
 first_form_handed held from output h = handed_on held from (λ text. restructuring text ≡ Ok output) IsFirstForm (λ text e. first_form_of text output e) h
 
-pub reason_handed : (held : Option Files) (from : List ℕ) (refusal : Refusal) → HandsOver held from (λ text. restructuring text ≡ Err refusal) → HandsOver held from (RefusedFor refusal)
-reason_handed held from refusal h = handed_on held from (λ text. restructuring text ≡ Err refusal) (RefusedFor refusal) (λ text e. refused_for refusal text e) h
+pub reason_handed : (held : Option Files) (from : List ℕ) (refusal : Refusal) → HandsOver held from (λ text. restructuring text ≡ Err refusal) → HandsOver held from (IsTooLongOrRefused refusal)
+reason_handed held from refusal h = handed_on held from (λ text. restructuring text ≡ Err refusal) (IsTooLongOrRefused refusal) (λ text e. refused_for refusal text e) h
 
 taken_not_refused : (refusal : Refusal) (text : List ℕ) → length text ≤ 1048576 → IsFirstForm text → restructuring text ≡ Err refusal → ⊥
 taken_not_refused refusal text short first e = elim (chosen (nat_lt 1048576 (length text)) (Err too_long) (restructured_text text) (Err refusal) e) [

@@ -39,13 +39,13 @@ pub record IsDone (said : List ℕ → Type 0) (from to : List ℕ) (before afte
   pub line : said (counts_line output.counts)
 
 -- why a text is refused: it has more than 1,048,576 bytes, or else by its first fault, or since its form isn't built
-abbrev pub RefusedFor : Refusal → List ℕ → Type 0
-RefusedFor refusal text = ((1048576 < length text) × (refusal ≡ too_long)) ⊎ ((length text ≤ 1048576) × IsRefusedFor text refusal)
+abbrev pub IsTooLongOrRefused : Refusal → List ℕ → Type 0
+IsTooLongOrRefused refusal text = ((1048576 < length text) × (refusal ≡ too_long)) ⊎ ((length text ≤ 1048576) × IsRefusedFor text refusal)
 
 -- the text is outside the subset, for this reason and at this place, and no file changed
 pub record IsRefused (said : List ℕ → Type 0) (from : List ℕ) (before after : Option Files) (refusal : Refusal) : Type 0 where
   pub text : HandsOver before from (λ text. restructuring text ≡ Err refusal)
-  pub reason : HandsOver before from (RefusedFor refusal)
+  pub reason : HandsOver before from (IsTooLongOrRefused refusal)
   pub kept : after ≡ before
   pub line : said (refusal_line from refusal)
 
