@@ -12,6 +12,3 @@ pub use items::copy_items;
 pub use name_set::NameSet;
 pub use program_names::{add_names, add_slots, file_names, names};
 pub use tops::{copy_function, copy_slot, copy_slots, copy_top};
-
-#[cfg(test)]
-mod tests;

@@ -12,8 +12,6 @@ mod place;
 mod read;
 mod state;
 mod step;
-#[cfg(test)]
-mod tests;
 mod token;
 mod word;
 

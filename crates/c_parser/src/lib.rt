@@ -13,8 +13,6 @@ mod reduce;
 mod resume;
 mod statements;
 mod step;
-#[cfg(test)]
-mod tests;
 mod types;
 mod want;
 mod whole;

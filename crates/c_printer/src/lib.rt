@@ -15,10 +15,3 @@ mod whole;
 mod writer;
 
 pub use whole::{print, print_to};
-
-#[cfg(test)]
-mod listings;
-#[cfg(test)]
-mod postfix;
-#[cfg(test)]
-mod tests;

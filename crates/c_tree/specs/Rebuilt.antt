@@ -1,5 +1,5 @@
 -- An item put together again from what stands in the place of the items of its lists.
-use Rattle.std.specs.Prelude.{List, ◌∷◌, flat_map}
+use Rattle.std.specs.Prelude.{List, flat_map}
 use Rattle.c_tree.specs.declared.tree.Item as I
 use Rattle.c_tree.specs.declared.tree.Item.{Item, Item-F}
 use Rattle.c_tree.specs.declared.tree.Item.TheOpen.{Section-F, Evaluate, Return, If, While, Do, For, Switch, Block, Local, Break, Continue, Goto, Mark, Arm, Leap, Land, Arrival, Note}

@@ -9,6 +9,3 @@ pub use tree::{
     BinaryOp, Branch, EnumItem, Expression, Function, GlobalVariable, Home, Item, Node, Path,
     Place, Program, Section, Selector, Slot, Step, Test, Top, UnaryOp,
 };
-
-#[cfg(test)]
-mod tests;

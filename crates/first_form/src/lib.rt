@@ -13,6 +13,3 @@ mod words;
 
 pub use stop::ReadStop;
 pub use whole::read;
-
-#[cfg(test)]
-mod tests;

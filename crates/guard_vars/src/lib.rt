@@ -10,6 +10,3 @@ mod plain_form;
 pub use conversion::convert;
 pub use names::{fresh, guard_names};
 pub use plain_form::plain;
-
-#[cfg(test)]
-mod tests;

@@ -12,6 +12,3 @@ pub use first::first_leap;
 pub use marks::{first_land, has_land, holds, is_land, label_at, land_after};
 pub use places::{Rule, level, offset, path_into, relation};
 pub use search::place_of;
-
-#[cfg(test)]
-mod tests;

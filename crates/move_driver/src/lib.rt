@@ -10,6 +10,3 @@ mod text;
 pub use counts::{Counts, DriverStop};
 pub use program::restructure_program;
 pub use text::{Written, restructure_text};
-
-#[cfg(test)]
-mod tests;

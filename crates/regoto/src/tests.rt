@@ -100,52 +100,79 @@ fn restructures_in_place(rt: HostRuntime) -> Result<(), Fail> {
     Ok(())
 }
 
+/// A command that doesn't do its job: its words, the text of `a.c`, the calls of the shelf that fail, the
+/// exit status and the line on the standard error.
+struct Undone {
+    words: &'static [&'static str],
+    source: &'static str,
+    failing: &'static [u64],
+    code: u8,
+    line: &'static str,
+}
+
+static UNDONE: [Undone; 7] = [
+    Undone {
+        words: &["restructure", "a.c", "b.c"],
+        source: "int main(void) { int x; x = 1 * 2; return x; }",
+        failing: &[],
+        code: 1,
+        line: "a.c:1:1: error 99: form not built yet\n",
+    },
+    Undone {
+        words: &["restructure", "a.c", "b.c"],
+        source: "int main(void) {\n    L: goto L;",
+        failing: &[],
+        code: 1,
+        line: "a.c:2:15: error 10: unexpected token\n",
+    },
+    Undone {
+        words: &["restructure", "c.c", "b.c"],
+        source: SOURCE,
+        failing: &[],
+        code: 8,
+        line: "regoto: no file c.c\n",
+    },
+    Undone {
+        words: &["restructure", "a.c", "b.c", "--report", "b.c"],
+        source: SOURCE,
+        failing: &[],
+        code: 2,
+        line: "regoto: unknown use, try help\n",
+    },
+    Undone {
+        words: &["restructure", "a.c", "-b"],
+        source: SOURCE,
+        failing: &[],
+        code: 2,
+        line: "regoto: unknown use, try help\n",
+    },
+    Undone {
+        words: &["restructure", "a.c", "b.c"],
+        source: SOURCE,
+        failing: &[0],
+        code: 4,
+        line: "regoto: read failed\n",
+    },
+    Undone {
+        words: &["restructure", "a.c", "b.c"],
+        source: SOURCE,
+        failing: &[1],
+        code: 5,
+        line: "regoto: write failed\n",
+    },
+];
+
 #[test]
 fn tells_what_is_wrong(rt: HostRuntime) -> Result<(), Fail> {
-    let product = "int main(void) { int x; x = 1 * 2; return x; }";
-    let to_b = ["restructure", "a.c", "b.c"].as_slice();
-    let no_file = ["restructure", "c.c", "b.c"].as_slice();
-    let report = ["restructure", "a.c", "b.c", "--report", "b.c"].as_slice();
-    let option = ["restructure", "a.c", "-b"].as_slice();
-    let cases = [
-        (
-            to_b,
-            product,
-            [].as_slice(),
-            1,
-            "a.c:1:1: error 99: form not built yet\n",
-        ),
-        (
-            to_b,
-            "int main(void) {\n    L: goto L;",
-            [].as_slice(),
-            1,
-            "a.c:2:15: error 10: unexpected token\n",
-        ),
-        (no_file, SOURCE, [].as_slice(), 8, "regoto: no file c.c\n"),
-        (
-            report,
-            SOURCE,
-            [].as_slice(),
-            2,
-            "regoto: unknown use, try help\n",
-        ),
-        (
-            option,
-            SOURCE,
-            [].as_slice(),
-            2,
-            "regoto: unknown use, try help\n",
-        ),
-        (to_b, SOURCE, [0].as_slice(), 4, "regoto: read failed\n"),
-        (to_b, SOURCE, [1].as_slice(), 5, "regoto: write failed\n"),
-    ];
-    for (words, source, failing, code, line) in cases {
-        let ran = run(rt.alloc(), words, source, failing, &[])?;
-        assert_eq!(rt; ran.status.code(), code, "{line}");
-        assert_eq!(rt; ran.err.bytes(), line.as_bytes());
+    for case in &UNDONE {
+        let ran = run(rt.alloc(), case.words, case.source, case.failing, &[])?;
+        assert_eq!(rt; ran.status.code(), case.code, "{}", case.line);
+        assert_eq!(rt; ran.err.bytes(), case.line.as_bytes());
         assert!(rt; ran.shelf.held("b.c").is_none());
-        assert_eq!(rt; ran.shelf.held("a.c").ok_or("kept")?, source.as_bytes());
+        assert_eq!(rt;
+            ran.shelf.held("a.c").ok_or("kept")?,
+            case.source.as_bytes()
+        );
         assert_eq!(rt; ran.shelf.held("r.txt").ok_or("kept")?, b"kept".as_slice());
     }
     Ok(())

@@ -1,6 +1,6 @@
 //! Tokens, comments and places that an independent model of the lexer gave.
-use super::*;
-use TokenKind::*;
+use c_lexer::TokenKind::*;
+use c_lexer::*;
 use c_types::{IntKind, ReadStop, Refusal};
 use std::test::Fail;
 

@@ -1,7 +1,7 @@
-use super::*;
 use c_lexer::tokens;
 use c_tree::{BinaryOp, Expression, Function, Home, Item, Node, Place, Program, Test, Top};
 use c_types::{ArithOp, IntKind};
+use first_form::*;
 use std::alloc::{AllocError, Global};
 use std::test::*;
 

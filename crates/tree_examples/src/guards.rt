@@ -1,6 +1,6 @@
-use super::*;
 use c_tree::{Function, Slot};
 use c_types::{IntKind, List, Memory, Name};
+use guard_vars::guard_names;
 use std::alloc::Global;
 use std::test::Fail;
 

@@ -1,7 +1,7 @@
 //! Whole programs and the texts that they print as.
 
 use crate::postfix::program_of;
-use crate::print;
+use c_printer::print;
 use std::test::Fail;
 
 /// The words of a program (postfix.rt), and its text.

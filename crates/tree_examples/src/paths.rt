@@ -1,4 +1,4 @@
-use crate::{
+use c_tree::{
     Branch, Expression, Item, Node, Path, Section, Selector, Step, Test, find_list, fits, list_at,
     replace_at,
 };

@@ -1,4 +1,4 @@
-use super::*;
+use c_copies::*;
 use c_tree::{Expression, Function, GlobalVariable, Item, Node, Program, Slot, Top};
 use c_types::{IntKind, List, Memory, Name};
 use std::alloc::Global;

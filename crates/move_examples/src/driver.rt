@@ -1,6 +1,6 @@
-use super::*;
 use c_tree::{Expression, Function, Item, Node, Program, Test, Top};
 use c_types::{IntKind, List, Memory, Name};
+use move_driver::*;
 use std::alloc::Global;
 use std::test::Fail;
 

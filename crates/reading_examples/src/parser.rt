@@ -1,8 +1,8 @@
 //! Places of refusals, which an independent model of the parser gave too, and shapes of syntax, worked out
 //! by hand from the grammar.
-use super::*;
 use c_grammar::{Production, Syntax};
 use c_lexer::tokens;
+use c_parser::parse;
 use c_types::{ReadStop, Refusal};
 use std::alloc::Global;
 use std::test::Fail;

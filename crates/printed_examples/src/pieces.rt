@@ -1,6 +1,6 @@
 ghost use Rattle.rg_ports.specs.Written.{Untold};
 
-use crate::{print, print_to};
+use c_printer::{print, print_to};
 use c_tree::{
     BinaryOp, Expression, Function, GlobalVariable, Home, Item, Node, Place, Program, Section,
     Selector, Slot, Top, UnaryOp,

@@ -1,6 +1,6 @@
-use super::*;
 use c_tree::{Branch, Path, Step};
 use c_types::{List, Memory};
+use label_offsets::{Rule, level, relation};
 use std::alloc::Global;
 use std::test::Fail;
 
