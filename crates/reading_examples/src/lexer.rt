@@ -1,20 +1,12 @@
 //! Tokens, comments and places that an independent model of the lexer gave.
+use crate::refusals::refused;
 use c_lexer::TokenKind::*;
 use c_lexer::*;
-use c_types::{IntKind, ReadStop, Refusal};
+use c_types::{IntKind, ReadStop};
 use std::test::Fail;
 
 fn token(kind: TokenKind, start: u64, end: u64) -> Token {
     Token { kind, start, end }
-}
-
-fn refused(reason: u32, line: u64, column: u64, at: u64) -> ReadStop {
-    ReadStop::Refused(Refusal {
-        reason,
-        line,
-        column,
-        at,
-    })
 }
 
 #[test]
@@ -28,6 +20,16 @@ fn reads_words_numbers_and_marks(rt: HostRuntime) -> Result<(), Fail> {
         token(Mark, 13, 14),
     ];
     assert_eq!(rt; found.as_slice(), want.as_slice());
+    Ok(())
+}
+
+#[test]
+fn scans_tokens_and_comments(rt: HostRuntime) -> Result<(), Fail> {
+    let found = scan(rt.alloc(), b"int a; /* x */ // y")?;
+    let tokens = [token(Keyword, 0, 3), token(Name, 4, 5), token(Mark, 5, 6)];
+    assert_eq!(rt; found.tokens.as_slice(), tokens.as_slice());
+    let comments = [Span { start: 7, end: 14 }, Span { start: 15, end: 19 }];
+    assert_eq!(rt; found.comments.as_slice(), comments.as_slice());
     Ok(())
 }
 

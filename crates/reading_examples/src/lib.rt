@@ -8,3 +8,5 @@ mod forms;
 mod lexer;
 #[cfg(test)]
 mod parser;
+#[cfg(test)]
+mod refusals;

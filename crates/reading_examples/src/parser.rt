@@ -1,20 +1,12 @@
 //! Places of refusals, which an independent model of the parser gave too, and shapes of syntax, worked out
 //! by hand from the grammar.
+use crate::refusals::refused;
 use c_grammar::{Production, Syntax};
 use c_lexer::tokens;
 use c_parser::parse;
-use c_types::{ReadStop, Refusal};
+use c_types::ReadStop;
 use std::alloc::Global;
 use std::test::Fail;
-
-fn refused(reason: u32, line: u64, column: u64, at: u64) -> ReadStop {
-    ReadStop::Refused(Refusal {
-        reason,
-        line,
-        column,
-        at,
-    })
-}
 
 fn syntax(alloc: Global, text: &[u8]) -> Result<Syntax, ReadStop> {
     let tokens = tokens(alloc, text)?;
