@@ -44,7 +44,7 @@ abbrev pub SelectorLabels : (ℕ → Type 0) → SelectorTree → Type 0
 SelectorLabels P (Selects e) = Unit {0}
 SelectorLabels P (Pick l k s) = P l × SelectorLabels P s
 
--- of each label that an item arms, leaps to or tests
+-- of each label that an item arms, leaps to, or has in a test; a label that a selector alone names doesn't count
 abbrev pub GuardLabels : (ℕ → Type 0) → Tree → Type 0
 GuardLabels P (Arm l e) = P l
 GuardLabels P (Leap l) = P l

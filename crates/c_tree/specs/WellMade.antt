@@ -64,7 +64,7 @@ HasNoMadeElse _ = Unit {0}
 pub record IsWellMade (body : Forest) : Type 0 where
   -- it has no Goto, Mark, Local, Block and Arrival
   pub converted : Everywhere IsConverted body
-  -- each label that an Arm, a Leap or a test names has one Land
+  -- each label that an Arm, a Leap or a test names has one Land; nothing is asked of one that a selector alone names
   pub landed : Everywhere (GuardLabels (λ l. lands l body ≡ 1)) body
   -- the source expression of each selector has a kind
   pub selectors : Everywhere HasSelectorKind body
