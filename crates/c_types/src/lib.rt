@@ -9,8 +9,6 @@ mod name;
 mod numbers;
 mod refusal;
 mod stack;
-#[cfg(test)]
-mod tests;
 mod trap;
 mod words;
 

@@ -12,6 +12,3 @@ pub use call::regoto;
 pub use files::MOST_BYTES;
 pub use status::Status;
 pub use words::{Job, command};
-
-#[cfg(test)]
-mod tests;

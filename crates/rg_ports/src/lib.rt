@@ -20,6 +20,3 @@ pub use mem_source::MemSource;
 pub use no_input::NoInput;
 pub use port::{Failed, ReadError, Shelf, Sink, Source, WriteError};
 pub use write::write_all;
-
-#[cfg(test)]
-mod tests;

@@ -1,5 +1,5 @@
-use super::*;
 use c_types::{Bytes, List, Memory, Name, Refusal};
+use regoto::*;
 use rg_ports::{MemShelf, MemSink, NoInput};
 use std::alloc::Global;
 use std::test::Fail;

@@ -5,10 +5,10 @@ ghost use Rattle.std.specs.Prelude.{IsFalse};
 ghost use Rattle.c_types.specs.Numbers as numbers;
 ghost use Rattle.c_types.specs.Numbers.{IsInRange};
 
-use super::*;
-use ArithOp::*;
-use IntKind::*;
-use Trap::*;
+use c_types::ArithOp::*;
+use c_types::IntKind::*;
+use c_types::Trap::*;
+use c_types::*;
 use std::test::Fail;
 
 static KINDS: [IntKind; 6] = [Char, UChar, Int, UInt, Long, ULong];

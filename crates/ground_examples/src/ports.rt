@@ -1,5 +1,5 @@
-use super::*;
 use c_types::{Bytes, List, Name};
+use rg_ports::*;
 use std::alloc::Global;
 use std::test::Fail;
 

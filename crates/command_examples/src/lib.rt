@@ -1,0 +1,6 @@
+//! The commands on worked examples. This crate holds tests alone, so that what they call is not proved
+//! twice for them.
+#![tactic(auto)]
+
+#[cfg(test)]
+mod restructure;

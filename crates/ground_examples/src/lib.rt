@@ -1,0 +1,8 @@
+//! Numbers and ports on worked examples. This crate holds tests alone, so that what they call is not
+//! proved twice for them.
+#![tactic(auto)]
+
+#[cfg(test)]
+mod numbers;
+#[cfg(test)]
+mod ports;
