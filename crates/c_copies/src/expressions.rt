@@ -36,7 +36,11 @@ fn copy_place(alloc: Global, place: &Place) -> Result<Place, Memory>
 {
     match place {
         Place::Var(home) => Ok(Place::Var(copy_home(alloc, home)?)),
-        Place::Cell(home, at) => Ok(Place::Cell(copy_home(alloc, home)?, copy_boxed(alloc, at)?)),
+        Place::Cell(home, at) => {
+            let at = copy_boxed(alloc, at)?;
+            let home = copy_home(alloc, home)?;
+            Ok(Place::Cell(home, at))
+        }
     }
 }
 
@@ -64,10 +68,14 @@ fn copy_node(alloc: Global, node: &Node) -> Result<Node, Memory>
             let c = copy_boxed(alloc, c)?;
             Ok(Node::Conditional(a, b, c))
         }
-        Node::Assign(to, a) => Ok(Node::Assign(copy_place(alloc, to)?, copy_boxed(alloc, a)?)),
-        Node::Update(op, place, a) => {
-            let place = copy_place(alloc, place)?;
+        Node::Assign(place, a) => {
             let a = copy_boxed(alloc, a)?;
+            let place = copy_place(alloc, place)?;
+            Ok(Node::Assign(place, a))
+        }
+        Node::Update(op, place, a) => {
+            let a = copy_boxed(alloc, a)?;
+            let place = copy_place(alloc, place)?;
             Ok(Node::Update(*op, place, a))
         }
         Node::Count(place, up, after) => Ok(Node::Count(copy_place(alloc, place)?, *up, *after)),

@@ -79,8 +79,9 @@ fn copy_section(alloc: Global, section: &Section) -> Result<Section, Memory>
     })
 }
 
+/// An equal item. Want of memory is the only failure.
 #[cycle(copy_items)]
-fn copy_item(alloc: Global, item: &Item) -> Result<Item, Memory>
+pub fn copy_item(alloc: Global, item: &Item) -> Result<Item, Memory>
     ensures { IfOk result (λ it. it ≡ item.now) }
 {
     match item {
@@ -122,28 +123,33 @@ fn copy_item(alloc: Global, item: &Item) -> Result<Item, Memory>
     }
 }
 
-fn make_if(alloc: Global, test: &Test, a: List<Item>, b: List<Item>) -> Result<Item, Memory>
+/// An `if` with a copy of the test and these lists. Want of memory is the only failure.
+pub fn make_if(alloc: Global, test: &Test, a: List<Item>, b: List<Item>) -> Result<Item, Memory>
     ensures { IfOk result (λ it. it ≡ Item.If test.now a b) }
 {
     let test = copy_test(alloc, test)?;
     Ok(Item::If(test, a, b))
 }
 
-fn make_while(alloc: Global, test: &Test, a: List<Item>) -> Result<Item, Memory>
+/// A `while` with a copy of the test and this body. Want of memory is the only failure.
+pub fn make_while(alloc: Global, test: &Test, a: List<Item>) -> Result<Item, Memory>
     ensures { IfOk result (λ it. it ≡ Item.While test.now a) }
 {
     let test = copy_test(alloc, test)?;
     Ok(Item::While(test, a))
 }
 
-fn make_do(alloc: Global, a: List<Item>, test: &Test) -> Result<Item, Memory>
+/// A `do` with this body and a copy of the test. Want of memory is the only failure.
+pub fn make_do(alloc: Global, a: List<Item>, test: &Test) -> Result<Item, Memory>
     ensures { IfOk result (λ it. it ≡ Item.Do a test.now) }
 {
     let test = copy_test(alloc, test)?;
     Ok(Item::Do(a, test))
 }
 
-fn make_for(
+/// A `for` with copies of the test and the third part, and these lists. Want of memory is the only
+/// failure.
+pub fn make_for(
     alloc: Global,
     first: List<Item>,
     test: &Option<Expression>,
@@ -153,11 +159,21 @@ fn make_for(
     ensures { IfOk result (λ it. it ≡ Item.For first test.now third.now a) }
 {
     let test = copy_option(alloc, test)?;
-    let third = copy_option(alloc, third)?;
-    Ok(Item::For(first, test, third, a))
+    match copy_option(alloc, third) {
+        Ok(third) => Ok(Item::For(first, test, third, a)),
+        Err(e) => {
+            drop(test);
+            Err(e)
+        }
+    }
 }
 
-fn make_switch(alloc: Global, selector: &Selector, sections: List<Section>) -> Result<Item, Memory>
+/// A `switch` with a copy of the selector and these sections. Want of memory is the only failure.
+pub fn make_switch(
+    alloc: Global,
+    selector: &Selector,
+    sections: List<Section>,
+) -> Result<Item, Memory>
     ensures { IfOk result (λ it. it ≡ Item.Switch selector.now sections) }
 {
     let selector = copy_selector(alloc, selector)?;

@@ -4,3 +4,4 @@ pub mod FreshFound
 pub mod LoopLemmas
 pub mod PlainLaw
 pub mod GotoFree
+pub mod ConversionLemmas

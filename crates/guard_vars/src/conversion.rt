@@ -1,107 +1,111 @@
-ghost use Rattle.std.specs.Prelude.{◌≡◌, IfOk, ◌++◌, ◌∷◌, [], map, true};
-ghost use Rattle.guard_vars.specs.Conversion.{converted, converted_list, converted_item, converted_section, items_of, source as the_source, lone_jump, conditional_jump as the_conditional_jump, is_goto_free};
+ghost use Rattle.std.specs.Prelude.{◌≡◌, IfOk, OnOk, OnErr, ◌++◌, ◌∷◌, [], map, option_map, true};
+ghost use Rattle.guard_vars.specs.Conversion.{converted, converted_list, converted_item, converted_section, items_of, jump, source, lone_jump, conditional_jump as the_conditional_jump, is_goto_free};
 ghost use Rattle.c_tree.specs.Jumps.{body_holds};
 
-use c_tree::{Expression, Function, Item, Section, Selector, Test};
+use c_copies::{
+    copy_expression, copy_expressions, copy_item, make_do, make_for, make_if, make_switch,
+    make_while,
+};
+use c_tree::{Expression, Function, Item, Section, Test};
 use c_types::{List, Memory};
 use std::alloc::Global;
+use std::mem;
 
 /// The conversion of a flat function (docs/REWRITING): `goto L` becomes `Arm L`, `Leap L`, an
 /// `if (c) goto L` without else becomes `Arm L c`, `Leap L`, and a label becomes a `Land`.
-/// All else stays, and items are moved. After `Memory` the function is given up.
+/// All else stays. The body is made anew beside the old one, so that after `Memory` the function is
+/// as it was.
 #[tactic(auto, using(crate::proofs::GotoFree::converted_list_free))]
-pub fn convert(alloc: Global, function: Function) -> Result<Function, Memory>
-    ensures value { IfOk result (λ it. it ≡ converted function) }
-    ensures goto_free { IfOk result (λ it. body_holds is_goto_free it.body ≡ true) }
+pub fn convert(alloc: Global, function: &mut Function) -> Result<(), Memory>
+    ensures ok { OnOk result (function.new ≡ converted function.old) }
+    ensures goto_free { OnOk result (body_holds is_goto_free function.new.body ≡ true) }
+    ensures err { OnErr result (function.new ≡ function.old) }
 {
-    let Function {
-        name,
-        result,
-        file_only,
-        params,
-        slots,
-        labels,
-        body,
-        flat,
-    } = function;
-    let body = match body {
-        Some(body) => Some(convert_list(alloc, body)?),
-        None => None,
-    };
-    Ok(Function {
-        name,
-        result,
-        file_only,
-        params,
-        slots,
-        labels,
-        body,
-        flat,
+    let body = convert_body(alloc, &function.body)?;
+    drop(mem::replace(&mut function.body, body));
+    Ok(())
+}
+
+fn convert_body(alloc: Global, body: &Option<List<Item>>) -> Result<Option<List<Item>>, Memory>
+    ensures { IfOk result (λ it. it ≡ option_map converted_list body.now) }
+{
+    match body {
+        Some(body) => Ok(Some(convert_list(alloc, body)?)),
+        None => Ok(None),
+    }
+}
+
+#[cycle(convert_list)]
+fn convert_list(alloc: Global, list: &List<Item>) -> Result<List<Item>, Memory>
+    ensures { IfOk result (λ it. it ≡ converted_list list.now) }
+{
+    convert_slice(alloc, list.as_slice())
+}
+
+#[cycle(convert_list)]
+fn convert_slice(alloc: Global, items: &[Item]) -> Result<List<Item>, Memory>
+    ensures { IfOk result (λ it. it ≡ converted_list items.now) }
+{
+    let mut out = List::new(alloc);
+    for item in items {
+        convert_item(alloc, item, &mut out)?;
+    }
+    Ok(out)
+}
+
+#[cycle(convert_list)]
+fn convert_sections(alloc: Global, sections: &[Section]) -> Result<List<Section>, Memory>
+    ensures { IfOk result (λ it. it ≡ map converted_section sections.now) }
+{
+    let mut out = List::new(alloc);
+    for section in sections {
+        out.push(convert_section(alloc, section)?)?;
+    }
+    Ok(out)
+}
+
+#[cycle(convert_list)]
+fn convert_section(alloc: Global, section: &Section) -> Result<Section, Memory>
+    ensures { IfOk result (λ it. it ≡ converted_section section.now) }
+{
+    let cases = copy_expressions(alloc, section.cases.as_slice())?;
+    let list = convert_list(alloc, &section.list)?;
+    Ok(Section {
+        cases,
+        default: section.default,
+        list,
+        ends: section.ends,
     })
 }
 
-#[cycle(convert)]
-fn convert_list(alloc: Global, list: List<Item>) -> Result<List<Item>, Memory>
-    ensures { IfOk result (λ it. it ≡ converted_list list) }
+fn add_jump(out: &mut List<Item>, label: u32, condition: Option<Expression>) -> Result<(), Memory>
+    ensures { OnOk result (out.new ≡ out.old ++ jump label condition) }
 {
-    let mut out = List::new(alloc);
-    for item in list.into_vec() {
-        out = convert_item(alloc, item, out)?;
-    }
-    Ok(out)
-}
-
-#[cycle(convert)]
-fn convert_sections(alloc: Global, sections: List<Section>) -> Result<List<Section>, Memory>
-    ensures { IfOk result (λ it. it ≡ map converted_section sections) }
-{
-    let mut out = List::new(alloc);
-    for section in sections.into_vec() {
-        let Section {
-            cases,
-            default,
-            list,
-            ends,
-        } = section;
-        let list = convert_list(alloc, list)?;
-        out.push(Section {
-            cases,
-            default,
-            list,
-            ends,
-        })?;
-    }
-    Ok(out)
-}
-
-fn with(out: List<Item>, item: Item) -> Result<List<Item>, Memory>
-    ensures { IfOk result (λ it. it ≡ out ++ item ∷ []) }
-{
-    let mut out = out;
-    out.push(item)?;
-    Ok(out)
-}
-
-fn with_jump(
-    out: List<Item>,
-    label: u32,
-    condition: Option<Expression>,
-) -> Result<List<Item>, Memory>
-    ensures { IfOk result (λ it. it ≡ out ++ Item.Arm label condition ∷ Item.Leap label ∷ []) }
-{
-    let mut out = out;
     out.push(Item::Arm(label, condition))?;
-    out.push(Item::Leap(label))?;
-    Ok(out)
+    out.push(Item::Leap(label))
 }
 
-fn source(test: Test) -> Option<Expression>
-    ensures { result ≡ the_source test }
+fn add_conditional_jump(
+    alloc: Global,
+    test: &Test,
+    label: u32,
+    out: &mut List<Item>,
+) -> Result<(), Memory>
+    ensures { OnOk result (out.new ≡ out.old ++ jump label (source test.now)) }
 {
     match test {
-        Test::Source(condition) => Some(condition),
-        _ => None,
+        Test::Source(condition) => {
+            let condition = copy_expression(alloc, condition)?;
+            add_jump(out, label, Some(condition))
+        }
+        _ => add_jump(out, label, None),
     }
+}
+
+fn add_land(out: &mut List<Item>, label: u32) -> Result<(), Memory>
+    ensures { OnOk result (out.new ≡ out.old ++ Item.Land label ∷ []) }
+{
+    out.push(Item::Land(label))
 }
 
 fn goto_label(item: &Item) -> Option<u32>
@@ -131,113 +135,51 @@ fn conditional_jump(test: &Test, a: &List<Item>, b: &List<Item>) -> Option<u32>
     }
 }
 
-#[cycle(convert)]
-fn convert_else(
-    alloc: Global,
-    b: List<Item>,
-    test: Test,
-    a: List<Item>,
-    out: List<Item>,
-) -> Result<List<Item>, Memory>
-    ensures { IfOk result (λ it. it ≡ out ++ Item.If test a (converted_list b) ∷ []) }
-{
-    let b = convert_list(alloc, b)?;
-    with(out, Item::If(test, a, b))
-}
-
-#[cycle(convert)]
-fn convert_while(
-    alloc: Global,
-    a: List<Item>,
-    test: Test,
-    out: List<Item>,
-) -> Result<List<Item>, Memory>
-    ensures { IfOk result (λ it. it ≡ out ++ Item.While test (converted_list a) ∷ []) }
-{
-    let a = convert_list(alloc, a)?;
-    with(out, Item::While(test, a))
-}
-
-#[cycle(convert)]
-fn convert_do(
-    alloc: Global,
-    a: List<Item>,
-    test: Test,
-    out: List<Item>,
-) -> Result<List<Item>, Memory>
-    ensures { IfOk result (λ it. it ≡ out ++ Item.Do (converted_list a) test ∷ []) }
-{
-    let a = convert_list(alloc, a)?;
-    with(out, Item::Do(a, test))
-}
-
-#[cycle(convert)]
-fn convert_for_body(
-    alloc: Global,
-    a: List<Item>,
-    first: List<Item>,
-    test: Option<Expression>,
-    third: Option<Expression>,
-    out: List<Item>,
-) -> Result<List<Item>, Memory>
-    ensures { IfOk result (λ it. it ≡ out ++ Item.For first test third (converted_list a) ∷ []) }
-{
-    let a = convert_list(alloc, a)?;
-    with(out, Item::For(first, test, third, a))
-}
-
-#[cycle(convert)]
-fn convert_switch(
-    alloc: Global,
-    sections: List<Section>,
-    selector: Selector,
-    out: List<Item>,
-) -> Result<List<Item>, Memory>
-    ensures { IfOk result (λ it. it ≡ out ++ Item.Switch selector (map converted_section sections) ∷ []) }
-{
-    let sections = convert_sections(alloc, sections)?;
-    with(out, Item::Switch(selector, sections))
-}
-
-#[cycle(convert)]
-fn convert_block(alloc: Global, a: List<Item>, out: List<Item>) -> Result<List<Item>, Memory>
-    ensures { IfOk result (λ it. it ≡ out ++ Item.Block (converted_list a) ∷ []) }
-{
-    let a = convert_list(alloc, a)?;
-    with(out, Item::Block(a))
-}
-
-#[cycle(convert)]
-fn convert_item(alloc: Global, item: Item, out: List<Item>) -> Result<List<Item>, Memory>
-    ensures { IfOk result (λ it. it ≡ out ++ items_of (converted_item item)) }
+#[cycle(convert_list)]
+fn convert_item(alloc: Global, item: &Item, out: &mut List<Item>) -> Result<(), Memory>
+    ensures { OnOk result (out.new ≡ out.old ++ items_of (converted_item item.now)) }
 {
     match item {
-        Item::Goto(label) => with_jump(out, label, None),
-        Item::Mark(label) => with(out, Item::Land(label)),
-        Item::If(test, a, b) => match conditional_jump(&test, &a, &b) {
-            Some(label) => with_jump(out, label, source(test)),
+        Item::Goto(label) => add_jump(out, *label, None),
+        Item::Mark(label) => add_land(out, *label),
+        Item::If(test, a, b) => match conditional_jump(test, a, b) {
+            Some(label) => add_conditional_jump(alloc, test, label, out),
             None => {
                 let a = convert_list(alloc, a)?;
-                convert_else(alloc, b, test, a, out)
+                let b = convert_list(alloc, b)?;
+                out.push(make_if(alloc, test, a, b)?)
             }
         },
-        Item::While(test, a) => convert_while(alloc, a, test, out),
-        Item::Do(a, test) => convert_do(alloc, a, test, out),
+        Item::While(test, a) => {
+            let a = convert_list(alloc, a)?;
+            out.push(make_while(alloc, test, a)?)
+        }
+        Item::Do(a, test) => {
+            let a = convert_list(alloc, a)?;
+            out.push(make_do(alloc, a, test)?)
+        }
         Item::For(first, test, third, a) => {
             let first = convert_list(alloc, first)?;
-            convert_for_body(alloc, a, first, test, third, out)
+            let a = convert_list(alloc, a)?;
+            out.push(make_for(alloc, first, test, third, a)?)
         }
-        Item::Switch(selector, sections) => convert_switch(alloc, sections, selector, out),
-        Item::Block(a) => convert_block(alloc, a, out),
-        Item::Evaluate(e) => with(out, Item::Evaluate(e)),
-        Item::Return(e) => with(out, Item::Return(e)),
-        Item::Local(slot, given) => with(out, Item::Local(slot, given)),
-        Item::Break => with(out, Item::Break),
-        Item::Continue => with(out, Item::Continue),
-        Item::Arm(label, e) => with(out, Item::Arm(label, e)),
-        Item::Leap(label) => with(out, Item::Leap(label)),
-        Item::Land(label) => with(out, Item::Land(label)),
-        Item::Arrival(e) => with(out, Item::Arrival(e)),
-        Item::Note(bytes) => with(out, Item::Note(bytes)),
+        Item::Switch(selector, sections) => {
+            let sections = convert_sections(alloc, sections.as_slice())?;
+            out.push(make_switch(alloc, selector, sections)?)
+        }
+        Item::Block(a) => {
+            let a = convert_list(alloc, a)?;
+            out.push(Item::Block(a))
+        }
+        Item::Evaluate(_) => out.push(copy_item(alloc, item)?),
+        Item::Return(_) => out.push(copy_item(alloc, item)?),
+        Item::Local(_, _) => out.push(copy_item(alloc, item)?),
+        Item::Break => out.push(Item::Break),
+        Item::Continue => out.push(Item::Continue),
+        Item::Arm(_, _) => out.push(copy_item(alloc, item)?),
+        Item::Leap(label) => out.push(Item::Leap(*label)),
+        Item::Land(label) => out.push(Item::Land(*label)),
+        Item::Arrival(_) => out.push(copy_item(alloc, item)?),
+        Item::Note(_) => out.push(copy_item(alloc, item)?),
     }
 }

@@ -1,4 +1,4 @@
-ghost use Rattle.std.specs.Prelude.{◌≡◌, ◌+◌, ◌≤ℤ◌, negsuc, IfOk};
+ghost use Rattle.std.specs.Prelude.{◌≡◌, ◌+◌, ◌≤ℤ◌, negsuc, pos, IfOk};
 ghost use Rattle.c_types.specs.Numbers.{least as the_least};
 ghost use Rattle.guard_vars.specs.Kinds.{promoted as the_promoted};
 ghost use Rattle.guard_vars.specs.Plain.{expression as the_expression, number as the_number, guard as the_guard, guard_off as the_guard_off, guard_set as the_guard_set, is_truth as the_is_truth, is_truth_mark as the_is_truth_mark, truth as the_truth, least_constant as the_least_constant, constant as the_constant, plain_test as the_plain_test, selector_kind as the_selector_kind, picked as the_picked, plain_selector as the_plain_selector, armed as the_armed, plain_item as the_plain_item, plain_section as the_plain_section, plain_items as the_plain_items, plain_sections as the_plain_sections};
@@ -31,18 +31,10 @@ fn unary(alloc: Global, kind: IntKind, op: UnaryOp, a: Expression) -> Result<Exp
     Ok(expression(kind, Node::Unary(op, a)))
 }
 
-fn binary(
-    alloc: Global,
-    kind: IntKind,
-    op: BinaryOp,
-    a: Expression,
-    b: Expression,
-) -> Result<Expression, Memory>
-    ensures { IfOk result (λ it. it ≡ the_expression kind (Node.Binary op a b)) }
+fn binary(kind: IntKind, op: BinaryOp, a: Boxed<Expression>, b: Boxed<Expression>) -> Expression
+    ensures { result ≡ the_expression kind (Node.Binary op a b) }
 {
-    let a = Boxed::new(alloc, a)?;
-    let b = Boxed::new(alloc, b)?;
-    Ok(expression(kind, Node::Binary(op, a, b)))
+    expression(kind, Node::Binary(op, a, b))
 }
 
 fn guard_slot(base: u32, label: u32) -> Result<u32, Memory>
@@ -72,8 +64,8 @@ fn guard_off(alloc: Global, base: u32, label: u32) -> Result<Expression, Memory>
 pub fn guard_set(alloc: Global, base: u32, label: u32, e: Expression) -> Result<Item, Memory>
     ensures { IfOk result (λ it. it ≡ the_guard_set base label e) }
 {
-    let slot = guard_slot(base, label)?;
     let e = Boxed::new(alloc, e)?;
+    let slot = guard_slot(base, label)?;
     Ok(Item::Evaluate(expression(IntKind::Int, Node::Assign(Place::Var(Home::Slot(slot)), e))))
 }
 
@@ -103,6 +95,14 @@ fn is_truth(e: &Expression) -> bool
     }
 }
 
+fn compared_with_zero(alloc: Global, e: Expression) -> Result<Expression, Memory>
+    ensures { IfOk result (λ it. it ≡ the_expression IntKind.Int (Node.Binary BinaryOp.Unequal e (the_number IntKind.Int (pos 0)))) }
+{
+    let e = Boxed::new(alloc, e)?;
+    let zero = Boxed::new(alloc, number(IntKind::Int, 0))?;
+    Ok(binary(IntKind::Int, BinaryOp::Unequal, e, zero))
+}
+
 /// The value of a condition as 0 or 1: a copy of it, compared with 0 unless it is 0 or 1 anyway.
 pub fn truth(alloc: Global, e: &Expression) -> Result<Expression, Memory>
     ensures { IfOk result (λ it. it ≡ the_truth e.now) }
@@ -111,13 +111,7 @@ pub fn truth(alloc: Global, e: &Expression) -> Result<Expression, Memory>
     if is_truth(e) {
         Ok(copy)
     } else {
-        binary(
-            alloc,
-            IntKind::Int,
-            BinaryOp::Unequal,
-            copy,
-            number(IntKind::Int, 0),
-        )
+        compared_with_zero(alloc, copy)
     }
 }
 
@@ -149,13 +143,9 @@ fn least_constant(alloc: Global, kind: IntKind) -> Result<Expression, Memory>
     ensures { IfOk result (λ it. it ≡ the_least_constant kind) }
 {
     let greatest = unary(alloc, kind, UnaryOp::Minus, number(kind, kind.greatest()))?;
-    binary(
-        alloc,
-        kind,
-        BinaryOp::Arith(ArithOp::Sub),
-        greatest,
-        number(kind, 1),
-    )
+    let greatest = Boxed::new(alloc, greatest)?;
+    let one = Boxed::new(alloc, number(kind, 1))?;
+    Ok(binary(kind, BinaryOp::Arith(ArithOp::Sub), greatest, one))
 }
 
 fn constant(alloc: Global, kind: IntKind, n: i128) -> Result<Expression, Memory>
@@ -170,6 +160,22 @@ fn constant(alloc: Global, kind: IntKind, n: i128) -> Result<Expression, Memory>
     }
 }
 
+fn off_and(alloc: Global, base: u32, label: u32, rest: Expression) -> Result<Expression, Memory>
+    ensures { IfOk result (λ it. it ≡ the_expression IntKind.Int (Node.Binary BinaryOp.AndThen (the_guard_off base label) rest)) }
+{
+    let rest = Boxed::new(alloc, rest)?;
+    let off = Boxed::new(alloc, guard_off(alloc, base, label)?)?;
+    Ok(binary(IntKind::Int, BinaryOp::AndThen, off, rest))
+}
+
+fn on_or(alloc: Global, base: u32, label: u32, rest: Expression) -> Result<Expression, Memory>
+    ensures { IfOk result (λ it. it ≡ the_expression IntKind.Int (Node.Binary BinaryOp.OrElse (the_guard base label) rest)) }
+{
+    let rest = Boxed::new(alloc, rest)?;
+    let on = Boxed::new(alloc, guard(base, label)?)?;
+    Ok(binary(IntKind::Int, BinaryOp::OrElse, on, rest))
+}
+
 /// A test in which guards are variables.
 pub fn plain_test(alloc: Global, base: u32, test: &Test) -> Result<Expression, Memory>
     ensures { IfOk result (λ it. it ≡ the_plain_test base test.now) }
@@ -180,13 +186,11 @@ pub fn plain_test(alloc: Global, base: u32, test: &Test) -> Result<Expression, M
         Test::Off(label) => guard_off(alloc, base, *label),
         Test::AndOff(label, rest) => {
             let rest = plain_test(alloc, base, rest.get())?;
-            let off = guard_off(alloc, base, *label)?;
-            binary(alloc, IntKind::Int, BinaryOp::AndThen, off, rest)
+            off_and(alloc, base, *label, rest)
         }
         Test::OrOn(label, rest) => {
             let rest = plain_test(alloc, base, rest.get())?;
-            let on = guard(base, *label)?;
-            binary(alloc, IntKind::Int, BinaryOp::OrElse, on, rest)
+            on_or(alloc, base, *label, rest)
         }
     }
 }
@@ -209,19 +213,21 @@ fn selector_kind(selector: &Selector) -> Option<IntKind>
     }
 }
 
-fn conditional(
+/// The number if the guard of the label is set, else the rest.
+fn number_or(
     alloc: Global,
+    base: u32,
     kind: IntKind,
-    a: Expression,
-    b: Expression,
-    c: Expression,
+    label: u32,
+    n: i128,
+    rest: Expression,
 ) -> Result<Expression, Memory>
-    ensures { IfOk result (λ it. it ≡ the_expression kind (Node.Conditional a b c)) }
+    ensures { IfOk result (λ it. it ≡ the_expression kind (Node.Conditional (the_guard base label) (the_constant kind n) rest)) }
 {
-    let a = Boxed::new(alloc, a)?;
-    let b = Boxed::new(alloc, b)?;
-    let c = Boxed::new(alloc, c)?;
-    Ok(expression(kind, Node::Conditional(a, b, c)))
+    let rest = Boxed::new(alloc, rest)?;
+    let on = Boxed::new(alloc, guard(base, label)?)?;
+    let n = Boxed::new(alloc, constant(alloc, kind, n)?)?;
+    Ok(expression(kind, Node::Conditional(on, n, rest)))
 }
 
 fn picked(
@@ -236,9 +242,7 @@ fn picked(
         Selector::Source(e) => copy_expression(alloc, e),
         Selector::Pick(label, n, rest) => {
             let rest = picked(alloc, base, kind, rest.get())?;
-            let on = guard(base, *label)?;
-            let n = constant(alloc, kind, *n)?;
-            conditional(alloc, kind, on, n, rest)
+            number_or(alloc, base, kind, *label, *n, rest)
         }
     }
 }

@@ -2,7 +2,7 @@ ghost use Rattle.std.specs.Prelude.{◌≡◌, IfOk, pos};
 ghost use Rattle.guard_vars.specs.Plain.{number as the_number, armed as the_armed, guard_set as the_guard_set, plain_test as the_plain_test, plain_selector as the_plain_selector, plain_item as the_plain_item, plain_section as the_plain_section, plain_items as the_plain_items, plain_sections as the_plain_sections};
 
 use crate::expressions::{armed, guard_set, number, plain_selector, plain_test};
-use c_copies::{copy_expression, copy_expressions, copy_given, copy_option};
+use c_copies::{copy_expression, copy_expressions, copy_given, copy_option, make_for};
 use c_tree::{Expression, Item, Section, Selector, Test};
 use c_types::{IntKind, List, Memory};
 use std::alloc::Global;
@@ -45,20 +45,6 @@ fn make_do(alloc: Global, base: u32, a: List<Item>, test: &Test) -> Result<Item,
 {
     let test = plain_test(alloc, base, test)?;
     Ok(Item::Do(a, Test::Source(test)))
-}
-
-fn make_for(
-    alloc: Global,
-    first: List<Item>,
-    test: &Option<Expression>,
-    third: &Option<Expression>,
-    a: List<Item>,
-) -> Result<Item, Memory>
-    ensures { IfOk result (λ it. it ≡ Item.For first test.now third.now a) }
-{
-    let test = copy_option(alloc, test)?;
-    let third = copy_option(alloc, third)?;
-    Ok(Item::For(first, test, third, a))
 }
 
 fn make_switch(

@@ -84,9 +84,9 @@ fn move_function(
     ensures counts { OnOk result (counts.new ≡ counts_after counts.old (Top.Function function)) }
     ensures not_built { result ≡ Err DriverStop.NotBuilt → moved_function function ≡ None }
 {
-    let function = flatten(alloc, function)?;
+    let mut function = flatten(alloc, function)?;
     if function.flat {
-        let function = convert(alloc, function)?;
+        convert(alloc, &mut function)?;
         move_jumps(alloc, function, counts)
     } else {
         Ok(function)
