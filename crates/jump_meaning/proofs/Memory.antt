@@ -52,7 +52,7 @@ chosen P true x y h k = h refl
 chosen P false x y h k = k refl
 
 -- a fact of the contents of p, where o gets other contents
-put_holds : (P : Variable → Type 0) (o : Owner) (v : Variable) (s : Owner → Variable) (p : Owner) → (o ≡ p → P v) → (o ≢ p → P (s p)) → P (put o v s p)
+pub put_holds : (P : Variable → Type 0) (o : Owner) (v : Variable) (s : Owner → Variable) (p : Owner) → (o ≡ p → P v) → (o ≢ p → P (s p)) → P (put o v s p)
 put_holds P o v s p h k =
     chosen P (same_owner o p) v (s p) (λ e. h ((same_owner_decides o p).0 e)) (λ e. k (λ i. true≢false (sym ((same_owner_decides o p).1 i) ∙ e)))
 
@@ -126,24 +126,27 @@ lendings h p z w =
 
 -- ---- after cells are cleared, and after a call begins
 
-zeros_from : (n i : ℕ) (v : Variable) → n ≤ i → number_held (with_zeros n v) i ≡ pos 0
-zeros_from n i (Holds k m cells) h = chosen (λ x. x ≡ pos 0) (nat_lt i n) (cells i) (pos 0) (λ e. absurd (not_below i n h e)) (λ e. refl)
-  where
-    not_below : (i n : ℕ) → n ≤ i → nat_lt i n ≡ true → ⊥
-    not_below i n h e = grind (arith, h, e)
-zeros_from n i (Lent o) h = refl
+not_below : (i n : ℕ) → n ≤ i → nat_lt i n ≡ true → ⊥
+not_below i n h e = grind (arith, h, e)
+
+not_beyond : (i n : ℕ) → i < n → nat_lt i n ≡ false → ⊥
+not_beyond i n h e = grind (arith, h, e)
+
+zeros_from : (n i : ℕ) (v : Variable) → n ≤ i → i < cells_held v → number_held (with_zeros n v) i ≡ pos 0
+zeros_from n i (Holds k m cells) h b =
+    chosen (λ x. x ≡ pos 0) (nat_lt i n) (cells i) (cond (nat_lt i (cells_held (Holds k m cells))) (pos 0) (cells i)) (λ e. absurd (not_below i n h e))
+    (λ e. chosen (λ x. x ≡ pos 0) (nat_lt i (cells_held (Holds k m cells))) (pos 0) (cells i) (λ e. refl) (λ e. absurd (not_beyond i (cells_held (Holds k m cells)) b e)))
+zeros_from n i (Lent o) h b = refl
 
 kept_below : (n i : ℕ) (v : Variable) → i < n → number_held (with_zeros n v) i ≡ number_held v i
-kept_below n i (Holds k m cells) h = chosen (λ x. x ≡ cells i) (nat_lt i n) (cells i) (pos 0) (λ e. refl) (λ e. absurd (not_beyond i n h e))
-  where
-    not_beyond : (i n : ℕ) → i < n → nat_lt i n ≡ false → ⊥
-    not_beyond i n h e = grind (arith, h, e)
+kept_below n i (Holds k m cells) h =
+    chosen (λ x. x ≡ cells i) (nat_lt i n) (cells i) (cond (nat_lt i (cells_held (Holds k m cells))) (pos 0) (cells i)) (λ e. refl) (λ e. absurd (not_beyond i n h e))
 kept_below n i (Lent o) h = refl
 
-cleared : (h : Home) (n i : ℕ) (w : World) → n ≤ i → load (Designates (owner h w) i) (clear h n w) ≡ pos 0
-cleared h n i w b =
+cleared : (h : Home) (n i : ℕ) (w : World) → n ≤ i → i < cells_held (w.variables (owner h w)) → load (Designates (owner h w) i) (clear h n w) ≡ pos 0
+cleared h n i w b c =
     put_holds (λ v. number_held v i ≡ pos 0) (owner h w) (with_zeros n (w.variables (owner h w))) w.variables (owner h w)
-    (λ e. zeros_from n i (w.variables (owner h w)) b) (λ d. absurd (d refl))
+    (λ e. zeros_from n i (w.variables (owner h w)) b c) (λ d. absurd (d refl))
 
 uncleared : (h : Home) (n : ℕ) (o : Owner) (i : ℕ) (w : World) → (owner h w ≢ o) ⊎ (i < n) → load (Designates o i) (clear h n w) ≡ load (Designates o i) w
 uncleared h n o i w b =
@@ -153,6 +156,17 @@ uncleared h n o i w b =
       | inr l ↦ kept_below n i (w.variables (owner h w)) l ∙ ap (λ q. number_held (w.variables q) i) e
     ])
     (λ d. refl)
+
+kept_beyond : (n i : ℕ) (v : Variable) → cells_held v ≤ i → number_held (with_zeros n v) i ≡ number_held v i
+kept_beyond n i (Holds k m cells) h =
+    chosen (λ x. x ≡ cells i) (nat_lt i n) (cells i) (cond (nat_lt i (cells_held (Holds k m cells))) (pos 0) (cells i)) (λ e. refl)
+    (λ e. chosen (λ x. x ≡ cells i) (nat_lt i (cells_held (Holds k m cells))) (pos 0) (cells i) (λ d. absurd (not_below i (cells_held (Holds k m cells)) h d)) (λ d. refl))
+kept_beyond n i (Lent o) h = refl
+
+beyond : (h : Home) (n i : ℕ) (w : World) → cells_held (w.variables (owner h w)) ≤ i → load (Designates (owner h w) i) (clear h n w) ≡ load (Designates (owner h w) i) w
+beyond h n i w b =
+    put_holds (λ v. number_held v i ≡ number_held (w.variables (owner h w)) i) (owner h w) (with_zeros n (w.variables (owner h w))) w.variables (owner h w)
+    (λ e. kept_beyond n i (w.variables (owner h w)) b) (λ d. absurd (d refl))
 
 present : (f : FunctionTree) (vs : List Value) (w : World) (o : Owner) → IsPresent w o → (enter_call f vs w).variables o ≡ w.variables o
 present f vs w (OfFile m) h = refl
@@ -174,6 +188,7 @@ memory_laws = record {
   lendings = lendings;
   cleared = cleared;
   uncleared = uncleared;
+  beyond = beyond;
   present = present;
   entered = entered;
 }

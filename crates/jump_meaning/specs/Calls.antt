@@ -9,11 +9,15 @@ use Rattle.jump_meaning.specs.Code.{FunctionTree}
 use Rattle.jump_meaning.specs.World.{World, Outcome, Gives, Traps, Exits, pop, owner}
 use Rattle.jump_meaning.specs.Operations.{converted_value}
 
--- the last n of the values pending, in the order in which they came, and the values below them
+-- the last n of the values pending, in the order in which they came, before those that are taken already
 abbrev pub last_values : ℕ → List Value → List Value → List Value
 last_values zero vs v = vs
 last_values (suc n) vs [] = vs
 last_values (suc n) vs (x ∷ v) = last_values n (x ∷ vs) v
+
+-- the arguments of a call that takes n of the values pending
+abbrev pub arguments_taken : ℕ → List Value → List Value
+arguments_taken n v = last_values n [] v
 
 -- the values pending without the last n
 abbrev pub without_last : ℕ → List Value → List Value

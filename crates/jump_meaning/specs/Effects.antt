@@ -15,7 +15,7 @@ use Rattle.c_tree.specs.Constants.{kind_of}
 use Rattle.jump_meaning.specs.Values.{Value, Integer, Lends, Format, Missing, integer}
 use Rattle.jump_meaning.specs.World.{World, Outcome, Gives, Traps, Exits, owner, place, cell, store, clear}
 use Rattle.jump_meaning.specs.Operations.{holds, truth_value, converted_value, unary, binary, loaded, assign, count}
-use Rattle.jump_meaning.specs.Calls.{last_values, without_last, slot_cell, is_array_slot}
+use Rattle.jump_meaning.specs.Calls.{arguments_taken, without_last, slot_cell, is_array_slot}
 
 -- a task of an expression: what it takes of the values pending, the last first, and what it leaves
 pub data Op : Type 0 where
@@ -150,7 +150,7 @@ effect Judges v w = Does [] (truth_value (top v) ∷ rest v) w
 effect (Decides b c kind) v w = Does (cond (holds (top v)) (Computes b ∷ conversion kind) (Computes c ∷ conversion kind)) (rest v) w
 effect Stores v w = left (assign (top (rest v)) (top v) w) (rest (rest v))
 effect (Counts up after) v w = left (count up after (top v) w) (rest v)
-effect (Calls m n) v w = Invokes m (last_values n [] v) (without_last n v) w
+effect (Calls m n) v w = Invokes m (arguments_taken n v) (without_last n v) w
 effect (Ends true) v w = Leaves (Some (top v)) w
 effect (Ends false) v w = Leaves None w
 effect (Begins x es) v w = initialise x 0 es v w

@@ -36,7 +36,9 @@ in_decimal k n = signed_decimal (converted k n)
 abbrev pub in_hexadecimal : ℤ → List ℕ
 in_hexadecimal n = digits 16 false (residue UInt n)
 
--- the bytes of a format, with its arguments in their places
+-- the bytes of a format, with its arguments in their places; a format is all bytes of its text, also behind a 0 (this
+-- profile). In a resolved program `%` is followed by `%`, `d`, `u`, `x`, `c`, `ld` or `lu` and by nothing else, so
+-- that the last case of `AfterPercent` is `%c`, and that of `AfterL` is `%lu`
 abbrev pub printed : Reading → List ℕ → List Value → List ℕ
 printed r [] vs = []
 printed InText (c ∷ cs) vs = cond (c == 37) (printed AfterPercent cs vs) (c ∷ printed InText cs vs)
@@ -58,10 +60,10 @@ printed_bytes vs = []
 
 -- ---- the known functions
 
--- the next byte of the input, or -1 at its end
+-- the next byte of the input, as an unsigned char, or -1 at its end
 abbrev pub read_byte : List ℕ → World → Outcome
 read_byte [] w = Gives (Integer (negsuc 0)) w
-read_byte (b ∷ bs) w = Gives (Integer (pos b)) (record w { input = bs })
+read_byte (b ∷ bs) w = Gives (Integer (pos (residue UChar (pos b)))) (record w { input = bs })
 
 -- the byte is written and is the value
 abbrev pub write_byte : ℕ → World → Outcome

@@ -39,9 +39,10 @@ pub record MemoryLaws : Type 0 where
   pub kinds : (p q : Value) (z : ℤ) (w : World) → kind_at q (store p z w) ≡ kind_at q w
   pub lengths : (p : Value) (z : ℤ) (w : World) (o : Owner) → cells_held ((store p z w).variables o) ≡ cells_held (w.variables o)
   pub lendings : (h : Home) (p : Value) (z : ℤ) (w : World) → owner h (store p z w) ≡ owner h w
-  -- the cells from n on are 0 once they are cleared, and no others change
-  pub cleared : (h : Home) (n i : ℕ) (w : World) → n ≤ i → load (Designates (owner h w) i) (clear h n w) ≡ pos 0
+  -- the cells of a variable from n on are 0 once they are cleared, and nothing else changes: no other cell, and no place behind its last cell
+  pub cleared : (h : Home) (n i : ℕ) (w : World) → n ≤ i → i < cells_held (w.variables (owner h w)) → load (Designates (owner h w) i) (clear h n w) ≡ pos 0
   pub uncleared : (h : Home) (n : ℕ) (o : Owner) (i : ℕ) (w : World) → (owner h w ≢ o) ⊎ (i < n) → load (Designates o i) (clear h n w) ≡ load (Designates o i) w
+  pub beyond : (h : Home) (n i : ℕ) (w : World) → cells_held (w.variables (owner h w)) ≤ i → load (Designates (owner h w) i) (clear h n w) ≡ load (Designates (owner h w) i) w
   -- a call changes no variable of the file or of a caller, and its own slots are those of its start
   pub present : (f : FunctionTree) (vs : List Value) (w : World) (o : Owner) → IsPresent w o → (enter_call f vs w).variables o ≡ w.variables o
   pub entered : (f : FunctionTree) (vs : List Value) (w : World) (x : ℕ) → (enter_call f vs w).variables (OfCall (suc w.calls) x) ≡ slot_at_start f vs x

@@ -19,7 +19,7 @@ pub data Goal : Type 0 where
 abbrev pub is_case : IntKind → ℤ → ExpressionTree → Bool
 is_case k n e = option_map_or (int_eq n) (case_number k e) false
 
--- whether an item is the label
+-- whether an item is the label that is sought: one of the function, or a nested label of the switch
 abbrev pub is_goal : Goal → Tree → Bool
 is_goal (ToLabel l) (Mark m) = eqb l m
 is_goal (ToLabel l) (Land m) = eqb l m
@@ -27,7 +27,7 @@ is_goal (ToCase k n) (Arrival (Some e)) = is_case k n e
 is_goal ToDefault (Arrival None) = true
 is_goal _ _ = false
 
--- whether one of the labels of a section is
+-- whether a section has the label that is sought; a label of the function is never a label of a section
 abbrev pub is_section_goal : Goal → List ExpressionTree → Bool → Bool
 is_section_goal (ToLabel l) cases default = false
 is_section_goal (ToCase k n) cases default = list_any (is_case k n) cases

@@ -58,7 +58,8 @@ AllReset g = (l : ℕ) → g l ≡ false
 abbrev pub AtMostOneSet : Guards → Type 0
 AtMostOneSet g = (l m : ℕ) → g l ≡ true → g m ≡ true → l ≡ m
 
--- the next task is an expression of the source, or an item of the source other than an If, While, Do or Switch
+-- the next task is an expression of the source, or an item of the source other than an If, While, Do or Switch: a
+-- For, Block, Evaluate, Return, Break, Continue, Goto, Mark, Local, Arrival or Note
 abbrev pub IsSourceTask : List Task → Type 0
 IsSourceTask (Works (Computes e) ∷ k) = Unit {0}
 IsSourceTask (Runs (If t a b) ∷ k) = ⊥

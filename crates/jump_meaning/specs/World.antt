@@ -59,12 +59,12 @@ holder o (Holds k n cells) = o
 abbrev pub owner : Home → World → Owner
 owner h w = holder (named h w) (w.variables (named h w))
 
--- the kind of its cells
+-- the kind of its cells; never asked of an array that is lent: `owner` has resolved the lending
 abbrev pub kind_held : Variable → IntKind
 kind_held (Holds k n cells) = k
 kind_held (Lent o) = Int
 
--- how many cells it has, of which a number has one
+-- how many cells it has, of which a number has one; never asked of an array that is lent, nor are the numbers in them
 abbrev pub cells_held : Variable → ℕ
 cells_held (Holds k None cells) = 1
 cells_held (Holds k (Some n) cells) = n
@@ -80,9 +80,9 @@ abbrev pub with_number : ℕ → ℤ → Variable → Variable
 with_number i z (Holds k n cells) = Holds k n (λ j. cond (eqb i j) (converted k z) (cells j))
 with_number i z (Lent o) = Lent o
 
--- the cells from i on hold 0 (6.7.9)
+-- its cells from i on hold 0 (6.7.9)
 abbrev pub with_zeros : ℕ → Variable → Variable
-with_zeros i (Holds k n cells) = Holds k n (λ j. cond (nat_lt j i) (cells j) (pos 0))
+with_zeros i (Holds k n cells) = Holds k n (λ j. cond (nat_lt j i) (cells j) (cond (nat_lt j (cells_held (Holds k n cells))) (pos 0) (cells j)))
 with_zeros i (Lent o) = Lent o
 
 -- ---- reading and writing
