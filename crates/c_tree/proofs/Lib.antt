@@ -12,3 +12,4 @@ pub mod KeptLemmas
 pub mod ExitsKept
 pub mod WellMoved
 pub mod NumbersBelow
+pub mod NumeralLaws

@@ -14,6 +14,7 @@ pub mod Lift
 pub mod Inward
 pub mod Operators
 pub mod Constants
+pub mod Numerals
 pub mod Cases
 pub mod WellMade
 pub mod Changed

@@ -9,7 +9,7 @@ use Rattle.c_tree.specs.Changed.{one}
 use Rattle.jump_meaning.specs.Code.{FunctionTree}
 use Rattle.loose_core.specs.Pieces.{Stays}
 use Rattle.loose_core.specs.Placed.{Has, IsOnce}
-use Rattle.loose_core.specs.Constants.{spelled}
+use Rattle.c_tree.specs.Numerals.{constant}
 use Rattle.loose_core.specs.Loose.{Setting, NoArrival, IsLooser}
 use Rattle.loose_core.proofs.Spelled.{spelled_numbers}
 use Rattle.c_tree.specs.Everywhere.{total}
@@ -39,16 +39,16 @@ abbrev here : Here
 here = first_here 1
 
 abbrev plan : Plan
-plan = numbered (marks (flat (coded spelled slots 1 body) here Stays Stays NoArrival body)) (coded spelled slots 1 body)
+plan = numbered (marks (flat (coded constant slots 1 body) here Stays Stays NoArrival body)) (coded constant slots 1 body)
 
 abbrev setting : Setting
-setting = record { labels = λ l. cond (plan.live l) (Some (plan.source l)) None; params = 0; old = slots; new = slots; number = spelled; numbers = spelled_numbers }
+setting = record { labels = λ l. cond (plan.live l) (Some (plan.source l)) None; params = 0; old = slots; new = slots; number = constant; numbers = spelled_numbers }
 
 abbrev before : FunctionTree
 before = record { result = Some Int; params = 0; slots = slots; body = Some body }
 
 abbrev after : FunctionTree
-after = record { result = Some Int; params = 0; slots = slots; body = Some (flat_body spelled slots 1 body) }
+after = record { result = Some Int; params = 0; slots = slots; body = Some (flat_body constant slots 1 body) }
 
 one_goto : (l : ℕ) → total (gotos_to l) body ≡ one_if (eqb l 0)
 one_goto l = omega arith
@@ -106,4 +106,4 @@ looser = of_functions plan setting here before after
       same_old = refl;
       same_new = refl;
     })
-    first_once (flat_once spelled slots 1 body own)
+    first_once (flat_once constant slots 1 body own)
