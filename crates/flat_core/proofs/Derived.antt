@@ -12,7 +12,8 @@ use Rattle.jump_meaning.specs.Search.{or_else, ToDefault}
 use Rattle.jump_meaning.specs.Step.{switch_kind}
 use Rattle.loose_core.specs.Pieces.{Aim, Stays, Becomes, Absent, mark_of, IsMoved, Names, wanted, wanted_in, wanted_case, wanted_among, case_marks, assign_number, tests_among}
 use Rattle.loose_core.specs.Loose.{Setting, In, AreIn, slot_of, IsLocal, AreGone, IsGone, Mode, Open, Ended, Jumped, IsLast, in_open, in_last, Arrivals, NoArrival, Arrives, IsOtherwise, LooserItem, lo_evaluate, lo_return, lo_return_none, lo_note, lo_if, lo_while, lo_do, lo_for, lo_for_while, lo_block, lo_declares, lo_number, lo_array, lo_break, lo_break_to, lo_break_end, lo_continue, lo_continue_to, lo_goto, lo_mark, lo_drop, lo_arrival, lo_switch, lo_scatter, Looser, la_nil, la_then, la_last, LooserSections, lc_none, lc_section, lc_ended, Spread, ls_none, ls_last, ls_falls, ls_ends}
-use Rattle.flat_core.specs.Parts.{is_some_number, arrivals, arrivals_in, is_empty, is_scattered, section_labels, switch_labels, has_default, ends_some, leaves, holds_jump, Here, past, past_item, inside, Ending, Gone, Breaks, Jumps, Otherwise, later, gone_or, if_jumps, ending, ending_of, last_ending, is_gone, trimmed, trimmed_item, section_list, kept_breaks, ends_then}
+use Rattle.c_tree.specs.TextItems.{is_empty}
+use Rattle.flat_core.specs.Parts.{is_some_number, arrivals, arrivals_in, is_scattered, section_labels, switch_labels, has_default, ends_some, leaves, holds_jump, Here, past, past_item, inside, Ending, Gone, Breaks, Jumps, Otherwise, later, gone_or, if_jumps, ending, ending_of, last_ending, is_gone, trimmed, trimmed_item, section_list, kept_breaks, ends_then}
 use Rattle.flat_core.specs.FlatForm.{Plan, names_of, scatter_aim, otherwise_label, end_goto, aim, exit, is_jumpy_switch, assigned, mark_if, arrival, dissolved, if_breaks, flat_for, flat, flat_item, flat_last, flat_last_item, flat_sections, spread}
 use Rattle.flat_core.specs.Source.{AreInitialisers, IsSourceItem, IsVariable, IfTrue, HaveVariables, HasVariables, HaveVariablesAmong}
 

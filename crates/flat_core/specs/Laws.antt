@@ -10,7 +10,8 @@ use Rattle.jump_meaning.specs.World.{no_slot}
 use Rattle.loose_core.specs.Pieces.{Stays}
 use Rattle.loose_core.specs.Placed.{Has, IsOnce}
 use Rattle.loose_core.specs.Loose.{Setting, slot_of, IsLocal, Open, NoArrival, Looser, ExtendSlots, IsLooser}
-use Rattle.flat_core.specs.Parts.{is_empty, arrivals, Here}
+use Rattle.c_tree.specs.TextItems.{is_empty}
+use Rattle.flat_core.specs.Parts.{arrivals, Here}
 use Rattle.flat_core.specs.FlatForm.{Plan, flat, flat_body}
 use Rattle.flat_core.specs.Source.{IsSourceItem, HaveVariables, HasOwnLabels}
 use Rattle.flat_core.specs.Unlabelled.{IsUnlabelledFrom}

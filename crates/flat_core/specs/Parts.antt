@@ -6,6 +6,7 @@ use Rattle.c_tree.specs.Everywhere.{total}
 use Rattle.c_tree.specs.Exits.{breaks, breaks_in}
 use Rattle.c_tree.specs.Trees.{Tree, Forest, Nil, Then, Sections, NoSection, Section, If, While, Do, For, Switch, Block, Local, Break, Goto, Mark, Arrival}
 use Rattle.c_tree.specs.Changed.{one}
+use Rattle.c_tree.specs.TextItems.{is_empty}
 
 -- whether a number of things is not 0
 abbrev pub is_some_number : ℕ → Bool
@@ -29,11 +30,6 @@ abbrev mutual
   arrivals_in (Block a) = arrivals a
   arrivals_in (Arrival e) = e ∷ []
   arrivals_in _ = []
-
--- whether there is none
-abbrev pub is_empty : {A : Type 0} → List A → Bool
-is_empty [] = true
-is_empty (x ∷ xs) = false
 
 -- a switch with a label in a nested statement
 abbrev pub is_scattered : Sections → Bool

@@ -6,7 +6,8 @@ use Rattle.c_tree.specs.TestTrees.{TestTree, Source, SelectorTree, Selects}
 use Rattle.c_tree.specs.Trees.{Tree, Forest, Nil, Then, Sections, NoSection, Section, Evaluate, Return, If, While, Do, For, Switch, Block, Local, Goto, Mark, Arm, Leap, Land}
 use Rattle.jump_meaning.specs.Step.{switch_kind}
 use Rattle.loose_core.specs.Loose.{Setting, In, AreIn, slot_of, IsLocal, IsNew}
-use Rattle.flat_core.specs.Parts.{is_empty, arrivals, is_scattered, switch_labels, cases_among, Here, past, past_item, inside}
+use Rattle.c_tree.specs.TextItems.{is_empty}
+use Rattle.flat_core.specs.Parts.{arrivals, is_scattered, switch_labels, cases_among, Here, past, past_item, inside}
 use Rattle.flat_core.specs.FlatForm.{same_number}
 use Rattle.c_tree.specs.Cases.{case_number}
 use Rattle.c_tree.specs.Everywhere.{total, Everywhere}

@@ -26,6 +26,7 @@ use Rattle.c_tree.specs.declared.tree.Function.{Function}
 use Rattle.c_tree.specs.declared.tree.Top.{Top}
 use Rattle.c_tree.specs.declared.tree.Top.TheVariants as P
 use Rattle.c_tree.specs.declared.tree.Program.{Program}
+use Rattle.c_tree.specs.TextItems.{is_empty}
 
 -- ---- expressions; `slot l` is the number of the slot of the guard of label l
 
@@ -185,11 +186,6 @@ ended c = if not c.ends && last_is_break c.list
     then roll-Section (record { cases = c.cases; default = c.default; list = without_last c.list; ends = true })
     else roll-Section c
 
--- whether a list is empty
-abbrev pub is_none : List Item → Bool
-is_none [] = true
-is_none (x ∷ xs) = false
-
 -- the section with the cases and the default of another before its own
 abbrev pub with_entries : I.Section-F Item Section → Section → Section
 with_entries c d = let e = out-Section d in roll-Section (record { cases = c.cases ++ e.cases; default = c.default || e.default; list = e.list; ends = e.ends })
@@ -197,7 +193,7 @@ with_entries c d = let e = out-Section d in roll-Section (record { cases = c.cas
 -- a section before others: with an empty list and no end it gives its cases and its default to the next
 abbrev pub give_to : Section → List Section → List Section
 give_to c [] = c ∷ []
-give_to c (d ∷ ds) = let e = out-Section c in if is_none e.list && not e.ends then with_entries e d ∷ ds else c ∷ d ∷ ds
+give_to c (d ∷ ds) = let e = out-Section c in if is_empty e.list && not e.ends then with_entries e d ∷ ds else c ∷ d ∷ ds
 
 -- sections, each of which gives to the next
 abbrev pub given : List Section → List Section
