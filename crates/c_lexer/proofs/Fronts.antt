@@ -17,11 +17,13 @@ use Rattle.c_lexer.specs.Bytes.{is_octal_digit, is_hexadecimal_digit, is_simple_
 use Rattle.c_lexer.specs.Numbers.{continues, ends_with_power, value_from}
 use Rattle.c_lexer.specs.Characters.{Character, Simple, OneDigit, TwoDigits, ThreeDigits, Hexadecimal, written, written_all, three_digits, IsCharacter, TakesDigits, AreCharacters}
 use Rattle.c_lexer.specs.Marks.{mark_text}
-use Rattle.c_lexer.specs.Pieces.{Piece, spelled, text, closes, has_no_newline, Fits, Longest, first_behind, first_behind_all, Good}
+use Rattle.c_lexer.specs.Pieces.{Piece, spelled, text, closes, Fits, Longest, first_behind, first_behind_all, Good}
 use Rattle.c_lexer.specs.Faults.{reason_of}
 use Rattle.c_lexer.specs.Machine.{escape_step}
 use Rattle.c_lexer.proofs.PieceLemmas.{past, ends, ends_all, Stands, stands_along, stands_text, stands_past, slice_is}
-use Rattle.c_lexer.proofs.Reading.{both_true}
+use Rattle.c_lexer.proofs.Truths.{both_true}
+use Rattle.c_lexer.proofs.Lines.{has_no_newline}
+use Rattle.c_lexer.proofs.Closings.{closes_from}
 
 -- from where the pieces are counted, whether only white space stands before on that line, and the
 -- bytes so far, in front of what follows
@@ -168,7 +170,7 @@ Ready (InText s) at P = (ps : List Piece) × (cs : List Character) × (v : List 
 Ready (TextEscape s e) at P =
     (ps : List Piece) × (cs : List Character) × (v : List ℕ) × (w : List ℕ) × Part s at ps (34 ∷ v ++ w) P × ((r : List ℕ) → written_all cs r ≡ v ++ r) × ((r : List ℕ) → AreCharacters is_text_byte cs (w ++ r)) × HasRead e w
 Ready (InDirective s end) at P = (ps : List Piece) × (w : List ℕ) × Part s at ps (35 ∷ w) P × (first_behind_all P.first ps ≡ true) × (has_no_newline w ≡ true)
-Ready (InComment s star) at P = (ps : List Piece) × (w : List ℕ) × Part s at ps (47 ∷ 42 ∷ w) P × ((v : List ℕ) → closes false (w ++ v) ≡ closes star v)
+Ready (InComment s c) at P = (ps : List Piece) × (w : List ℕ) × Part s at ps (47 ∷ 42 ∷ w) P × ((v : List ℕ) → closes (w ++ v) ≡ closes_from c v)
 Ready (InLine s end) at P = (ps : List Piece) × (w : List ℕ) × Part s at ps (47 ∷ 47 ∷ w) P × (has_no_newline w ≡ true)
 
 -- pieces reach up to a byte at this place, for which this is the reason

@@ -1,13 +1,16 @@
 -- What each byte does to what a state says.
-use Rattle.std.proofs.Common.{◌≡◌, ◌+◌, ℕ, Bool, true, false, not, ◌&&◌, ◌||◌, ◌==◌, cond, List, [], ◌∷◌, ◌++◌, Option, Some, None, refl, arith, ap, sym, ◌∙◌, subst, append_assoc}
+use Rattle.std.proofs.Common.{◌≡◌, ◌+◌, ℕ, Bool, true, false, not, ◌&&◌, ◌||◌, ◌==◌, cond, List, [], ◌∷◌, ◌++◌, Option, Some, None, refl, arith, ap, sym, ◌∙◌, subst, append_assoc, take}
 use Rattle.std.specs.Prelude.{slice_range, is_some}
 use Rattle.std.specs.List.{list_all}
 use Rattle.std.proofs.lemmas.Bool.{eqb-true}
+use Rattle.std.proofs.lemmas.List.{take_at}
 use Rattle.std.proofs.lemmas.Bool.Decides.{nat_tests}
 use Rattle.c_lexer.specs.declared.mark.Mark.{Mark}
 use Rattle.c_lexer.specs.declared.mark.Mark.TheVariants.{Slash, Dot}
 use Rattle.c_lexer.specs.declared.state.State.{State}
 use Rattle.c_lexer.specs.declared.state.State.TheVariants.{Between, InWord, InNumber, InMark, Dots, CharOpened, CharEscape, CharHeld, InText, TextEscape, InDirective, InComment, InLine}
+use Rattle.c_lexer.specs.declared.state.Closing.{Closing}
+use Rattle.c_lexer.specs.declared.state.Closing.TheVariants as closing
 use Rattle.c_lexer.specs.declared.state.Progress.{Progress}
 use Rattle.c_lexer.specs.declared.state.Progress.TheVariants.{More, Whole, Over, Wrong}
 use Rattle.c_lexer.specs.declared.state.Ended.{Ended}
@@ -17,13 +20,16 @@ use Rattle.c_lexer.specs.Bytes.{is_space, is_newline, is_power, is_run_byte, is_
 use Rattle.c_lexer.specs.Numbers.{continues, ends_with_power, integer_of}
 use Rattle.c_lexer.specs.Characters.{Character, Plain, written, written_all, IsCharacter, AreCharacters}
 use Rattle.c_lexer.specs.Marks.{mark_text, mark_at, longer, is_slash, is_dot}
-use Rattle.c_lexer.specs.Pieces.{Piece, Space, Word, Number, Char, Text, Sign, Directive, Line, Block, spelled, text, closes, is_include, Fits, Longest, first_behind, first_behind_all, Good}
+use Rattle.c_lexer.specs.Pieces.{Piece, Space, Word, Number, Char, Text, Sign, Directive, Line, Block, spelled, text, closes, is_include, Fits, IsLine, Longest, first_behind, first_behind_all, Good}
 use Rattle.c_lexer.specs.Faults.{reason_of}
-use Rattle.c_lexer.specs.Machine.{begin, of_mark, after_mark, escape_step, char_held, char_escape, in_text, text_escape, step}
+use Rattle.c_lexer.specs.Machine.{begin, of_mark, after_mark, escape_step, char_held, char_escape, in_text, text_escape, continued_at, end_directive, end_line, closing_step, in_comment, step}
 use Rattle.c_lexer.proofs.MarkLemmas.{longer_text, mark_first, longest_mark, no_dots}
-use Rattle.c_lexer.proofs.PieceLemmas.{Stands, past, character_ends, characters_end, ends, ends_all}
-use Rattle.c_lexer.proofs.Reading.{both_true, digit_power}
-use Rattle.c_lexer.proofs.Fronts.{Front, onward, text_more, good_more, ends_more, first_more, all_more, snoc, past_snoc, Progresses, escape_progresses, written_more, characters_more, Part, Ready, Goes, branch, grown, part_along, stuck_part, part_slice, part_slice_behind}
+use Rattle.c_lexer.proofs.PieceLemmas.{Stands, past, past_is, character_ends, characters_end, ends, ends_all}
+use Rattle.c_lexer.proofs.Truths.{both_true}
+use Rattle.c_lexer.proofs.Lines.{has_no_newline, white_newline, runs_before, runs_to_newline, Continued, continued}
+use Rattle.c_lexer.proofs.Closings.{closes_from, goes_on, closes_on}
+use Rattle.c_lexer.proofs.Reading.{digit_power, two_on}
+use Rattle.c_lexer.proofs.Fronts.{Front, onward, text_more, good_more, ends_more, first_more, all_more, snoc, past_snoc, Progresses, escape_progresses, written_more, characters_more, Part, Ready, StuckAt, Goes, branch, grown, part_along, stuck_part, part_slice, part_slice_behind}
 
 -- ---- reasons
 
@@ -227,11 +233,61 @@ text_goes s b at P ps cs v w i k f Over (c, h) =
     (λ r. characters_more cs c (b ∷ r) (subst (AreCharacters is_text_byte cs) (sym (h.bytes (b ∷ r))) (f (b ∷ r))) (h.is is_text_byte) (h.digits (b ∷ r) (r, refl)))
 text_goes s b at P ps cs v w i k f Wrong h = λ r. stuck_part s at ps 34 (v ++ w) P 4 i (λ q. refl) (b ∷ r)
 
--- ---- comments
+-- ---- comments and directives
 
-star_next : (star : Bool) (b : ℕ) (v : List ℕ) → (star && b == 47) ≡ false → closes star (b ∷ v) ≡ closes (b == 42) v
-star_next star b [] h = h
-star_next star b (d ∷ v) h = rw h
+comment_grows : (s : ℕ) (c : Closing) (b at : ℕ) (P : Front) (ps : List Piece) (w : List ℕ) → Part s at ps (47 ∷ 42 ∷ w) P → ((v : List ℕ) → closes (w ++ v) ≡ closes_from c v) → goes_on c b ≡ true → Ready (InComment s (closing_step c b)) (at + 1) (onward P b)
+comment_grows s c b at P ps w i o g = (ps, w ++ b ∷ [], grown s at ps (47 ∷ 42 ∷ w) b P i, (λ v. ap closes (snoc w b v) ∙ o (b ∷ v) ∙ closes_on c b v g))
+
+comment_goes : (s : ℕ) (c : Closing) (b at : ℕ) (P : Front) (ps : List Piece) (w : List ℕ) → Part s at ps (47 ∷ 42 ∷ w) P → ((v : List ℕ) → closes (w ++ v) ≡ closes_from c v) → Goes (in_comment s c b at) (at + 1) (onward P b)
+comment_goes s closing.Open b at P ps w i o = comment_grows s closing.Open b at P ps w i o refl
+comment_goes s closing.Continued b at P ps w i o = comment_grows s closing.Continued b at P ps w i o refl
+comment_goes s closing.Starred b at P ps w i o =
+    branch (b == 47) _ _ _ _
+    (λ h. finished (Block (w ++ b ∷ [])) s b at P ps (47 ∷ 42 ∷ w) i (λ r. ap (λ (u : List ℕ). 47 ∷ 42 ∷ u) (sym (snoc w b r))) (past_snoc w (s + 1 + 1) b) (o (b ∷ []) ∙ ap (λ (i : ℕ). closes_from closing.Starred (i ∷ [])) (eqb-true b 47 h)) refl (λ r. tt))
+    (λ h. comment_grows s closing.Starred b at P ps w i o (ap not h))
+comment_goes s closing.Joined b at P ps w i o =
+    branch (b == 47) _ _ _ _ (λ h r. stuck_part s at ps 47 (42 ∷ w) P 3 i (λ q. refl) (b ∷ r)) (λ h. comment_grows s closing.Joined b at P ps w i o (ap not h))
+
+-- a line that this newline ends
+line_is : (w : List ℕ) (b : ℕ) → has_no_newline w ≡ true → continued_at w ≡ None → (b == 10) ≡ true → (r : List ℕ) → IsLine w (b ∷ r)
+line_is w b none k h r = subst (λ (i : ℕ). IsLine w (i ∷ r)) (sym (eqb-true b 10 h)) (runs_to_newline w r none k, refl)
+
+-- a line that a `\` continues: no piece begins with that
+line_stops : (p : List ℕ → Piece) (before : List ℕ) → ((w r : List ℕ) → spelled (p w) r ≡ before ++ w ++ r) → ((w : List ℕ) (s : ℕ) → ends (p w) s ≡ past (past s before) w) → ((w r : List ℕ) → IsLine w r → Longest (p w) r)
+    → (s b at : ℕ) (P : Front) (ps : List Piece) (w : List ℕ) (n : ℕ) → Part s at ps (before ++ w) P → has_no_newline w ≡ true → (b == 10) ≡ true → (k : Continued w n) → Fits (first_behind_all P.first ps) (p k.own)
+    → (r : List ℕ) → StuckAt P.base P.first 2 (past s before + n) (P.bytes (b ∷ r))
+line_stops p before spell end longest s b at P ps w n i none h k f r =
+    record {
+      pieces = ps ++ p k.own ∷ [];
+      byte = 92;
+      rest = k.gap ++ 10 ∷ r;
+      spells = i.0 (b ∷ r) ∙ ap (text ps) same ∙ sym (text_more ps (p k.own) (92 ∷ k.gap ++ 10 ∷ r));
+      good = good_more P.first ps (p k.own) (92 ∷ k.gap ++ 10 ∷ r) (subst (Good P.first ps) same (i.1 (b ∷ r))) f (longest k.own _ (runs_before k.own (k.gap ++ 10 ∷ r) (k.line none), white_newline k.gap r k.white));
+      place_is = ends_more ps (p k.own) P.base ∙ ap (ends (p k.own)) i.2 ∙ end k.own s ∙ past_is k.own (past s before) ∙ ap (λ (m : ℕ). past s before + m) k.count;
+      reason_is = refl;
+    }
+  where
+    same : (before ++ w) ++ b ∷ r ≡ spelled (p k.own) (92 ∷ k.gap ++ 10 ∷ r)
+    same =
+        ap (λ (i : ℕ). (before ++ w) ++ i ∷ r) (eqb-true b 10 h) ∙ ap (λ (v : List ℕ). (before ++ v) ++ 10 ∷ r) k.bytes ∙ append_assoc before (k.own ++ 92 ∷ k.gap) (10 ∷ r)
+        ∙ ap (λ (v : List ℕ). before ++ v) (append_assoc k.own (92 ∷ k.gap) (10 ∷ r)) ∙ sym (append_assoc before k.own (92 ∷ k.gap ++ 10 ∷ r)) ∙ sym (spell k.own (92 ∷ k.gap ++ 10 ∷ r))
+
+line_goes : (s end b at : ℕ) (P : Front) (ps : List Piece) (w : List ℕ) → Part s at ps (47 ∷ 47 ∷ w) P → has_no_newline w ≡ true → (b == 10) ≡ true → (o : Option ℕ) → continued_at w ≡ o
+    → Goes (end_line s end (two_on o)) (at + 1) (onward P b)
+line_goes s end b at P ps w i none h None k = line_ended (Line w) s b at P ps (47 ∷ 47 ∷ w) i (λ r. refl) refl tt (line_is w b none k h) h
+line_goes s end b at P ps w i none h (Some n) k =
+    λ r. subst (λ (m : ℕ). StuckAt P.base P.first 2 m (P.bytes (b ∷ r))) (omega arith) (line_stops Line (47 ∷ 47 ∷ []) (λ v q. refl) (λ v m. refl) (λ v q l. l) s b at P ps w n i none h (continued w n k) tt r)
+
+directive_goes : (s end b at : ℕ) (P : Front) (ps : List Piece) (w : List ℕ) → Part s at ps (35 ∷ w) P → first_behind_all P.first ps ≡ true → has_no_newline w ≡ true → (b == 10) ≡ true → (o : Option ℕ) → continued_at w ≡ o
+    → Goes (end_directive s end w o) (at + 1) (onward P b)
+directive_goes s end b at P ps w i first none h None k =
+    branch (is_include w) _ _ _ _ (λ g. line_ended (Directive w) s b at P ps (35 ∷ w) i (λ r. refl) refl (first, g) (line_is w b none k h) h)
+    (λ g r. stuck_part s at ps 35 w P 6 i (λ q. ap (λ (c : Bool). cond c 6 2) first) (b ∷ r))
+directive_goes s end b at P ps w i first none h (Some n) k =
+    let c = continued w n k in
+    branch (is_include (take n w)) _ _ _ _
+    (λ g. line_stops Directive (35 ∷ []) (λ v q. refl) (λ v m. refl) (λ v q l. l) s b at P ps w n i none h c (first, ap is_include (sym (take_at c.own (92 ∷ c.gap) n c.count) ∙ ap (take n) (sym c.bytes)) ∙ g))
+    (λ g r. stuck_part s at ps 35 w P 6 i (λ q. ap (λ (c : Bool). cond c 6 2) first) (b ∷ r))
 
 -- ---- every state
 
@@ -263,14 +319,10 @@ goes t (InText s) at P (ps, cs, v, i, k, f) b rest e = in_text_goes s b at P ps 
 goes t (TextEscape s x) at P (ps, cs, v, w, i, k, f, h) b rest e = text_goes s b at P ps cs v w i k f (escape_step x b) (escape_progresses x w h b)
 goes t (InDirective s end) at P (ps, w, i, first, none) b rest e =
     branch (b == 10) _ _ _ _
-    (λ h. branch (is_include (slice_range t (s + 1) at)) _ _ _ _
-    (λ g. line_ended (Directive w) s b at P ps (35 ∷ w) i (λ r. refl) refl (first, none, ap is_include (sym (part_slice_behind t s at ps 35 w P (b ∷ rest) i e)) ∙ g) (λ r. ap not h) h)
-    (λ g r. stuck_part s at ps 35 w P 6 i (λ q. ap (λ (c : Bool). cond c 6 2) first) (b ∷ r)))
+    (λ h. subst (λ (v : List ℕ). Goes (end_directive s end v (continued_at v)) (at + 1) (onward P b)) (sym (part_slice_behind t s at ps 35 w P (b ∷ rest) i e)) (directive_goes s end b at P ps w i first none h (continued_at w) refl))
     (λ h. (ps, w ++ b ∷ [], grown s at ps (35 ∷ w) b P i, first, all_more (λ c. not (is_newline c)) w b none (ap not h)))
-goes t (InComment s star) at P (ps, w, i, o) b rest e =
-    branch (star && b == 47) _ _ _ _
-    (λ h. finished (Block (w ++ b ∷ [])) s b at P ps (47 ∷ 42 ∷ w) i (λ r. ap (λ (u : List ℕ). 47 ∷ 42 ∷ u) (sym (snoc w b r))) (past_snoc w (s + 1 + 1) b) (o (b ∷ []) ∙ h) refl (λ r. tt))
-    (λ h. (ps, w ++ b ∷ [], grown s at ps (47 ∷ 42 ∷ w) b P i, (λ v. ap (closes false) (snoc w b v) ∙ o (b ∷ v) ∙ star_next star b v h)))
+goes t (InComment s c) at P (ps, w, i, o) b rest e = comment_goes s c b at P ps w i o
 goes t (InLine s end) at P (ps, w, i, none) b rest e =
-    branch (b == 10) _ _ _ _ (λ h. line_ended (Line w) s b at P ps (47 ∷ 47 ∷ w) i (λ r. refl) refl none (λ r. ap not h) h)
+    branch (b == 10) _ _ _ _
+    (λ h. subst (λ (v : List ℕ). Goes (end_line s end (continued_at v)) (at + 1) (onward P b)) (sym (part_slice t s at ps (47 ∷ 47 ∷ w) P (b ∷ rest) i e)) (line_goes s end b at P ps w i none h (continued_at w) refl))
     (λ h. (ps, w ++ b ∷ [], grown s at ps (47 ∷ 47 ∷ w) b P i, all_more (λ c. not (is_newline c)) w b none (ap not h)))

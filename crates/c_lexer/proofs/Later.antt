@@ -1,11 +1,13 @@
 -- No fault lies before the piece that is being read, so none lies where a piece begins.
-use Rattle.std.proofs.Common.{◌≡◌, ◌≤◌, ◌<◌, ◌+◌, ℕ, Bool, true, false, ◌&&◌, ◌==◌, cond, List, [], ◌∷◌, length, Option, Some, None, arith, ap, sym, ◌∙◌}
+use Rattle.std.proofs.Common.{◌≡◌, ◌≤◌, ◌<◌, ◌+◌, ℕ, Bool, true, false, ◌&&◌, ◌==◌, cond, List, [], ◌∷◌, length, Option, Some, None, take, arith, ap, sym, ◌∙◌}
 use Rattle.std.specs.Prelude.{slice_range, is_some}
 use Rattle.std.proofs.lemmas.List.{append-nil}
 use Rattle.c_lexer.specs.declared.mark.Mark.{Mark}
 use Rattle.c_lexer.specs.declared.mark.Mark.TheVariants.{Plus}
 use Rattle.c_lexer.specs.declared.state.State.{State}
 use Rattle.c_lexer.specs.declared.state.State.TheVariants.{Between, InWord, InNumber, InMark, Dots, CharOpened, CharEscape, CharHeld, InText, TextEscape, InDirective, InComment, InLine}
+use Rattle.c_lexer.specs.declared.state.Closing.{Closing}
+use Rattle.c_lexer.specs.declared.state.Closing.TheVariants.{Open, Starred, Continued, Joined}
 use Rattle.c_lexer.specs.declared.state.Progress.{Progress}
 use Rattle.c_lexer.specs.declared.state.Progress.TheVariants.{More, Whole, Over, Wrong}
 use Rattle.c_lexer.specs.declared.state.Ended.{Ended}
@@ -16,7 +18,7 @@ use Rattle.c_lexer.specs.Bytes.{is_space, is_run_byte, is_character_byte}
 use Rattle.c_lexer.specs.Numbers.{integer_of}
 use Rattle.c_lexer.specs.Marks.{mark_text, mark_at, longer, is_slash, is_dot}
 use Rattle.c_lexer.specs.Pieces.{Piece, Space, Word, Number, Char, Text, Sign, Directive, Line, Block, spelled, is_include, Fits, Longest, first_behind}
-use Rattle.c_lexer.specs.Machine.{of_mark, begin, after_mark, escape_step, char_held, char_escape, in_text, text_escape, step, finish, Lexed, Read, Faulty, go_on}
+use Rattle.c_lexer.specs.Machine.{of_mark, begin, after_mark, escape_step, char_held, char_escape, in_text, text_escape, continued_at, end_directive, end_line, in_comment, step, finish, Lexed, Read, Faulty, go_on}
 use Rattle.c_lexer.proofs.PieceLemmas.{ends, ends_is, Stands}
 use Rattle.c_lexer.proofs.Reading.{add_all, scan, kept, read}
 
@@ -91,6 +93,20 @@ text_moves s Whole b at h = same s at h
 text_moves s Over b at h = in_text_moves s b at h
 text_moves s Wrong b at h = self s
 
+directive_moves : (s end at : ℕ) (w : List ℕ) (o : Option ℕ) → s ≤ at → Moves (end_directive s end w o) s (at + 1)
+directive_moves s end at w None h = move (is_include w) _ _ s (at + 1) (beyond s at h) (self s)
+directive_moves s end at w (Some n) h = move (is_include (take n w)) _ _ s (at + 1) (omega arith) (self s)
+
+comment_moves : (s : ℕ) (c : Closing) (b at : ℕ) → s ≤ at → Moves (in_comment s c b at) s (at + 1)
+comment_moves s Open b at h = same s at h
+comment_moves s Starred b at h = move (b == 47) _ _ s (at + 1) (beyond s at h) (same s at h)
+comment_moves s Continued b at h = same s at h
+comment_moves s Joined b at h = move (b == 47) _ _ s (at + 1) (self s) (same s at h)
+
+line_moves : (s end at : ℕ) (o : Option ℕ) → s ≤ at → Moves (end_line s end o) s (at + 1)
+line_moves s end at None h = beyond s at h
+line_moves s end at (Some n) h = omega arith
+
 step_moves : (t : List ℕ) (s : State) (b at : ℕ) → floor s at ≤ at → Moves (step t s b at) (floor s at) (at + 1)
 step_moves t (Between first) b at h = begin_moves first _ b at at h
 step_moves t (InWord s) b at h = move (is_word_byte b) _ _ s (at + 1) (same s at h) (begin_moves false _ b s at h)
@@ -104,10 +120,9 @@ step_moves t (CharEscape s e) b at h = char_moves s (escape_step e b) b at h
 step_moves t (CharHeld s) b at h = char_held_moves s b at h
 step_moves t (InText s) b at h = in_text_moves s b at h
 step_moves t (TextEscape s e) b at h = text_moves s (escape_step e b) b at h
-step_moves t (InDirective s end) b at h =
-    move (b == 10) _ _ s (at + 1) (move (is_include (slice_range t (s + 1) at)) _ _ s (at + 1) (beyond s at h) (self s)) (same s at h)
-step_moves t (InComment s star) b at h = move (star && b == 47) _ _ s (at + 1) (beyond s at h) (same s at h)
-step_moves t (InLine s end) b at h = move (b == 10) _ _ s (at + 1) (beyond s at h) (same s at h)
+step_moves t (InDirective s end) b at h = move (b == 10) _ _ s (at + 1) (directive_moves s end at (slice_range t (s + 1) at) (continued_at (slice_range t (s + 1) at)) h) (same s at h)
+step_moves t (InComment s c) b at h = comment_moves s c b at h
+step_moves t (InLine s end) b at h = move (b == 10) _ _ s (at + 1) (line_moves s end at (continued_at (slice_range t s at)) h) (same s at h)
 
 finish_moves : (t : List ℕ) (s : State) (at : ℕ) → floor s at ≤ at → Moves (finish t s at) (floor s at) (at + 1)
 finish_moves t (InComment s star) at h = self s
@@ -121,8 +136,8 @@ finish_moves t (CharEscape s e) at h = step_moves t (CharEscape s e) 10 at h
 finish_moves t (CharHeld s) at h = step_moves t (CharHeld s) 10 at h
 finish_moves t (InText s) at h = step_moves t (InText s) 10 at h
 finish_moves t (TextEscape s e) at h = step_moves t (TextEscape s e) 10 at h
-finish_moves t (InDirective s end) at h = step_moves t (InDirective s end) 10 at h
-finish_moves t (InLine s end) at h = step_moves t (InLine s end) 10 at h
+finish_moves t (InDirective s end) at h = directive_moves s end at (slice_range t (s + 1) at) None h
+finish_moves t (InLine s end) at h = line_moves s end at None h
 
 up : (a b c : ℕ) → a ≤ b → b ≤ c → a ≤ c
 up a b c h k = omega arith

@@ -1,7 +1,9 @@
 pub mod Bounds
+pub mod Closings
 pub mod Fronts
 pub mod Growth
 pub mod Later
+pub mod Lines
 pub mod MarkLemmas
 pub mod NumberLemmas
 pub mod Order
@@ -9,4 +11,5 @@ pub mod PieceLemmas
 pub mod Reading
 pub mod ScanLemmas
 pub mod Theorem
+pub mod Truths
 pub mod Whole

@@ -1,9 +1,13 @@
 -- A step keeps the state at or before the byte behind it.
-use Rattle.std.proofs.Common.{◌≤◌, ◌+◌, ℕ, Bool, true, false, ◌&&◌, ◌==◌, cond, List, Option, Some, None, arith}
+use Rattle.std.proofs.Common.{◌≤◌, ◌+◌, ℕ, Bool, true, false, ◌&&◌, ◌==◌, cond, List, Option, Some, None, length, take, drop, ◌-◌, ◌≡◌, refl, arith}
+use Rattle.std.proofs.lemmas.List.{length-take}
+use Rattle.std.proofs.Math.Nat.{min-le_left}
 use Rattle.std.specs.Prelude.{is_some, slice_range}
 use Rattle.c_lexer.specs.declared.mark.Mark.{Mark}
 use Rattle.c_lexer.specs.declared.state.State.{State}
 use Rattle.c_lexer.specs.declared.state.State.TheVariants.{Between, InWord, InNumber, InMark, Dots, CharOpened, CharEscape, CharHeld, InText, TextEscape, InDirective, InComment, InLine}
+use Rattle.c_lexer.specs.declared.state.Closing.{Closing}
+use Rattle.c_lexer.specs.declared.state.Closing.TheVariants.{Open, Starred, Continued, Joined}
 use Rattle.c_lexer.specs.declared.state.Progress.{Progress}
 use Rattle.c_lexer.specs.declared.state.Progress.TheVariants.{More, Whole, Over, Wrong}
 use Rattle.c_lexer.specs.declared.state.Ended.{Ended}
@@ -13,7 +17,8 @@ use Rattle.c_lexer.specs.Bytes.{is_space, is_run_byte, is_character_byte}
 use Rattle.c_lexer.specs.Numbers.{integer_of}
 use Rattle.c_lexer.specs.Marks.{mark_at, longer, is_slash, is_dot}
 use Rattle.c_lexer.specs.Pieces.{is_include}
-use Rattle.c_lexer.specs.Machine.{of_mark, begin, after_mark, in_mark, escape_step, char_held, char_escape, in_text, text_escape, step, finish, least, KeepsOrder}
+use Rattle.c_lexer.proofs.Lines.{continued_within}
+use Rattle.c_lexer.specs.Machine.{of_mark, begin, after_mark, in_mark, escape_step, char_held, char_escape, in_text, text_escape, continued_at, end_directive, end_line, in_comment, step, finish, least, KeepsOrder}
 
 either : (c : Bool) (x y : Taken) (at : ℕ) → KeepsOrder at x → KeepsOrder at y → KeepsOrder at (cond c x y)
 either true x y at h k = h
@@ -61,6 +66,24 @@ text_escape_keeps s Whole b at h = omega arith
 text_escape_keeps s Over b at h = in_text_keeps s b at h
 text_escape_keeps s Wrong b at h = omega arith
 
+-- a line is continued within it
+slice_within : (t : List ℕ) (s at n : ℕ) → continued_at (slice_range t s at) ≡ Some n → s ≤ at → n ≤ at - s
+slice_within t s at n k h = let x = continued_within (slice_range t s at) n k in let y = length-take (at - s) (drop s t) in let z = min-le_left (at - s) (length (drop s t)) in omega arith
+
+directive_keeps : (s end at : ℕ) (w : List ℕ) (o : Option ℕ) → ((n : ℕ) → o ≡ Some n → s + 1 + n ≤ at) → s + 1 ≤ at → KeepsOrder at (end_directive s end w o)
+directive_keeps s end at w None f h = either (is_include w) _ _ at (omega arith) (omega arith)
+directive_keeps s end at w (Some n) f h = either (is_include (take n w)) _ _ at (f n refl) (omega arith)
+
+comment_keeps : (s : ℕ) (c : Closing) (b at : ℕ) → s ≤ at → KeepsOrder at (in_comment s c b at)
+comment_keeps s Open b at h = omega arith
+comment_keeps s Starred b at h = either (b == 47) _ _ at (omega arith) (omega arith)
+comment_keeps s Continued b at h = omega arith
+comment_keeps s Joined b at h = either (b == 47) _ _ at (omega arith) (omega arith)
+
+line_keeps : (s end at : ℕ) (o : Option ℕ) → ((n : ℕ) → o ≡ Some n → s + n ≤ at) → s ≤ at → KeepsOrder at (end_line s end o)
+line_keeps s end at None f h = omega arith
+line_keeps s end at (Some n) f h = f n refl
+
 pub step_keeps : (t : List ℕ) (s : State) (b at : ℕ) → least s ≤ at → KeepsOrder at (step t s b at)
 step_keeps t (Between first) b at h = begin_keeps first _ b at
 step_keeps t (InWord s) b at h = either (is_word_byte b) _ _ at (omega arith) (begin_keeps false _ b at)
@@ -73,10 +96,9 @@ step_keeps t (CharEscape s e) b at h = char_escape_keeps s (escape_step e b) b a
 step_keeps t (CharHeld s) b at h = char_held_keeps s b at h
 step_keeps t (InText s) b at h = in_text_keeps s b at h
 step_keeps t (TextEscape s e) b at h = text_escape_keeps s (escape_step e b) b at h
-step_keeps t (InDirective s end) b at h =
-    either (b == 10) _ _ at (either (is_include (slice_range t (s + 1) at)) _ _ at (omega arith) (omega arith)) (omega arith)
-step_keeps t (InComment s star) b at h = either (star && b == 47) _ _ at (omega arith) (omega arith)
-step_keeps t (InLine s end) b at h = either (b == 10) _ _ at (omega arith) (omega arith)
+step_keeps t (InDirective s end) b at h = either (b == 10) _ _ at (directive_keeps s end at (slice_range t (s + 1) at) (continued_at (slice_range t (s + 1) at)) (λ n k. let x = slice_within t (s + 1) at n k h in (let y : s + 1 + n ≤ at = omega arith in y)) h) (omega arith)
+step_keeps t (InComment s c) b at h = comment_keeps s c b at h
+step_keeps t (InLine s end) b at h = either (b == 10) _ _ at (line_keeps s end at (continued_at (slice_range t s at)) (λ n k. let x = slice_within t s at n k h in (let y : s + n ≤ at = omega arith in y)) h) (omega arith)
 
 pub finish_keeps : (t : List ℕ) (s : State) (at : ℕ) → least s ≤ at → KeepsOrder at (finish t s at)
 finish_keeps t (InComment s star) at h = h
@@ -90,5 +112,5 @@ finish_keeps t (CharEscape s e) at h = step_keeps t (CharEscape s e) 10 at h
 finish_keeps t (CharHeld s) at h = step_keeps t (CharHeld s) 10 at h
 finish_keeps t (InText s) at h = step_keeps t (InText s) 10 at h
 finish_keeps t (TextEscape s e) at h = step_keeps t (TextEscape s e) 10 at h
-finish_keeps t (InDirective s end) at h = step_keeps t (InDirective s end) 10 at h
-finish_keeps t (InLine s end) at h = step_keeps t (InLine s end) 10 at h
+finish_keeps t (InDirective s end) at h = directive_keeps s end at (slice_range t (s + 1) at) None (λ n k. absurd cc) h
+finish_keeps t (InLine s end) at h = line_keeps s end at None (λ n k. absurd cc) h

@@ -1,14 +1,18 @@
 -- A text that is spelled by good pieces is read as exactly what they are.
-use Rattle.std.proofs.Common.{◌≡◌, ◌≤◌, ◌+◌, ◌*◌, ℕ, Bool, true, false, not, ◌&&◌, ◌||◌, ◌==◌, nat_le, cond, List, [], ◌∷◌, ◌++◌, length, Option, Some, None, refl, arith, ap, sym, ◌∙◌, subst, zero-add}
+use Rattle.std.proofs.Common.{◌≡◌, ◌≤◌, ◌+◌, ◌*◌, ℕ, Bool, true, false, not, ◌&&◌, ◌||◌, ◌==◌, nat_le, cond, List, [], ◌∷◌, ◌++◌, length, Option, Some, None, refl, arith, ap, sym, ◌∙◌, subst, append_assoc, take, zero-add}
 use Rattle.std.specs.Prelude.{slice_range, is_some}
 use Rattle.std.specs.List.{list_all}
+use Rattle.std.specs.Option.{option_map}
 use Rattle.std.proofs.lemmas.Bool.{eqb-true}
+use Rattle.std.proofs.lemmas.List.{take_at}
 use Rattle.std.proofs.lemmas.Bool.Decides.{nat_tests}
 use Rattle.c_lexer.specs.declared.mark.Mark.{Mark}
 use Rattle.c_lexer.specs.declared.mark.Mark.TheVariants.{OpenBracket, CloseBracket, OpenParenthesis, CloseParenthesis, OpenBrace, CloseBrace, Dot, Arrow, PlusPlus, MinusMinus, Ampersand, Star, Plus, Minus, Tilde, Exclamation, Slash, Percent, ShiftLeft, ShiftRight, Less, Greater, LessEquals, GreaterEquals, EqualsEquals, ExclamationEquals, Caret, Bar, AmpersandAmpersand, BarBar, Question, Colon, Semicolon, Ellipsis, Equals, StarEquals, SlashEquals, PercentEquals, PlusEquals, MinusEquals, ShiftLeftEquals, ShiftRightEquals, AmpersandEquals, CaretEquals, BarEquals, Comma}
 use Rattle.c_lexer.specs.declared.token.TokenKind.TheVariants as k
 use Rattle.c_lexer.specs.declared.state.State.{State}
 use Rattle.c_lexer.specs.declared.state.State.TheVariants.{Between, InWord, InNumber, InMark, Dots, CharOpened, CharEscape, CharHeld, InText, TextEscape, InDirective, InComment, InLine}
+use Rattle.c_lexer.specs.declared.state.Closing.{Closing}
+use Rattle.c_lexer.specs.declared.state.Closing.TheVariants.{Open, Starred}
 use Rattle.c_lexer.specs.declared.state.Escape.{Escape}
 use Rattle.c_lexer.specs.declared.state.Escape.TheVariants.{Backslash, OneOctal, TwoOctal, HexadecimalStart, InHexadecimal}
 use Rattle.c_lexer.specs.declared.state.Progress.{Progress}
@@ -22,11 +26,14 @@ use Rattle.c_lexer.specs.Bytes.{between, is_space, is_newline, is_octal_digit, i
 use Rattle.c_lexer.specs.Numbers.{continues, is_run, ends_with_power, value_from, integer_of}
 use Rattle.c_lexer.specs.Characters.{Character, Plain, Simple, OneDigit, TwoDigits, ThreeDigits, Hexadecimal, written, written_all, IsCharacter, TakesDigits, AreCharacters}
 use Rattle.c_lexer.specs.Marks.{mark_text, mark_at, is_slash, is_dot}
-use Rattle.c_lexer.specs.Pieces.{Piece, Space, Word, Number, Char, Text, Sign, Directive, Line, Block, spelled, text, closes, is_include, has_no_newline, Fits, Begins, Longest, first_behind, first_behind_all, Good, word_kind, span}
-use Rattle.c_lexer.specs.Machine.{begin, of_mark, found, mark, word, escape_step, char_escape, text_escape, line_end, step, Lexed, Read, go_on, run}
+use Rattle.c_lexer.specs.Pieces.{Piece, Space, Word, Number, Char, Text, Sign, Directive, Line, Block, spelled, text, comes_to_newline, ends_line, runs_on, is_include, Fits, Begins, Longest, first_behind, first_behind_all, Good, word_kind, span}
+use Rattle.c_lexer.specs.Machine.{begin, of_mark, found, mark, word, escape_step, char_escape, text_escape, line_end, continued_at, end_directive, end_line, closing_step, step, Lexed, Read, Faulty, go_on, run}
 use Rattle.c_lexer.proofs.MarkLemmas.{none_longer, longer_newline}
 use Rattle.c_lexer.proofs.NumberLemmas.{value_up}
-use Rattle.c_lexer.proofs.PieceLemmas.{past, past_character, past_characters, ends, ends_all, Stands, stands_past, slice_is, stands_behind, end_from}
+use Rattle.c_lexer.proofs.Truths.{both_true, all_of_more, or_first, or_second, not_true, second_of}
+use Rattle.c_lexer.proofs.Lines.{has_no_newline, one_line, no_newline, to_newline, not_continued, continued_there}
+use Rattle.c_lexer.proofs.Closings.{closes_from, goes_on, none_left, closes_on, last_slash, comment_on}
+use Rattle.c_lexer.proofs.PieceLemmas.{past, past_is, stands_along, past_character, past_characters, ends, ends_all, Stands, stands_past, slice_is, stands_behind, end_from}
 
 -- ---- all that is read
 
@@ -56,13 +63,6 @@ digit_power b h = grind (arith, nat_tests)
 octal_simple : (b : ℕ) → is_octal_digit b ≡ true → is_simple_escape b ≡ false
 octal_simple b h = grind (arith, nat_tests)
 
-pub both_true : (a b : Bool) → (a && b) ≡ true → (a ≡ true) × (b ≡ true)
-both_true true b h = (refl, h)
-both_true false b h = absurd cc
-
-pub all_of_more : (f : ℕ → Bool) (b : ℕ) (w : List ℕ) → list_all f (b ∷ w) ≡ true → (f b ≡ true) × (list_all f w ≡ true)
-all_of_more f b w h = both_true (f b) (list_all f w) h
-
 pub cond_true : (c : Bool) (x y : Taken) → c ≡ true → cond c x y ≡ x
 cond_true true x y h = refl
 cond_true false x y h = absurd cc
@@ -70,22 +70,6 @@ cond_true false x y h = absurd cc
 pub cond_false : (c : Bool) (x y : Taken) → c ≡ false → cond c x y ≡ y
 cond_false true x y h = absurd cc
 cond_false false x y h = refl
-
-pub or_first : (a b : Bool) → (a || b) ≡ false → a ≡ false
-or_first true b h = cc
-or_first false b h = refl
-
-pub or_second : (a b : Bool) → (a || b) ≡ false → b ≡ false
-or_second true b h = absurd cc
-or_second false b h = h
-
-pub not_true : (a : Bool) → not a ≡ true → a ≡ false
-not_true true h = cc
-not_true false h = refl
-
-pub not_false : (a : Bool) → not a ≡ false → a ≡ true
-not_false true h = refl
-not_false false h = cc
 
 -- ---- what the next byte ends
 
@@ -248,36 +232,116 @@ mark_run t first Comma at out r = refl
 
 -- ---- comments and directives
 
-line_end_of : (t : List ℕ) (s e at : ℕ) (out : List Ended) (r : List ℕ) → NotFirst (λ b. not (is_newline b)) r → scan t (InLine s e) at out r ≡ scan t (Between false) at (add_all (ended.Comment (span s e)) out) r
-line_end_of t s e at out [] h = refl
-line_end_of t s e at out (b ∷ r) h =
-    let x : b ≡ 10 = eqb-true b 10 (not_false (b == 10) h) in
-    subst (λ (i : ℕ). scan t (InLine s e) at out (i ∷ r) ≡ scan t (Between false) at (add_all (ended.Comment (span s e)) out) (i ∷ r)) (sym x) refl
+-- a line that ends in front of these bytes: with the text, at its newline, or at a `\` that continues it
+line_cases : (P : List ℕ → Type 0) (r : List ℕ) → ends_line r ≡ true → P [] → ((q : List ℕ) → P (10 ∷ q)) → ((g q : List ℕ) → list_all is_space g ≡ true → has_no_newline g ≡ true → P (92 ∷ g ++ 10 ∷ q)) → P r
+line_cases P [] h last newline backslash = last
+line_cases P (b ∷ r) h last newline backslash = go (b == 10) refl
+  where
+    go : (c : Bool) → (b == 10) ≡ c → P (b ∷ r)
+    go true e = subst (λ (i : ℕ). P (i ∷ r)) (sym (eqb-true b 10 e)) (newline r)
+    go false e =
+        let q = both_true (b == 92) (comes_to_newline r) (second_of (b == 10) _ e h) in
+        let k = to_newline r q.1 in
+        subst (λ (i : ℕ). P (i ∷ r)) (sym (eqb-true b 92 q.0)) (subst (λ (v : List ℕ). P (92 ∷ v)) (sym k.bytes) (backslash k.gap k.rest k.white k.line))
 
-line_run : (t w : List ℕ) → has_no_newline w ≡ true → (s e at : ℕ) (out : List Ended) (r : List ℕ) → NotFirst (λ b. not (is_newline b)) r
-    → scan t (InLine s e) at out (w ++ r) ≡ scan t (Between false) (past at w) (add_all (ended.Comment (span s (end_from e at w))) out) r
-line_run t [] h s e at out r l = line_end_of t s e at out r l
-line_run t (b ∷ w) h s e at out r l = let q = all_of_more (λ c. not (is_newline c)) b w h in let x = not_true (b == 10) q.0 in rw x (line_run t w q.1 s (line_end e b at) (at + 1) out r l)
+-- its bytes are passed over
+line_passes : (t w : List ℕ) → has_no_newline w ≡ true → (s e at : ℕ) (out : List Ended) (r : List ℕ) → scan t (InLine s e) at out (w ++ r) ≡ scan t (InLine s (end_from e at w)) (past at w) out r
+line_passes t [] h s e at out r = refl
+line_passes t (b ∷ w) h s e at out r = let q = all_of_more (λ c. not (is_newline c)) b w h in let x = not_true (b == 10) q.0 in rw x (line_passes t w q.1 s (line_end e b at) (at + 1) out r)
 
-directive_end : (t : List ℕ) (s e at : ℕ) (out : List Ended) (r : List ℕ) → is_include (slice_range t (s + 1) at) ≡ true → NotFirst (λ b. not (is_newline b)) r → scan t (InDirective s e) at out r ≡ scan t (Between false) at (add_all (found k.Directive s e) out) r
-directive_end t s e at out [] g h = rw g
-directive_end t s e at out (b ∷ r) g h =
-    let x : b ≡ 10 = eqb-true b 10 (not_false (b == 10) h) in
-    subst (λ (i : ℕ). scan t (InDirective s e) at out (i ∷ r) ≡ scan t (Between false) at (add_all (found k.Directive s e) out) (i ∷ r)) (sym x) (rw g)
+directive_passes : (t w : List ℕ) → has_no_newline w ≡ true → (s e at : ℕ) (out : List Ended) (r : List ℕ) → scan t (InDirective s e) at out (w ++ r) ≡ scan t (InDirective s (end_from e at w)) (past at w) out r
+directive_passes t [] h s e at out r = refl
+directive_passes t (b ∷ w) h s e at out r = let q = all_of_more (λ c. not (is_newline c)) b w h in let x = not_true (b == 10) q.0 in rw x (directive_passes t w q.1 s (line_end e b at) (at + 1) out r)
 
-directive_run : (t w : List ℕ) → has_no_newline w ≡ true → (s e at : ℕ) (out : List Ended) (r : List ℕ) → is_include (slice_range t (s + 1) (past at w)) ≡ true → NotFirst (λ b. not (is_newline b)) r
-    → scan t (InDirective s e) at out (w ++ r) ≡ scan t (Between false) (past at w) (add_all (found k.Directive s (end_from e at w)) out) r
-directive_run t [] h s e at out r g l = directive_end t s e at out r g l
-directive_run t (b ∷ w) h s e at out r g l = let q = all_of_more (λ c. not (is_newline c)) b w h in let x = not_true (b == 10) q.0 in rw x (directive_run t w q.1 s (line_end e b at) (at + 1) out r g l)
+-- what its newline does to it
+line_newline : (t w : List ℕ) (s e at : ℕ) (out : List Ended) (r : List ℕ) (o : Option ℕ) → slice_range t s at ≡ w → continued_at w ≡ o
+    → scan t (InLine s e) at out (10 ∷ r) ≡ go_on add_all (end_line s e o) out (λ z more. run add_all t z (at + 1) more r)
+line_newline t w s e at out r o h k = ap (λ (n : Option ℕ). go_on add_all (end_line s e n) out (λ z more. run add_all t z (at + 1) more r)) (ap continued_at h ∙ k)
 
-pub and_not : (a b : Bool) → (not a && b) ≡ true → (a ≡ false) × (b ≡ true)
-and_not true b h = absurd cc
-and_not false b h = (refl, h)
+directive_newline : (t w : List ℕ) (s e at : ℕ) (out : List Ended) (r : List ℕ) (o : Option ℕ) → slice_range t (s + 1) at ≡ w → continued_at w ≡ o
+    → scan t (InDirective s e) at out (10 ∷ r) ≡ go_on add_all (end_directive s e w o) out (λ z more. run add_all t z (at + 1) more r)
+directive_newline t w s e at out r o h k =
+    ap (λ (v : List ℕ). go_on add_all (end_directive s e v (continued_at v)) out (λ z more. run add_all t z (at + 1) more r)) h
+    ∙ ap (λ (n : Option ℕ). go_on add_all (end_directive s e w n) out (λ z more. run add_all t z (at + 1) more r)) k
 
-block_run : (t w : List ℕ) (star : Bool) → closes star w ≡ true → (s at : ℕ) (out : List Ended) (r : List ℕ) → scan t (InComment s star) at out (w ++ r) ≡ scan t (Between false) (past at w) (add_all (ended.Comment (span s (past at w))) out) r
-block_run t [] star h s at out r = absurd cc
-block_run t (b ∷ []) star h s at out r = rw h
-block_run t (b ∷ d ∷ w) star h s at out r = let x = and_not (star && b == 47) (closes (b == 42) (d ∷ w)) h in let y = x.0 in rw y (block_run t (d ∷ w) (b == 42) x.1 s (at + 1) out r)
+abbrev stopped : ℕ → Lexed (List Ended)
+stopped place = Faulty 2 place
+
+-- two bytes further
+abbrev pub two_on : Option ℕ → Option ℕ
+two_on o = option_map (λ n. n + 1) (option_map (λ n. n + 1) o)
+
+line_reads : (t w : List ℕ) (s : ℕ) (out : List Ended) (r : List ℕ) → runs_on w r ≡ true → ends_line r ≡ true → Stands t s (47 ∷ 47 ∷ w ++ r)
+    → scan t (InLine s (s + 1 + 1)) (s + 1 + 1) out (w ++ r) ≡ scan t (Between false) (past (s + 1 + 1) w) (add_all (ended.Comment (span s (end_from (s + 1 + 1) (s + 1 + 1) w))) out) r
+line_reads t w s out r runs ends stands = line_cases Reads r ends last newline backslash runs stands
+  where
+    Reads : List ℕ → Type 0
+    Reads v =
+        runs_on w v ≡ true → Stands t s (47 ∷ 47 ∷ w ++ v)
+        → scan t (InLine s (s + 1 + 1)) (s + 1 + 1) out (w ++ v) ≡ scan t (Between false) (past (s + 1 + 1) w) (add_all (ended.Comment (span s (end_from (s + 1 + 1) (s + 1 + 1) w))) out) v
+
+    last : Reads []
+    last runs stands = line_passes t w (no_newline w [] runs) s (s + 1 + 1) (s + 1 + 1) out []
+
+    newline : (q : List ℕ) → Reads (10 ∷ q)
+    newline q runs stands =
+        line_passes t w (no_newline w (10 ∷ q) runs) s (s + 1 + 1) (s + 1 + 1) out (10 ∷ q)
+        ∙ line_newline t (47 ∷ 47 ∷ w) s _ _ out q None (slice_is t s (47 ∷ 47 ∷ w) (10 ∷ q) stands) (ap two_on (not_continued w q runs))
+
+    backslash : (g q : List ℕ) → list_all is_space g ≡ true → has_no_newline g ≡ true → Reads (92 ∷ g ++ 10 ∷ q)
+    backslash g q white line runs stands =
+        let all = append_assoc w (92 ∷ g) (10 ∷ q) in
+        let place : s + (length w + 1 + 1) ≡ past (s + 1 + 1) w = (let h = past_is w (s + 1 + 1) in omega arith) in
+        ap (scan t (InLine s (s + 1 + 1)) (s + 1 + 1) out) (sym all)
+        ∙ line_passes t (w ++ 92 ∷ g) (one_line w g (no_newline w _ runs) line) s (s + 1 + 1) (s + 1 + 1) out (10 ∷ q)
+        ∙ line_newline t (47 ∷ 47 ∷ w ++ 92 ∷ g) s _ _ out q (Some (length w + 1 + 1)) (slice_is t s (47 ∷ 47 ∷ w ++ 92 ∷ g) (10 ∷ q) (stands_along t s _ _ (ap (λ (v : List ℕ). 47 ∷ 47 ∷ v) (sym all)) stands)) (ap two_on (continued_there w g white))
+        ∙ ap stopped place
+
+directive_reads : (t w : List ℕ) (s : ℕ) (out : List Ended) (r : List ℕ) → is_include w ≡ true → runs_on w r ≡ true → ends_line r ≡ true → Stands t (s + 1) (w ++ r)
+    → scan t (InDirective s (s + 1)) (s + 1) out (w ++ r) ≡ scan t (Between false) (past (s + 1) w) (add_all (found k.Directive s (end_from (s + 1) (s + 1) w)) out) r
+directive_reads t w s out r include runs ends stands = line_cases Reads r ends last newline backslash runs stands
+  where
+    Reads : List ℕ → Type 0
+    Reads v =
+        runs_on w v ≡ true → Stands t (s + 1) (w ++ v)
+        → scan t (InDirective s (s + 1)) (s + 1) out (w ++ v) ≡ scan t (Between false) (past (s + 1) w) (add_all (found k.Directive s (end_from (s + 1) (s + 1) w)) out) v
+
+    last : Reads []
+    last runs stands =
+        directive_passes t w (no_newline w [] runs) s (s + 1) (s + 1) out []
+        ∙ ap (λ (v : List ℕ). go_on add_all (end_directive s (end_from (s + 1) (s + 1) w) v None) out all_read) (slice_is t (s + 1) w [] stands) ∙ rw include
+
+    newline : (q : List ℕ) → Reads (10 ∷ q)
+    newline q runs stands =
+        directive_passes t w (no_newline w (10 ∷ q) runs) s (s + 1) (s + 1) out (10 ∷ q)
+        ∙ directive_newline t w s _ _ out q None (slice_is t (s + 1) w (10 ∷ q) stands) (not_continued w q runs) ∙ rw include
+
+    backslash : (g q : List ℕ) → list_all is_space g ≡ true → has_no_newline g ≡ true → Reads (92 ∷ g ++ 10 ∷ q)
+    backslash g q white line runs stands =
+        let all = append_assoc w (92 ∷ g) (10 ∷ q) in
+        let place : s + 1 + length w ≡ past (s + 1) w = (let h = past_is w (s + 1) in omega arith) in
+        let own : is_include (take (length w) (w ++ 92 ∷ g)) ≡ true = ap is_include (take_at w (92 ∷ g) (length w) refl) ∙ include in
+        ap (scan t (InDirective s (s + 1)) (s + 1) out) (sym all)
+        ∙ directive_passes t (w ++ 92 ∷ g) (one_line w g (no_newline w _ runs) line) s (s + 1) (s + 1) out (10 ∷ q)
+        ∙ directive_newline t (w ++ 92 ∷ g) s _ _ out q (Some (length w)) (slice_is t (s + 1) (w ++ 92 ∷ g) (10 ∷ q) (stands_along t (s + 1) _ _ (sym all) stands)) (continued_there w g white)
+        ∙ ap (λ (n : Taken). go_on add_all n out (λ z more. run add_all t z (past (s + 1) (w ++ 92 ∷ g) + 1) more q)) (cond_true (is_include (take (length w) (w ++ 92 ∷ g))) (Fault 2 (s + 1 + length w)) (Fault 6 s) own)
+        ∙ ap stopped place
+
+block_run : (t w : List ℕ) (c : Closing) → closes_from c w ≡ true → (s at : ℕ) (out : List Ended) (r : List ℕ) → scan t (InComment s c) at out (w ++ r) ≡ scan t (Between false) (past at w) (add_all (ended.Comment (span s (past at w))) out) r
+block_run t [] c h s at out r = absurd (let y : true ≡ false = sym h ∙ none_left c in cc)
+block_run t (b ∷ w) c h s at out r = go (goes_on c b) refl (λ g. block_run t w (closing_step c b) (sym (closes_on c b w g) ∙ h) s (at + 1) out r)
+  where
+    go : (d : Bool) → goes_on c b ≡ d → (goes_on c b ≡ true → scan t (InComment s (closing_step c b)) (at + 1) out (w ++ r) ≡ scan t (Between false) (past (at + 1) w) (add_all (ended.Comment (span s (past (at + 1) w))) out) r)
+        → scan t (InComment s c) at out (b ∷ w ++ r) ≡ scan t (Between false) (past (at + 1) w) (add_all (ended.Comment (span s (past (at + 1) w))) out) r
+    go true g f = taken t (InComment s c) b at out (w ++ r) _ (comment_on s c b at g) ∙ f g
+    go false g f = here c b w (last_slash c b w g h)
+      where
+        here : (c : Closing) (b : ℕ) (w : List ℕ) → (c ≡ Starred) × (b ≡ 47) × (w ≡ [])
+            → scan t (InComment s c) at out (b ∷ w ++ r) ≡ scan t (Between false) (past (at + 1) w) (add_all (ended.Comment (span s (past (at + 1) w))) out) r
+        here c b w (x, y, z) =
+            subst (λ (d : Closing). scan t (InComment s d) at out (b ∷ w ++ r) ≡ scan t (Between false) (past (at + 1) w) (add_all (ended.Comment (span s (past (at + 1) w))) out) r) (sym x)
+            (subst (λ (i : ℕ). scan t (InComment s Starred) at out (i ∷ w ++ r) ≡ scan t (Between false) (past (at + 1) w) (add_all (ended.Comment (span s (past (at + 1) w))) out) r) (sym y)
+            (subst (λ (v : List ℕ). scan t (InComment s Starred) at out (47 ∷ v ++ r) ≡ scan t (Between false) (past (at + 1) v) (add_all (ended.Comment (span s (past (at + 1) v))) out) r) (sym z) refl))
 
 -- ---- characters
 
@@ -480,12 +544,9 @@ read t first (Number w) h r l at out g = read_number t first w h.0 h.1 at out r 
 read t first (Char c) h r l at out g = character_run false t c at (at + 1) out (39 ∷ r) h (any_quote c r)
 read t first (Text cs) h r l at out g = text_run t cs at (at + 1) out r (text_quote cs r h)
 read t first (Sign m) h r l at out g = mark_run t first m at out r ∙ mark_ends t m at out r l
-read t first (Directive w) h r l at out g =
-    let x = h.0 in
-    let slice = slice_is t (at + 1) w r (stands_past t at (35 ∷ []) (w ++ r) g) in
-    rw x (directive_run t w h.1 at (at + 1) (at + 1) out r (ap is_include slice ∙ h.2) l)
-read t first (Line w) h r l at out g = line_run t w h at (at + 1 + 1) (at + 1 + 1) out r l
-read t first (Block w) h r l at out g = block_run t w false h at (at + 1 + 1) out r
+read t first (Directive w) h r l at out g = let x = h.0 in rw x (directive_reads t w at out r h.1 l.0 l.1 (stands_past t at (35 ∷ []) (w ++ r) g))
+read t first (Line w) h r l at out g = line_reads t w at out r l.0 l.1 g
+read t first (Block w) h r l at out g = block_run t w Open h at (at + 1 + 1) out r
 
 -- what these pieces are, behind this
 abbrev pub gather : List Piece → ℕ → List Ended → List Ended

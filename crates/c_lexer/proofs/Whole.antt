@@ -19,6 +19,7 @@ use Rattle.c_lexer.specs.Pieces.{Piece, Word, Number, Sign, Directive, Line, spe
 use Rattle.c_lexer.specs.Machine.{after_mark, escape_step, char_escape, text_escape, step, finish}
 use Rattle.c_lexer.proofs.MarkLemmas.{mark_last}
 use Rattle.c_lexer.specs.Machine.{Lexed, Read, Faulty, go_on, run}
+use Rattle.c_lexer.proofs.Lines.{runs_last}
 use Rattle.c_lexer.proofs.Reading.{add_all, scan}
 use Rattle.c_lexer.proofs.Fronts.{Front, onward, text_more, good_more, Part, Ready, StuckAt, Goes, stuck_part, part_slice, part_slice_behind}
 use Rattle.c_lexer.proofs.PieceLemmas.{Stands}
@@ -88,10 +89,10 @@ closes_at_end t (InText s) at P (ps, cs, v, i, k, f) e = stuck_part s at ps 34 v
 closes_at_end t (TextEscape s x) at P (ps, cs, v, w, i, k, f, h) e = subst (λ (n : Taken). Closes n P) (sym (text_newline s x at)) (stuck_part s at ps 34 (v ++ w) P 4 i (λ q. refl) [])
 closes_at_end t (InDirective s end) at P (ps, w, i, first, none) e =
     closing (is_include (slice_range t (s + 1) at)) _ _ _
-    (λ g. closed (Directive w) s at P ps (35 ∷ w) i refl (first, none, ap is_include (sym (part_slice_behind t s at ps 35 w P [] i e)) ∙ g) tt)
+    (λ g. closed (Directive w) s at P ps (35 ∷ w) i refl (first, ap is_include (sym (part_slice_behind t s at ps 35 w P [] i e)) ∙ g) (runs_last w none, refl))
     (λ g. stuck_part s at ps 35 w P 6 i (λ q. ap (λ (c : Bool). cond c 6 2) first) [])
 closes_at_end t (InComment s star) at P (ps, w, i, o) e = stuck_part s at ps 47 (42 ∷ w) P 3 i (λ q. refl) []
-closes_at_end t (InLine s end) at P (ps, w, i, none) e = closed (Line w) s at P ps (47 ∷ 47 ∷ w) i refl none tt
+closes_at_end t (InLine s end) at P (ps, w, i, none) e = closed (Line w) s at P ps (47 ∷ 47 ∷ w) i refl tt (runs_last w none, refl)
 
 -- ---- whole texts
 

@@ -1,5 +1,7 @@
 -- What each byte does to the state of reading.
-use Rattle.std.specs.Prelude.{◌+◌, ◌*◌, ◌≤◌, ℕ, Bool, true, false, cond, ◌&&◌, ◌||◌, ◌==◌, nat_le, List, [], ◌∷◌, ◌++◌, Option, Some, None, is_some, slice_range}
+use Rattle.std.specs.Prelude.{◌+◌, ◌*◌, ◌≤◌, ℕ, Bool, true, false, cond, ◌&&◌, ◌||◌, ◌==◌, nat_le, List, [], ◌∷◌, ◌++◌, Option, Some, None, is_some, take, slice_range}
+use Rattle.std.specs.List.{list_all}
+use Rattle.std.specs.Option.{option_map}
 use Rattle.c_lexer.specs.declared.mark.Mark.{Mark}
 use Rattle.c_lexer.specs.declared.mark.Mark.TheVariants.{Ellipsis}
 use Rattle.c_lexer.specs.declared.token.TokenKind.{TokenKind}
@@ -9,6 +11,8 @@ use Rattle.c_lexer.specs.declared.token.Span.{Span}
 use Rattle.c_lexer.specs.declared.token.Scanned.{Scanned}
 use Rattle.c_lexer.specs.declared.state.State.{State}
 use Rattle.c_lexer.specs.declared.state.State.TheVariants.{Between, InWord, InNumber, InMark, Dots, CharOpened, CharEscape, CharHeld, InText, TextEscape, InDirective, InComment, InLine}
+use Rattle.c_lexer.specs.declared.state.Closing.{Closing}
+use Rattle.c_lexer.specs.declared.state.Closing.TheVariants as closing
 use Rattle.c_lexer.specs.declared.state.Escape.{Escape}
 use Rattle.c_lexer.specs.declared.state.Escape.TheVariants.{Backslash, OneOctal, TwoOctal, HexadecimalStart, InHexadecimal}
 use Rattle.c_lexer.specs.declared.state.Progress.{Progress}
@@ -54,7 +58,7 @@ after_mark start None b at = begin false (found k.Mark start at) b at
 
 abbrev pub in_mark : ℕ → Mark → ℕ → ℕ → Taken
 in_mark start m b at =
-    cond (is_slash m && b == 42) (Go (InComment start false) ends.Nothing)
+    cond (is_slash m && b == 42) (Go (InComment start closing.Open) ends.Nothing)
     (cond (is_slash m && b == 47) (Go (InLine start (at + 1)) ends.Nothing)
     (cond (is_dot m && b == 46) (Go (Dots start) ends.Nothing)
     (after_mark start (longer m b) b at)))
@@ -92,27 +96,73 @@ text_escape start Wrong b at = Fault 4 start
 abbrev pub line_end : ℕ → ℕ → ℕ → ℕ
 line_end end b at = cond (b == 13) end (at + 1)
 
-abbrev pub step : List ℕ → State → ℕ → ℕ → Taken
-step t (Between first) b at = begin first ends.Nothing b at
-step t (InWord start) b at = cond (is_word_byte b) (Go (InWord start) ends.Nothing) (begin false (word t start at) b at)
-step t (InNumber start power) b at =
+-- of a line without its newline: how many bytes stand before the `\` by which it is continued
+abbrev pub continued_at : List ℕ → Option ℕ
+continued_at [] = None
+continued_at (b ∷ w) = cond (b == 92 && list_all is_space w) (Some 0) (option_map (λ n. n + 1) (continued_at w))
+
+-- the end of a directive, by its bytes behind the `#` and where a `\` continues them
+abbrev pub end_directive : ℕ → ℕ → List ℕ → Option ℕ → Taken
+end_directive start end w None = cond (is_include w) (Go (Between true) (found k.Directive start end)) (Fault 6 start)
+end_directive start end w (Some n) = cond (is_include (take n w)) (Fault 2 (start + 1 + n)) (Fault 6 start)
+
+-- the end of a comment `//`, by where a `\` continues it
+abbrev pub end_line : ℕ → ℕ → Option ℕ → Taken
+end_line start end None = Go (Between true) (ends.Comment (span start end))
+end_line start end (Some n) = Fault 2 (start + n)
+
+-- what a byte other than `*` and a closing `/` does to what may close a comment
+abbrev pub closing_else : Closing → ℕ → Closing
+closing_else closing.Open b = closing.Open
+closing_else closing.Starred b = cond (b == 92) closing.Continued closing.Open
+closing_else closing.Continued b = cond (b == 10) closing.Joined (cond (is_space b) closing.Continued closing.Open)
+closing_else closing.Joined b = cond (b == 92) closing.Continued closing.Open
+
+abbrev pub closing_step : Closing → ℕ → Closing
+closing_step c b = cond (b == 42) closing.Starred (closing_else c b)
+
+abbrev pub in_comment : ℕ → Closing → ℕ → ℕ → Taken
+in_comment start closing.Starred b at = cond (b == 47) (Go (Between false) (ends.Comment (span start (at + 1)))) (Go (InComment start (closing_step closing.Starred b)) ends.Nothing)
+in_comment start closing.Joined b at = cond (b == 47) (Fault 3 start) (Go (InComment start (closing_step closing.Joined b)) ends.Nothing)
+in_comment start c b at = Go (InComment start (closing_step c b)) ends.Nothing
+
+abbrev pub in_word : List ℕ → ℕ → ℕ → ℕ → Taken
+in_word t start b at = cond (is_word_byte b) (Go (InWord start) ends.Nothing) (begin false (word t start at) b at)
+
+abbrev pub in_number : List ℕ → ℕ → Bool → ℕ → ℕ → Taken
+in_number t start power b at =
     cond (is_run_byte power b) (Go (InNumber start (is_power b)) ends.Nothing)
     (cond (is_some (integer_of (slice_range t start at))) (begin false (found k.Number start at) b at) (Fault 5 start))
-step t (InMark start m) b at = in_mark start m b at
-step t (Dots start) b at = cond (b == 46) (Go (InMark start Ellipsis) ends.Nothing) (begin false (ends.Dots (mark start (start + 1)) (mark (start + 1) at)) b at)
-step t (CharOpened start) b at =
+
+abbrev pub in_dots : ℕ → ℕ → ℕ → Taken
+in_dots start b at = cond (b == 46) (Go (InMark start Ellipsis) ends.Nothing) (begin false (ends.Dots (mark start (start + 1)) (mark (start + 1) at)) b at)
+
+abbrev pub char_opened : ℕ → ℕ → Taken
+char_opened start b =
     cond (b == 92) (Go (CharEscape start Backslash) ends.Nothing)
     (cond (is_character_byte b) (Go (CharHeld start) ends.Nothing) (Fault 4 start))
+
+abbrev pub in_directive : List ℕ → ℕ → ℕ → ℕ → ℕ → Taken
+in_directive t start end b at =
+    cond (b == 10) (end_directive start end (slice_range t (start + 1) at) (continued_at (slice_range t (start + 1) at))) (Go (InDirective start (line_end end b at)) ends.Nothing)
+
+abbrev pub in_line : List ℕ → ℕ → ℕ → ℕ → ℕ → Taken
+in_line t start end b at = cond (b == 10) (end_line start end (continued_at (slice_range t start at))) (Go (InLine start (line_end end b at)) ends.Nothing)
+
+abbrev pub step : List ℕ → State → ℕ → ℕ → Taken
+step t (Between first) b at = begin first ends.Nothing b at
+step t (InWord start) b at = in_word t start b at
+step t (InNumber start power) b at = in_number t start power b at
+step t (InMark start m) b at = in_mark start m b at
+step t (Dots start) b at = in_dots start b at
+step t (CharOpened start) b at = char_opened start b
 step t (CharEscape start e) b at = char_escape start (escape_step e b) b at
 step t (CharHeld start) b at = char_held start b at
 step t (InText start) b at = in_text start b at
 step t (TextEscape start e) b at = text_escape start (escape_step e b) b at
-step t (InDirective start end) b at =
-    cond (b == 10) (cond (is_include (slice_range t (start + 1) at)) (Go (Between true) (found k.Directive start end)) (Fault 6 start))
-    (Go (InDirective start (line_end end b at)) ends.Nothing)
-step t (InComment start star) b at =
-    cond (star && b == 47) (Go (Between false) (ends.Comment (span start (at + 1)))) (Go (InComment start (b == 42)) ends.Nothing)
-step t (InLine start end) b at = cond (b == 10) (Go (Between true) (ends.Comment (span start end))) (Go (InLine start (line_end end b at)) ends.Nothing)
+step t (InDirective start end) b at = in_directive t start end b at
+step t (InComment start c) b at = in_comment start c b at
+step t (InLine start end) b at = in_line t start end b at
 
 -- the least place at which a state can stand: behind the first byte of a directive or of two dots, else from its first byte on
 abbrev pub least : State → ℕ
@@ -127,7 +177,7 @@ least (CharHeld start) = start
 least (InText start) = start
 least (TextEscape start e) = start
 least (InDirective start end) = start + 1
-least (InComment start star) = start
+least (InComment start c) = start
 least (InLine start end) = start
 
 -- a step keeps the state at or before the byte behind it, and no fault lies behind its byte
@@ -135,9 +185,11 @@ abbrev pub KeepsOrder : ℕ → Taken → Type 0
 KeepsOrder at (Go s ended) = least s ≤ at + 1
 KeepsOrder at (Fault reason place) = place ≤ at
 
--- the end of the text ends what a newline would end, and no comment
+-- the end of the text ends what a newline would end, but no comment `/*`, and it continues no line
 abbrev pub finish : List ℕ → State → ℕ → Taken
-finish t (InComment start star) at = Fault 3 start
+finish t (InComment start c) at = Fault 3 start
+finish t (InDirective start end) at = end_directive start end (slice_range t (start + 1) at) None
+finish t (InLine start end) at = end_line start end None
 finish t s at = step t s 10 at
 
 abbrev pub add_token : Ended → List Token → List Token

@@ -1,6 +1,6 @@
 -- A text as a list of pieces: white space, comments and tokens, each the longest at its byte.
 use Rattle.std.specs.Prelude.{◌≡◌, ◌<◌, ◌≤◌, ◌+◌, ℕ, Bool, true, false, cond, not, ◌&&◌, ◌||◌, ◌==◌, List, [], ◌∷◌, ◌++◌, length, drop, codes, slice_index, nat_eq, is_some}
-use Rattle.std.specs.List.{list_all, prefix_len, starts_with}
+use Rattle.std.specs.List.{prefix_len, starts_with}
 use Rattle.c_lexer.specs.declared.mark.Mark.{Mark}
 use Rattle.c_lexer.specs.declared.mark.Mark.TheVariants.{Slash}
 use Rattle.c_lexer.specs.declared.token.TokenKind.{TokenKind}
@@ -26,7 +26,7 @@ pub data Piece : Type 0 where
   Directive : List ℕ → Piece
   -- behind its `//`, likewise
   Line : List ℕ → Piece
-  -- behind its `/*`, to the first `*/`
+  -- behind its `/*`, to its `*/`
   Block : List ℕ → Piece
 
 -- the bytes of a piece, and then these
@@ -45,11 +45,36 @@ abbrev pub text : List Piece → List ℕ → List ℕ
 text [] r = r
 text (p ∷ ps) r = spelled p (text ps r)
 
--- the first `*/` is at the end; the flag says that a `*` stands directly before these bytes
-abbrev pub closes : Bool → List ℕ → Bool
-closes star [] = false
-closes star (b ∷ []) = star && b == 47
-closes star (b ∷ c ∷ w) = not (star && b == 47) && closes (b == 42) (c ∷ w)
+-- nothing but white space stands before the next newline
+abbrev pub comes_to_newline : List ℕ → Bool
+comes_to_newline [] = false
+comes_to_newline (b ∷ r) = is_newline b || (is_space b && comes_to_newline r)
+
+-- a line ends here: with the text, at its newline, or at a `\` by which it is continued
+abbrev pub ends_line : List ℕ → Bool
+ends_line [] = true
+ends_line (b ∷ r) = is_newline b || (b == 92 && comes_to_newline r)
+
+-- a line ends nowhere in these bytes, in front of those
+abbrev pub runs_on : List ℕ → List ℕ → Bool
+runs_on [] r = true
+runs_on (b ∷ w) r = not (ends_line (b ∷ w ++ r)) && runs_on w r
+
+-- continued line ends, possibly none, and then a `/`; each is a `\`, white space and a newline, and the
+-- flag says that these bytes begin between the two
+abbrev pub slash_follows : Bool → List ℕ → Bool
+slash_follows inside [] = false
+slash_follows false (b ∷ r) = b == 47 || (b == 92 && slash_follows true r)
+slash_follows true (b ∷ r) = cond (is_newline b) (slash_follows false r) (is_space b && slash_follows true r)
+
+abbrev pub is_single : List ℕ → Bool
+is_single (b ∷ []) = true
+is_single _ = false
+
+-- `*/` stands at the end, and before it no `*` and `/` with nothing, or continued line ends alone, between them
+abbrev pub closes : List ℕ → Bool
+closes [] = false
+closes (b ∷ w) = cond (b == 42 && slash_follows false w) (is_single w) (closes w)
 
 -- the word `include`, which no letter, digit or `_` follows
 abbrev pub begins_with_include : List ℕ → Bool
@@ -59,9 +84,6 @@ begins_with_include w = starts_with nat_eq w (codes "include") && not (is_word_b
 abbrev pub is_include : List ℕ → Bool
 is_include w = begins_with_include (drop (prefix_len is_blank w) w)
 
-abbrev pub has_no_newline : List ℕ → Bool
-has_no_newline w = list_all (λ b. not (is_newline b)) w
-
 -- what a piece is; `first` says that nothing but white space stands before it on its line
 abbrev pub Fits : Bool → Piece → Type 0
 Fits first (Space b) = is_space b ≡ true
@@ -70,21 +92,25 @@ Fits first (Number w) = (is_run w ≡ true) × (is_some (integer_of w) ≡ true)
 Fits first (Char c) = IsCharacter is_character_byte c
 Fits first (Text cs) = AreCharacters is_text_byte cs (34 ∷ [])
 Fits first (Sign m) = Unit {0}
-Fits first (Directive w) = (first ≡ true) × (has_no_newline w ≡ true) × (is_include w ≡ true)
-Fits first (Line w) = has_no_newline w ≡ true
-Fits first (Block w) = closes false w ≡ true
+Fits first (Directive w) = (first ≡ true) × (is_include w ≡ true)
+Fits first (Line w) = Unit {0}
+Fits first (Block w) = closes w ≡ true
 
 -- the text begins with these bytes
 abbrev pub Begins : List ℕ → List ℕ → Type 0
 Begins w t = (r : List ℕ) × (t ≡ w ++ r)
+
+-- the line goes on through these bytes and ends where those begin
+abbrev pub IsLine : List ℕ → List ℕ → Type 0
+IsLine w r = (runs_on w r ≡ true) × (ends_line r ≡ true)
 
 -- the piece is the longest there: it ends where no byte goes on with it
 abbrev pub Longest : Piece → List ℕ → Type 0
 Longest (Word w) r = NotFirst is_word_byte r
 Longest (Number w) r = NotFirst (is_run_byte (ends_with_power false w)) r
 Longest (Sign m) r = ((n : Mark) → Begins (mark_text n) (mark_text m ++ r) → length (mark_text n) ≤ length (mark_text m)) × (m ≡ Slash → NotFirst (λ b. b == 42 || b == 47) r)
-Longest (Directive w) r = NotFirst (λ b. not (is_newline b)) r
-Longest (Line w) r = NotFirst (λ b. not (is_newline b)) r
+Longest (Directive w) r = IsLine w r
+Longest (Line w) r = IsLine w r
 Longest _ r = Unit {0}
 
 -- behind a piece, whether nothing but white space stands before on the line

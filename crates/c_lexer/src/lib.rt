@@ -6,6 +6,7 @@
 
 mod byte;
 mod directive;
+mod line;
 mod mark;
 mod number;
 mod place;

@@ -20,10 +20,23 @@ pub(crate) enum State {
     TextEscape(u64, Escape),
     /// With the place where the directive ends, should only carriage returns follow on its line.
     InDirective(u64, u64),
-    /// The flag says that the last byte is a `*` that may close the comment.
-    InComment(u64, bool),
+    /// With whether a `/` would close the comment.
+    InComment(u64, Closing),
     /// With the place where the comment ends, should only carriage returns follow on its line.
     InLine(u64, u64),
+}
+
+/// What stands before a byte in a comment `/*`, which a `/` may close.
+#[derive(Clone, Copy)]
+pub(crate) enum Closing {
+    /// No `*` that a `/` could close the comment with.
+    Open,
+    /// A `*`.
+    Starred,
+    /// A `*`, continued line ends, possibly none, a `\` and white space without a newline.
+    Continued,
+    /// A `*` and continued line ends: with the lines joined, a `/` would close the comment.
+    Joined,
 }
 
 /// An escape that has begun. Octal digits are kept as they stand.

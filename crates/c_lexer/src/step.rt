@@ -1,4 +1,5 @@
-ghost use Rattle.std.specs.Prelude.{◌≡◌, ◌<◌, ◌≤◌, ◌+◌, length, [], true, false};
+ghost use Rattle.std.specs.Prelude.{◌≡◌, ◌<◌, ◌≤◌, ◌+◌, length, true, false};
+ghost use Rattle.std.specs.Option.{IfSome};
 ghost use Rattle.c_lexer.specs.Machine as spec;
 ghost use Rattle.c_lexer.specs.Characters.{three_digits};
 
@@ -7,9 +8,10 @@ use crate::byte::{
     is_simple_escape, is_space,
 };
 use crate::directive::is_include;
+use crate::line::continued_at;
 use crate::mark::{Mark, longer, mark_at};
 use crate::number::integer_constant;
-use crate::state::{Ended, Escape, Progress, State, Taken};
+use crate::state::{Closing, Ended, Escape, Progress, State, Taken};
 use crate::token::{Span, Token, TokenKind};
 use crate::word::word_kind;
 use c_types::{is_digit, is_letter, is_word_byte};
@@ -56,7 +58,7 @@ fn in_word(text: &[u8], start: u64, byte: u8, at: u64) -> Taken
     requires order { start ≤ at }
     requires within { at ≤ length text.now }
     requires room { at < 18446744073709551615 }
-    ensures { result ≡ spec.step text.now (State.InWord start) byte at }
+    ensures { result ≡ spec.in_word text.now start byte at }
 {
     if is_word_byte(byte) {
         return Taken::Go(State::InWord(start), Ended::Nothing);
@@ -69,7 +71,7 @@ fn in_number(text: &[u8], start: u64, power: bool, byte: u8, at: u64) -> Taken
     requires order { start ≤ at }
     requires within { at ≤ length text.now }
     requires room { at < 18446744073709551615 }
-    ensures { result ≡ spec.step text.now (State.InNumber start power) byte at }
+    ensures { result ≡ spec.in_number text.now start power byte at }
 {
     if is_run_byte(power, byte) {
         return Taken::Go(State::InNumber(start, is_power(byte)), Ended::Nothing);
@@ -86,7 +88,7 @@ fn in_mark(start: u64, mark: Mark, byte: u8, at: u64) -> Taken
     ensures { result ≡ spec.in_mark start mark byte at }
 {
     if matches!(mark, Mark::Slash) && byte == b'*' {
-        return Taken::Go(State::InComment(start, false), Ended::Nothing);
+        return Taken::Go(State::InComment(start, Closing::Open), Ended::Nothing);
     }
     if matches!(mark, Mark::Slash) && byte == b'/' {
         return Taken::Go(State::InLine(start, at + 1), Ended::Nothing);
@@ -110,7 +112,7 @@ fn mark(start: u64, end: u64) -> Token
 fn in_dots(start: u64, byte: u8, at: u64) -> Taken
     requires order { start < at }
     requires room { at < 18446744073709551615 }
-    ensures { result ≡ spec.step [] (State.Dots start) byte at }
+    ensures { result ≡ spec.in_dots start byte at }
 {
     if byte == b'.' {
         return Taken::Go(State::InMark(start, Mark::Ellipsis), Ended::Nothing);
@@ -183,7 +185,7 @@ fn hexadecimal_step(value: u8, byte: u8) -> Progress
 }
 
 fn char_opened(start: u64, byte: u8) -> Taken
-    ensures { result ≡ spec.step [] (State.CharOpened start) byte 0 }
+    ensures { result ≡ spec.char_opened start byte }
 {
     if byte == b'\\' {
         Taken::Go(State::CharEscape(start, Escape::Backslash), Ended::Nothing)
@@ -248,50 +250,106 @@ fn line_end(end: u64, byte: u8, at: u64) -> u64
     if byte == b'\r' { end } else { at + 1 }
 }
 
+fn end_directive(start: u64, end: u64, line: &[u8], continued: Option<usize>) -> Taken
+    requires within { IfSome continued (λ count. count ≤ length line.now) }
+    requires room { start + 1 + length line.now < 18446744073709551616 }
+    ensures { result ≡ spec.end_directive start end line.now continued }
+{
+    let own = match continued {
+        Some(count) => &line[..count],
+        None => line,
+    };
+    if !is_include(own) {
+        return Taken::Fault(6, start);
+    }
+    match continued {
+        Some(count) => Taken::Fault(2, start + 1 + count as u64),
+        None => Taken::Go(
+            State::Between(true),
+            found(TokenKind::Directive, start, end),
+        ),
+    }
+}
+
 fn in_directive(text: &[u8], start: u64, end: u64, byte: u8, at: u64) -> Taken
     requires order { start < at }
     requires within { at ≤ length text.now }
     requires room { at < 18446744073709551615 }
-    ensures { result ≡ spec.step text.now (State.InDirective start end) byte at }
+    ensures { result ≡ spec.in_directive text.now start end byte at }
 {
     if byte != b'\n' {
         let end = line_end(end, byte, at);
         return Taken::Go(State::InDirective(start, end), Ended::Nothing);
     }
-    if is_include(&text[start as usize + 1..at as usize]) {
-        Taken::Go(
-            State::Between(true),
-            found(TokenKind::Directive, start, end),
-        )
-    } else {
-        Taken::Fault(6, start)
+    let line = &text[start as usize + 1..at as usize];
+    end_directive(start, end, line, continued_at(line))
+}
+
+fn closing_step(closing: Closing, byte: u8) -> Closing
+    ensures { result ≡ spec.closing_step closing byte }
+{
+    if byte == b'*' {
+        return Closing::Starred;
+    }
+    match closing {
+        Closing::Open => Closing::Open,
+        Closing::Starred | Closing::Joined => {
+            if byte == b'\\' {
+                Closing::Continued
+            } else {
+                Closing::Open
+            }
+        }
+        Closing::Continued => {
+            if byte == b'\n' {
+                Closing::Joined
+            } else if is_space(byte) {
+                Closing::Continued
+            } else {
+                Closing::Open
+            }
+        }
     }
 }
 
-fn in_comment(start: u64, star: bool, byte: u8, at: u64) -> Taken
+fn in_comment(start: u64, closing: Closing, byte: u8, at: u64) -> Taken
     requires { at < 18446744073709551615 }
-    ensures { result ≡ spec.step [] (State.InComment start star) byte at }
+    ensures { result ≡ spec.in_comment start closing byte at }
 {
-    if star && byte == b'/' {
-        let end = at + 1;
-        Taken::Go(State::Between(false), Ended::Comment(Span { start, end }))
-    } else {
-        Taken::Go(State::InComment(start, byte == b'*'), Ended::Nothing)
-    }
-}
-
-fn in_line(start: u64, end: u64, byte: u8, at: u64) -> Taken
-    requires { at < 18446744073709551615 }
-    ensures { result ≡ spec.step [] (State.InLine start end) byte at }
-{
-    if byte == b'\n' {
-        Taken::Go(State::Between(true), Ended::Comment(Span { start, end }))
-    } else {
-        Taken::Go(
-            State::InLine(start, line_end(end, byte, at)),
+    match closing {
+        Closing::Starred if byte == b'/' => {
+            let end = at + 1;
+            Taken::Go(State::Between(false), Ended::Comment(Span { start, end }))
+        }
+        Closing::Joined if byte == b'/' => Taken::Fault(3, start),
+        _ => Taken::Go(
+            State::InComment(start, closing_step(closing, byte)),
             Ended::Nothing,
-        )
+        ),
     }
+}
+
+fn end_line(start: u64, end: u64, continued: Option<usize>) -> Taken
+    requires { IfSome continued (λ count. start + count < 18446744073709551616) }
+    ensures { result ≡ spec.end_line start end continued }
+{
+    match continued {
+        Some(count) => Taken::Fault(2, start + count as u64),
+        None => Taken::Go(State::Between(true), Ended::Comment(Span { start, end })),
+    }
+}
+
+fn in_line(text: &[u8], start: u64, end: u64, byte: u8, at: u64) -> Taken
+    requires order { start ≤ at }
+    requires within { at ≤ length text.now }
+    requires room { at < 18446744073709551615 }
+    ensures { result ≡ spec.in_line text.now start end byte at }
+{
+    if byte != b'\n' {
+        let end = line_end(end, byte, at);
+        return Taken::Go(State::InLine(start, end), Ended::Nothing);
+    }
+    end_line(start, end, continued_at(&text[start as usize..at as usize]))
 }
 
 /// What the byte at this place does to the state.
@@ -318,12 +376,13 @@ pub(crate) fn step(text: &[u8], state: State, byte: u8, at: u64) -> Taken
             text_escape(start, escape_step(escape, byte), byte, at)
         }
         State::InDirective(start, end) => in_directive(text, start, end, byte, at),
-        State::InComment(start, star) => in_comment(start, star, byte, at),
-        State::InLine(start, end) => in_line(start, end, byte, at),
+        State::InComment(start, closing) => in_comment(start, closing, byte, at),
+        State::InLine(start, end) => in_line(text, start, end, byte, at),
     }
 }
 
-/// What the end of the text does to the state: what a newline would, but that it closes no comment.
+/// What the end of the text does to the state: what a newline would, but that it closes no comment `/*`
+/// and continues no line.
 pub(crate) fn finish(text: &[u8], state: State, at: u64) -> Taken
     requires order { spec.least state ≤ at }
     requires within { at ≤ length text.now }
@@ -333,6 +392,10 @@ pub(crate) fn finish(text: &[u8], state: State, at: u64) -> Taken
 {
     match state {
         State::InComment(start, _) => Taken::Fault(3, start),
+        State::InDirective(start, end) => {
+            end_directive(start, end, &text[start as usize + 1..at as usize], None)
+        }
+        State::InLine(start, end) => end_line(start, end, None),
         other => step(text, other, b'\n', at),
     }
 }

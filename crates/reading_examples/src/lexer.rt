@@ -68,8 +68,19 @@ fn reads_quotes_lines_and_comments(rt: HostRuntime) -> Result<(), Fail> {
 }
 
 #[test]
+fn reads_comments_with_backslashes(rt: HostRuntime) -> Result<(), Fail> {
+    let art = comments(rt.alloc(), b"/*\\\n * art\n\\*/")?;
+    let want = [Span { start: 0, end: 14 }];
+    assert_eq!(rt; art.as_slice(), want.as_slice());
+    let last = comments(rt.alloc(), b"// a \\")?;
+    let want = [Span { start: 0, end: 6 }];
+    assert_eq!(rt; last.as_slice(), want.as_slice());
+    Ok(())
+}
+
+#[test]
 fn refuses_at_the_first_fault(rt: HostRuntime) -> Result<(), Fail> {
-    let faults: [(&[u8], ReadStop); 8] = [
+    let faults: [(&[u8], ReadStop); 12] = [
         (b"x #\n", refused(2, 1, 3, 2)),
         (b"\n\n  @ 08", refused(2, 3, 3, 4)),
         (b"int x; /*", refused(3, 1, 8, 7)),
@@ -78,6 +89,10 @@ fn refuses_at_the_first_fault(rt: HostRuntime) -> Result<(), Fail> {
         (b"0xE+1", refused(5, 1, 1, 0)),
         (b"9223372036854775808", refused(5, 1, 1, 0)),
         (b" \t#define", refused(6, 1, 3, 2)),
+        (b"// a \\\nint x;", refused(2, 1, 6, 5)),
+        (b"int a; // b\\\t\r\nc", refused(2, 1, 12, 11)),
+        (b"#include <a> \\\n", refused(2, 1, 14, 13)),
+        (b"/* a *\\\n/ x */", refused(3, 1, 1, 0)),
     ];
     for (text, want) in faults {
         match tokens(rt.alloc(), text) {

@@ -1,6 +1,6 @@
 use Rattle.std.proofs.Common.{◌≡◌, ◌≤◌, ℕ, List, sym, subst}
 use Rattle.c_lexer.specs.declared.state.State.{State}
-use Rattle.c_lexer.specs.declared.state.State.TheVariants.{Between, InWord, InNumber, InMark, Dots, InDirective}
+use Rattle.c_lexer.specs.declared.state.State.TheVariants.{Between, InWord, InNumber, InMark, Dots, InDirective, InLine}
 use Rattle.c_lexer.specs.declared.state.Taken.{Taken}
 use Rattle.c_lexer.specs.Machine.{least, step, KeepsOrder}
 use Rattle.c_lexer.proofs.Order.{step_keeps}
@@ -27,3 +27,6 @@ returns-in-Dots-clause-order c = kept c.args.text.now (Dots c.in-Dots.start) _ c
 pub returns-in-InDirective-clause-order : goal.returns-in-InDirective-clause-order
 returns-in-InDirective-clause-order c =
     kept c.args.text.now (InDirective c.in-InDirective.start c.in-InDirective.end) _ c.args.byte _ _ c.in-InDirective.is c.requires.order c.in_directive.ensures
+
+pub returns-in-InLine-clause-order : goal.returns-in-InLine-clause-order
+returns-in-InLine-clause-order c = kept c.args.text.now (InLine c.in-InLine.start c.in-InLine.end) _ c.args.byte _ _ c.in-InLine.is c.requires.order c.in_line.ensures
