@@ -315,16 +315,16 @@ fn bracketed(
     if !is_close(class) {
         return Ok(Given::Refused);
     }
-    match found {
-        Found::Lone(v) => {
-            let parts = three(alloc, bracket, v, leaf(alloc, at))?;
-            stack.push(Frame::Done(target(first, at + 1, parts)))?;
-        }
-        Found::Whole(v) => {
-            let parts = three(alloc, bracket, v, leaf(alloc, at))?;
-            stack.push(Frame::Done(postfix(first, at + 1, parts, alloc)?))?;
-        }
-    }
+    let done = match found {
+        Found::Lone(v) => target(first, at + 1, three(alloc, bracket, v, leaf(alloc, at))?),
+        Found::Whole(v) => postfix(
+            first,
+            at + 1,
+            three(alloc, bracket, v, leaf(alloc, at))?,
+            alloc,
+        )?,
+    };
+    stack.push(Frame::Done(done))?;
     Ok(Given::Taken(UNCOUNTED))
 }
 

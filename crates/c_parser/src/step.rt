@@ -250,17 +250,11 @@ pub fn step(
         Frame::WantUnary => at_unary(alloc, stack, class, at),
         Frame::WantTarget => at_target(alloc, stack, class, at),
         Frame::WantArgument => at_argument(alloc, stack, class, at),
-        Frame::Opened(first, bracket, next) => {
-            at_opened(alloc, stack, first, bracket, next, class, at)
-        }
-        Frame::VoidSeen(first, bracket, word) => {
-            at_type_end(alloc, stack, first, bracket, word, class, at)
-        }
+        Frame::Opened(first, mark, next) => at_opened(alloc, stack, first, mark, next, class, at),
+        Frame::VoidSeen(from, mark, word) => at_type_end(alloc, stack, from, mark, word, class, at),
         Frame::Named(first, name) => at_named(alloc, stack, first, name, class, at),
         Frame::TargetNamed(first, name) => at_index(alloc, stack, first, name, class, at),
-        Frame::Called(first, name, bracket) => {
-            at_called(alloc, stack, first, name, bracket, class, at)
-        }
+        Frame::Called(first, name, mark) => at_called(alloc, stack, first, name, mark, class, at),
         Frame::Texts(first, parts) => at_texts(alloc, stack, first, parts, class, at),
         Frame::Done(found) => give(alloc, stack, found, class, at),
         Frame::Rest(form) => resumed(alloc, stack, form, class, at),

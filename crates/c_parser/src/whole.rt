@@ -86,7 +86,10 @@ fn accepted(mut stack: Stack<Frame>) -> Option<Syntax>
     match stack.pop() {
         Some(frame) => match file_in(frame) {
             Ok(whole) => Some(whole),
-            Err(_) => None,
+            Err(other) => {
+                drop(other);
+                None
+            }
         },
         None => None,
     }
