@@ -18,21 +18,21 @@ pub(crate) fn is_blank(byte: u8) -> bool
 }
 
 /// Whether the byte is an octal digit.
-pub(crate) fn is_octal_digit(byte: u8) -> bool
+pub fn is_octal_digit(byte: u8) -> bool
     ensures { result ≡ bytes.is_octal_digit byte }
 {
     b'0' <= byte && byte <= b'7'
 }
 
 /// Whether the byte is a hexadecimal digit.
-pub(crate) fn is_hexadecimal_digit(byte: u8) -> bool
+pub fn is_hexadecimal_digit(byte: u8) -> bool
     ensures { result ≡ bytes.is_hexadecimal_digit byte }
 {
     is_digit(byte) || (b'A' <= byte && byte <= b'F') || (b'a' <= byte && byte <= b'f')
 }
 
 /// What a digit of any base counts.
-pub(crate) fn digit_value(byte: u8) -> u8
+pub fn digit_value(byte: u8) -> u8
     ensures value { result ≡ bytes.digit_value byte }
     ensures bound { result < 256 }
 {
