@@ -8,4 +8,4 @@ mod token_class;
 
 pub use class::Class;
 pub use syntax::{Production, Syntax};
-pub use token_class::class_of;
+pub use token_class::{class_of, keyword_class};

@@ -54,7 +54,8 @@ fn jump_word(word: &[u8]) -> Class
     }
 }
 
-fn keyword_class(word: &[u8]) -> Class
+/// The class of a keyword, and `Foreign` for every other word.
+pub fn keyword_class(word: &[u8]) -> Class
     ensures { result ≡ spec.keyword_class word.now }
 {
     if is_same(b"if", word) {

@@ -52,7 +52,7 @@ pub firsts-map : (word : ℕ → List ℕ) (xs : List Syntax) → map (λ (q : P
 firsts-map word [] = refl
 firsts-map word (x ∷ xs) = λ i. part-first word x i ∷ firsts-map word xs i
 
-take-whole : (n : ℕ) (xs : List Syntax) → length xs ≤ n → take n xs ≡ xs
+pub take-whole : (n : ℕ) (xs : List Syntax) → length xs ≤ n → take n xs ≡ xs
 take-whole zero [] h = refl
 take-whole zero (x ∷ xs) h = absurd (omega arith)
 take-whole (suc n) [] h = refl

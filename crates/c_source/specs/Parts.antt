@@ -191,24 +191,24 @@ declared ps size value = record { name = first_at ps 0; size = size; value = val
 -- declarator = name [ "[" [ conditional ] "]" ] [ "=" initialiser ]
 abbrev pub declarator : List Part → Declarator
 declarator ps =
-    cond (count_is ps 1) (declared ps NoSize NoValue)
-    (cond (count_is ps 3) (cond (token_at ps 2) (declared ps Unsized NoValue) (declared ps NoSize (initialiser_in (at ps 2).content)))
+    cond (count_is ps 3) (cond (token_at ps 2) (declared ps Unsized NoValue) (declared ps NoSize (initialiser_in (at ps 2).content)))
     (cond (count_is ps 4) (declared ps (Sized (term_at ps 2)) NoValue)
     (cond (count_is ps 5) (declared ps Unsized (initialiser_in (at ps 4).content))
-    (declared ps (Sized (term_at ps 2)) (initialiser_in (at ps 5).content)))))
+    (cond (count_is ps 6) (declared ps (Sized (term_at ps 2)) (initialiser_in (at ps 5).content))
+    (declared ps NoSize NoValue))))
 
 abbrev pub declarator_in : Content → Option Declarator
 declarator_in (OfDeclarator d) = Some d
 declarator_in _ = None
 
 -- local = [ "const" ] number-type declarator { "," declarator } ";"
+abbrev pub no_declaration : Declaration
+no_declaration = record { constant = false; words = []; names = [] }
+
 abbrev pub declaration : List Part → Declaration
 declaration ps =
     let constant = token_at ps 0 in
-    record { constant = constant; words = (at ps (cond constant 1 0)).firsts; names = gathered declarator_in ps }
-
-abbrev pub no_declaration : Declaration
-no_declaration = record { constant = false; words = []; names = [] }
+    cond (nat_le 2 (length ps)) (record { constant = constant; words = (at ps (cond constant 1 0)).firsts; names = gathered declarator_in ps }) no_declaration
 
 abbrev pub declaration_in : Content → Declaration
 declaration_in (OfLocal d) = d
@@ -263,24 +263,31 @@ start_of ps =
 abbrev pub behind_start : List Part → List Part
 behind_start ps = cond (is_local (at ps 0).rule) (drop 1 ps) (behind_optional ps)
 
--- "for" "(" start [ expression ] ";" [ expression ] ")" statement, behind its bracket
+-- a `for` behind its bracket: start [ expression ] ";" [ expression ] ")" statement
 abbrev pub for_of : List Part → Statement
 for_of ps =
     let behind_first = behind_start ps in
     let behind_test = behind_optional behind_first in
-    For (start_of ps) (optional_at behind_first 0) (optional_at behind_test 0) (body_at (behind_optional behind_test) 0)
+    let behind_third = behind_optional behind_test in
+    cond (nat_le 1 (length behind_third)) (For (start_of ps) (optional_at behind_first 0) (optional_at behind_test 0) (body_at behind_third 0)) items.Unread
 
 abbrev pub if_of : List Part → Statement
-if_of ps = cond (count_is ps 5) (If (term_at ps 2) (body_at ps 4)) (IfElse (term_at ps 2) (body_at ps 4) (body_at ps 6))
+if_of ps =
+    cond (count_is ps 5) (If (term_at ps 2) (body_at ps 4))
+    (cond (count_is ps 7) (IfElse (term_at ps 2) (body_at ps 4) (body_at ps 6)) items.Unread)
+
+-- a statement of so many parts
+abbrev pub of_parts : ℕ → List Part → Statement → Statement
+of_parts n ps s = cond (count_is ps n) s items.Unread
 
 -- a statement that begins with a token of this class
 abbrev pub keyword_statement : Class → List Part → Statement
 keyword_statement c.If ps = if_of ps
-keyword_statement c.While ps = While (term_at ps 2) (body_at ps 4)
-keyword_statement c.Do ps = DoWhile (body_at ps 1) (term_at ps 4)
-keyword_statement c.For ps = for_of (drop 2 ps)
-keyword_statement c.Switch ps = Switch (term_at ps 2) (body_at ps 4)
-keyword_statement c.Goto ps = Goto (first_at ps 1)
+keyword_statement c.While ps = of_parts 5 ps (While (term_at ps 2) (body_at ps 4))
+keyword_statement c.Do ps = of_parts 7 ps (DoWhile (body_at ps 1) (term_at ps 4))
+keyword_statement c.For ps = cond (nat_le 2 (length ps)) (for_of (drop 2 ps)) items.Unread
+keyword_statement c.Switch ps = of_parts 5 ps (Switch (term_at ps 2) (body_at ps 4))
+keyword_statement c.Goto ps = of_parts 3 ps (Goto (first_at ps 1))
 keyword_statement c.Break ps = Break
 keyword_statement c.Continue ps = Continue
 keyword_statement c.Return ps = Return (optional_at ps 1)
@@ -291,7 +298,8 @@ abbrev pub other_statement : Part → Statement
 other_statement q = elim q.content [ OfBlock xs ↦ Block (Braces q.first q.after xs) | OfTerm form ↦ Evaluate (At q.first form) | _ ↦ items.Unread ]
 
 abbrev pub plain_statement : (ℕ → List ℕ) → List Part → Statement
-plain_statement word ps = cond (token_at ps 0) (keyword_statement (keyword_class (word (first_at ps 0))) ps) (other_statement (at ps 0))
+plain_statement word [] = items.Unread
+plain_statement word (q ∷ qs) = cond (is_token q.rule) (keyword_statement (keyword_class (word q.first)) (q ∷ qs)) (other_statement q)
 
 abbrev pub statement_in : Part → Plain
 statement_in q = elim q.content [ OfPlain s ↦ From q.first q.after s | _ ↦ From q.first q.after items.Unread ]
@@ -309,7 +317,7 @@ items_in (q ∷ qs) = cond (is_token q.rule) (items_in qs) (items.Then (item_in 
 
 -- enumerator = name [ "=" conditional ]
 abbrev pub enumerator : List Part → Enumerator
-enumerator ps = record { name = first_at ps 0; value = cond (count_is ps 1) None (Some (term_at ps 2)) }
+enumerator ps = record { name = first_at ps 0; value = cond (count_is ps 3) (Some (term_at ps 2)) None }
 
 abbrev pub enumerator_in : Content → Option Enumerator
 enumerator_in (OfEnumerator e) = Some e
@@ -355,12 +363,16 @@ abbrev pub function_of : Bool → List Part → Function
 function_of static ps =
     record { static = static; words = result_words (at ps 0); name = first_at ps 1; parameters = parameters_in (at ps 3).content; body = block_in (at ps 5); counted = greatest ps }
 
-abbrev pub function : List Part → Function
-function ps = cond (count_is ps 7) (function_of true (drop 1 ps)) (function_of false ps)
+abbrev pub function : List Part → tops.Form
+function ps =
+    cond (count_is ps 7) (Defines (function_of true (drop 1 ps)))
+    (cond (count_is ps 6) (Defines (function_of false ps)) tops.Unread)
 
 -- [ "static" ] local
 abbrev pub globals : List Part → tops.Form
-globals ps = cond (token_at ps 0) (Globals true (declaration_in (at ps 1).content)) (Globals false (declaration_in (at ps 0).content))
+globals ps =
+    cond (count_is ps 2) (Globals true (declaration_in (at ps 1).content))
+    (cond (count_is ps 1) (Globals false (declaration_in (at ps 0).content)) tops.Unread)
 
 abbrev pub top_in : Part → Top
 top_in q = elim q.content [ OfTop form ↦ tops.From q.first q.after form | Leaf ↦ tops.From q.first q.after Line | _ ↦ tops.From q.first q.after tops.Unread ]
@@ -390,7 +402,7 @@ content word p.Param first after ps = OfParameter (parameter first ps)
 content word p.Params first after ps = OfParameters (gathered parameter_in ps)
 content word p.Enum first after ps = OfTop (Enum (gathered enumerator_in ps))
 content word p.Declaration first after ps = OfTop (globals ps)
-content word p.Function first after ps = OfTop (Defines (function ps))
+content word p.Function first after ps = OfTop (function ps)
 content word p.File first after ps = OfFile (map top_in ps)
 
 abbrev pub part_layer : (ℕ → List ℕ) → Syntax-F Part → Part

@@ -2,14 +2,29 @@
 //! from the syntax of a derivation.
 #![tactic(auto)]
 
+mod declarations;
 mod decode;
 mod decoding;
 mod layer;
+mod statements;
+mod tops;
 mod type_words;
 mod words;
 
+pub use declarations::{
+    DeclarationLayer, DeclaratorLayer, InitialiserLayer, SizeLayer, declaration_layer,
+    declarator_layer, initialiser_layer,
+};
 pub use decode::{add_decoded, character, is_character};
 pub use decoding::Decoding;
 pub use layer::{Layer, first_token, layer_of};
+pub use statements::{
+    BodyLayer, ItemLayer, LabelLayer, StartLayer, StatementLayer, body_layer, has_label,
+    item_layer, label_layer, statement_layer,
+};
+pub use tops::{
+    EnumeratorLayer, FunctionLayer, ParameterLayer, TopLayer, block_layer, enumerator_layer,
+    parameter_layer, top_layer, tops_of,
+};
 pub use type_words::kind_of;
 pub use words::Words;
