@@ -1,0 +1,4 @@
+pub mod Arguments
+pub mod ConstantForms
+pub mod Lookups
+pub mod Walks
