@@ -25,3 +25,4 @@ pub mod TextItems
 pub mod Text
 pub mod Rebuilt
 pub mod Jumps
+pub mod Conversions

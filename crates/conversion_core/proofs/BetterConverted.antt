@@ -11,7 +11,7 @@ use Rattle.jump_core.specs.Better.{LeAll, le_for, Better}
 use Rattle.move_core.proofs.Orders.{follow_refl, all_refl}
 use Rattle.move_core.proofs.Cores.{one_le}
 use Rattle.move_core.proofs.BetterLists.{better_refl, better_join, better_one, better_if, better_while, better_do, better_block, BetterSections, better_section, sections_better, better_switch}
-use Rattle.conversion_core.specs.Conversions.{jump_tree, source_tree, lone_goto, conditional_goto, convert, convert_item, convert_sections}
+use Rattle.c_tree.specs.Conversions.{jump_tree, source_tree, lone_goto, conditional_goto, convert, convert_item, convert_sections}
 
 -- behind an Arm stands its Leap: the way lands
 leap_lands : (l : ℕ) (w : Follow) → before (one (Leap l)) w l ≡ Lands

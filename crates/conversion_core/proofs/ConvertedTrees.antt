@@ -22,7 +22,7 @@ use Rattle.c_tree.specs.Rebuilt.{rebuilt_section}
 use Rattle.c_tree.proofs.TreeLaws.{tree-Evaluate, tree-Return, tree-If, tree-While, tree-Do, tree-For, tree-Switch, tree-Block, tree-Local, tree-Break, tree-Continue, tree-Goto, tree-Mark, tree-Arm, tree-Leap, tree-Land, tree-Arrival, tree-Note, trees-none, trees-more, trees-append, sections-none, sections-more}
 use Rattle.c_tree.proofs.ExpressionLaws.{test-Source, test-On, test-Off, test-AndOff, test-OrOn}
 use Rattle.guard_vars.specs.Conversion.{Converted, Jump, Others, items_of, jump, source, lone_jump, conditional_jump, converted_layer, converted_item, converted_section, converted_list}
-use Rattle.conversion_core.specs.Conversions.{jump_tree, source_tree, lone_goto, conditional_goto, convert, convert_item, convert_sections}
+use Rattle.c_tree.specs.Conversions.{jump_tree, source_tree, lone_goto, conditional_goto, convert, convert_item, convert_sections}
 
 abbrev IsNoGoto : Tree → Type 0
 IsNoGoto (Plain.Goto l) = ⊥

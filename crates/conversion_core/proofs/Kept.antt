@@ -9,7 +9,7 @@ use Rattle.c_tree.specs.Slots.{CaseSlots, ItemSlots}
 use Rattle.c_tree.specs.Labels.{ItemLabels}
 use Rattle.c_tree.specs.Changed.{one}
 use Rattle.c_tree.proofs.KeptLemmas.{everywhere_join}
-use Rattle.conversion_core.specs.Conversions.{jump_tree, source_tree, lone_goto, conditional_goto, convert, convert_item, convert_sections}
+use Rattle.c_tree.specs.Conversions.{jump_tree, source_tree, lone_goto, conditional_goto, convert, convert_item, convert_sections}
 
 -- a fact that the items of a conversion have, where those of the list have it
 pub record IsKeptByConversion (P : Tree → Type 0) : Type 0 where

@@ -11,7 +11,7 @@ use Rattle.guard_vars.specs.Conversion.{converted, converted_list}
 use Rattle.jump_meaning.specs.Runs.{BehaveTheSame}
 use Rattle.jump_meaning.specs.Steady.{IsSteady}
 use Rattle.jump_core.specs.Better.{Better}
-use Rattle.conversion_core.specs.Conversions.{convert}
+use Rattle.c_tree.specs.Conversions.{convert}
 
 -- one flat function, whose conversion is well made, is converted; all else is equal
 pub data OneFunctionConverted : List Top → List Top → Type 0 where
