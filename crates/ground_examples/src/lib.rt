@@ -1,7 +1,9 @@
-//! Numbers and ports on worked examples. This crate holds tests alone, so that what they call is not
+//! Numbers, ports and the demo text on worked examples. This crate holds tests alone, so that what they call is not
 //! proved twice for them.
 #![tactic(auto)]
 
+#[cfg(test)]
+mod demo;
 #[cfg(test)]
 mod numbers;
 #[cfg(test)]
