@@ -1,0 +1,9 @@
+//! The report of the moves: written, and read back. Its text is defined in move_records/specs/Report.
+#![tactic(auto)]
+
+mod line;
+mod read;
+mod write;
+
+pub use read::{ReportStop, read_report};
+pub use write::{report_to, write_report};
