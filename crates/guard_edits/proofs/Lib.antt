@@ -1,0 +1,5 @@
+pub mod Wraps
+pub mod Places
+pub mod Nests
+pub mod Pairs
+pub mod Chosen
