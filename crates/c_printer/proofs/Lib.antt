@@ -1,4 +1,3 @@
-pub mod Progress
 pub mod Lists
 pub mod Nodes
 pub mod ItemTexts

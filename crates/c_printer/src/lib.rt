@@ -4,7 +4,6 @@
 mod declarations;
 mod expressions;
 mod gap;
-mod growing;
 mod items;
 mod pieces;
 mod shape;
@@ -12,6 +11,5 @@ mod spelling;
 mod statements;
 mod tops;
 mod whole;
-mod writer;
 
 pub use whole::{print, print_to};

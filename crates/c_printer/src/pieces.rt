@@ -2,9 +2,10 @@
 
 ghost use Rattle.std.specs.Prelude.{◌≡◌, Option};
 ghost use Rattle.c_tree.specs.TextPieces.{suffix as the_suffix, escaped, space, newline, indentation, word, punctuator, spaced, comma, number, character, literal, verbatim};
-ghost use Rattle.c_printer.specs.Writing.{Gives, Prints};
+ghost use Rattle.byte_writer.specs.Writing.{Gives};
+ghost use Rattle.c_printer.specs.Writing.{Prints};
 
-use crate::writer::Output;
+use byte_writer::Output;
 use c_types::IntKind;
 use itoa::Buffer;
 

@@ -3,10 +3,9 @@ ghost use Rattle.rg_ports.specs.Count.{Rose};
 ghost use Rattle.rg_ports.specs.Written.{more, FrontWritten};
 ghost use Rattle.c_tree.specs.Text.{text_of};
 
-use crate::growing::Growing;
 use crate::tops::put_program;
-use crate::writer::Writer;
 use arrayvec::ArrayVec;
+use byte_writer::{Growing, Writer};
 use c_tree::Program;
 use c_types::{Bytes, List, MOST, Memory};
 use rg_ports::{Failed, Sink};

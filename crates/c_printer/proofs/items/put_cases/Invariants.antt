@@ -1,7 +1,8 @@
 use Rattle.std.proofs.Common.{ℕ, List, drop, map}
 use Rattle.c_tree.specs.TextPieces.{Piece, joined}
 use Rattle.c_tree.specs.TextItems.{case_line}
-use Rattle.c_printer.specs.Writing.{Start, StandsBefore}
+use Rattle.byte_writer.specs.Writing.{Start}
+use Rattle.c_printer.specs.Writing.{StandsBefore}
 use Rattle.c_printer.proofs.items.put_cases.Given as goal
 
 abbrev pub invariant-loop-i : goal.invariant-loop-i
