@@ -1,0 +1,15 @@
+pub mod ExitsLeft
+pub mod LiveGotos
+pub mod Hopless
+pub mod Converting
+pub mod Arrived
+pub mod Made
+pub mod Stand
+pub mod WellMade
+pub mod Relabelled
+pub mod Numbered
+pub mod SlotsKept
+pub mod Instance
+pub mod NoLabels
+pub mod Sourced
+pub mod Unscattered
