@@ -1,0 +1,9 @@
+use Rattle.std.proofs.Common.{◌≡◌, drop, max}
+use Rattle.c_source.specs.ItemViews.{labels_of}
+use Rattle.c_source.specs.Views.{words_of}
+use Rattle.c_statements.specs.Measures.{longest_label}
+use Rattle.c_statements.proofs.longest.longest_label.Given as goal
+
+abbrev pub invariant-loop-x : goal.invariant-loop-x
+invariant-loop-x l =
+    max l.longest (longest_label (words_of l.words) (labels_of (words_of l.words) (drop l.x-index l.nodes))) ≡ longest_label (words_of l.words) (labels_of (words_of l.words) l.nodes)

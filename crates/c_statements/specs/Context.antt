@@ -1,0 +1,72 @@
+-- What is known at a place of a function's body.
+use Rattle.std.specs.Prelude.{ℕ, suc, Bool, true, false, cond, List, [], ◌∷◌, Option, map}
+use Rattle.std.specs.Str.{bytes_eq}
+use Rattle.c_types.specs.declared.kinds.IntKind.{IntKind}
+use Rattle.c_tree.specs.declared.tree.Slot.{Slot}
+use Rattle.c_tree.specs.declared.tree.Item.{Item}
+use Rattle.c_tree.specs.declared.tree.Item as item
+use Rattle.c_kinds.specs.Scopes.{Env, Scope}
+
+-- ---- places of Notes
+
+-- Where a Note stands: directly before the element that begins with a token, at the end of the list that
+-- begins with one, first in the section that begins with one, or at the end of the file.
+pub data Anchor : Type 0 where
+  Before : ℕ → Anchor
+  AtEnd : ℕ → Anchor
+  AtSection : ℕ → Anchor
+  Last : Anchor
+
+-- ---- the whole function
+
+pub record Context : Type 0 where
+  -- the words of the tokens
+  pub word : ℕ → List ℕ
+  -- the comments of a place, in order
+  pub notes : Anchor → List (List ℕ)
+  -- the function's labels, each once, in text order
+  pub labels : List (List ℕ)
+  pub result : Option IntKind
+
+abbrev pub notes_at : Context → Anchor → List Item
+notes_at ctx anchor = map item.Note (ctx.notes anchor)
+
+-- the number of a label, and behind all of them that of one that the function doesn't have
+abbrev pub number_in : List (List ℕ) → List ℕ → ℕ
+number_in [] name = 0
+number_in (l ∷ ls) name = cond (bytes_eq name l) 0 (suc (number_in ls name))
+
+abbrev pub has_label : List (List ℕ) → List ℕ → Bool
+has_label [] name = false
+has_label (l ∷ ls) name = cond (bytes_eq name l) true (has_label ls name)
+
+-- ---- a place in it
+
+-- the scopes around it, and the slots that are declared before it
+pub record Walk : Type 0 where
+  pub scopes : List Scope
+  pub slots : List Slot
+
+abbrev pub env_at : Context → Walk → Env
+env_at ctx w = record { word = ctx.word; scopes = w.scopes }
+
+-- into a scope of its own, and out of it: the slots stay
+abbrev pub enter : Walk → Walk
+enter w = record { scopes = [] ∷ w.scopes; slots = w.slots }
+
+abbrev pub leave : Walk → Walk → Walk
+leave outer inner = record { scopes = outer.scopes; slots = inner.slots }
+
+-- the constructs around it
+pub record Around : Type 0 where
+  pub loop : Bool
+  pub switch : Bool
+
+abbrev pub no_construct : Around
+no_construct = record { loop = false; switch = false }
+
+abbrev pub in_loop : Around → Around
+in_loop around = record { loop = true; switch = around.switch }
+
+abbrev pub in_switch : Around → Around
+in_switch around = record { loop = around.loop; switch = true }

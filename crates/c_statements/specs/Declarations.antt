@@ -1,0 +1,176 @@
+-- Declared variables (ISO/IEC 9899:2011, 6.7): what they are, their slots, their initialisers, and the violations.
+use Rattle.std.specs.Prelude.{ℕ, ℤ, pos, Bool, true, false, cond, ◌&&◌, ◌||◌, nat_le, nat_lt, List, [], ◌∷◌, ◌++◌, map, Option, Some, None, length}
+use Rattle.c_types.specs.declared.kinds.IntKind.{IntKind}
+use Rattle.c_types.specs.declared.kinds.IntKind.TheVariants.{Int}
+use Rattle.c_tree.specs.declared.tree.Slot.{Slot}
+use Rattle.c_tree.specs.declared.tree.Item.{Item}
+use Rattle.c_tree.specs.declared.tree.Item as item
+use Rattle.c_tree.specs.declared.tree.Node as node
+use Rattle.c_tree.specs.declared.tree.Expression.{Expression}
+use Rattle.c_source.specs.Terms.{Term}
+use Rattle.c_source.specs.Items.{Size, NoSize, Unsized, Sized, Initialiser, NoValue, OneValue, ValueList, Declarator, Declaration}
+use Rattle.c_source.specs.Words.{kind_of}
+use Rattle.c_kinds.specs.declared.binding.Shape.{Shape}
+use Rattle.c_kinds.specs.declared.binding.Binding.TheVariants.{Local}
+use Rattle.c_kinds.specs.declared.typed.Valued.{Valued}
+use Rattle.c_kinds.specs.Scopes.{Env, Faults, fault_if, bind, bind_fault}
+use Rattle.c_kinds.specs.Values.{expression_of, expression, value_of}
+use Rattle.c_kinds.specs.Constants.{constant_of}
+use Rattle.c_kinds.specs.Typing.{typed, faults, used, constant_faults}
+use Rattle.c_statements.specs.Context.{Context, Walk, env_at}
+
+-- ---- expressions of declarations and statements
+
+-- in the place of an expression with a violation
+abbrev pub placeholder : Expression
+placeholder = expression_of (Some Int) (node.Number (pos 0))
+
+abbrev pub or_placeholder : Option Valued → Expression
+or_placeholder (Some v) = expression v
+or_placeholder None = placeholder
+
+-- an expression of which the value is used
+abbrev pub value_at : Env → Term → Expression
+value_at env t = or_placeholder (value_of (typed env t))
+
+abbrev pub constant_or_placeholder : Option (Expression × ℤ) → Expression
+constant_or_placeholder (Some c) = c.0
+constant_or_placeholder None = placeholder
+
+abbrev pub constant_at : Env → Term → Expression
+constant_at env t = constant_or_placeholder (constant_of (typed env t))
+
+abbrev pub value_faults : Env → Term → Faults → Faults
+value_faults env t vs = used env t (faults env t vs)
+
+abbrev pub each_faults : (Term → Faults → Faults) → List Term → Faults → Faults
+each_faults k [] vs = vs
+each_faults k (t ∷ ts) vs = each_faults k ts (k t vs)
+
+-- ---- lengths
+
+-- a number, an array of so many cells, or an array of which the length has a violation
+pub data Extent : Type 0 where
+  One : Extent
+  Many : ℕ → Extent
+  Unclear : Extent
+
+-- the lengths that an array can have
+abbrev pub in_bounds : ℤ → Option ℕ
+in_bounds (pos n) = cond (nat_le 1 n && nat_le n 65536) (Some n) None
+in_bounds _ = None
+
+abbrev pub of_length : Option ℕ → Extent
+of_length (Some n) = Many n
+of_length None = Unclear
+
+abbrev pub written_extent : Option (Expression × ℤ) → Extent
+written_extent (Some c) = of_length (in_bounds c.1)
+written_extent None = Unclear
+
+-- an array without a length has that of its list
+abbrev pub listed_extent : Initialiser → Extent
+listed_extent (ValueList ts) = Many (length ts)
+listed_extent _ = Unclear
+
+abbrev pub extent : Env → Size → Initialiser → Extent
+extent env NoSize value = One
+extent env Unsized value = listed_extent value
+extent env (Sized t) value = written_extent (constant_of (typed env t))
+
+abbrev pub cells_of : Extent → Option ℕ
+cells_of One = None
+cells_of (Many n) = Some n
+cells_of Unclear = Some 1
+
+abbrev pub is_array : Size → Bool
+is_array NoSize = false
+is_array _ = true
+
+-- ---- bad arrays and initialisers
+
+-- a constant length that no array can have
+abbrev pub is_out_of_bounds : Option (Expression × ℤ) → Bool
+is_out_of_bounds (Some c) = elim (in_bounds c.1) [ Some n ↦ false | None ↦ true ]
+is_out_of_bounds None = false
+
+abbrev pub is_bad_length : Env → Size → Initialiser → Bool
+is_bad_length env NoSize value = false
+is_bad_length env Unsized (ValueList ts) = nat_lt 65536 (length ts)
+is_bad_length env Unsized value = true
+is_bad_length env (Sized t) value = is_out_of_bounds (constant_of (typed env t))
+
+-- more initialisers than cells, or a long array of a block that has initialisers
+abbrev pub is_bad_list : Bool → Extent → ℕ → Bool
+is_bad_list local One given = true
+is_bad_list local (Many n) given = nat_lt n given || (local && nat_lt 1024 n)
+is_bad_list local Unclear given = false
+
+abbrev pub is_bad_value : Bool → Extent → Initialiser → Bool
+is_bad_value local One (OneValue t) = false
+is_bad_value local _ (OneValue t) = true
+is_bad_value local x (ValueList ts) = is_bad_list local x (length ts)
+is_bad_value local x NoValue = false
+
+abbrev pub is_bad_array : Bool → Env → Declarator → Bool
+is_bad_array local env d = is_bad_length env d.size d.value || is_bad_value local (extent env d.size d.value) d.value
+
+abbrev pub size_faults : Env → Size → Faults → Faults
+size_faults env (Sized t) vs = constant_faults env t vs
+size_faults env _ vs = vs
+
+-- ---- initialisers
+
+abbrev pub initial : (Term → Expression) → Initialiser → Option (List Expression)
+initial k NoValue = None
+initial k (OneValue t) = Some (k t ∷ [])
+initial k (ValueList ts) = Some (map k ts)
+
+abbrev pub initial_faults : (Term → Faults → Faults) → Initialiser → Faults → Faults
+initial_faults k NoValue vs = vs
+initial_faults k (OneValue t) vs = k t vs
+initial_faults k (ValueList ts) vs = each_faults k ts vs
+
+-- ---- variables of a block
+
+-- what all names of a declaration have
+pub record Kinded : Type 0 where
+  pub kind : IntKind
+  pub constant : Bool
+
+abbrev pub kinded : (ℕ → List ℕ) → Declaration → Kinded
+kinded word d = record { kind = kind_of word d.words; constant = d.constant }
+
+abbrev pub shape_of : Kinded → Declarator → Shape
+shape_of k d = record { kind = k.kind; array = is_array d.size; constant = k.constant }
+
+abbrev pub slot_of : Env → Kinded → Declarator → Slot
+slot_of env k d = record { name = env.word d.name; kind = k.kind; cells = cells_of (extent env d.size d.value); constant = k.constant }
+
+-- behind its declarator, before its initialiser
+abbrev pub declared : Context → Kinded → Declarator → Walk → Walk
+declared ctx k d w =
+    record { scopes = bind (ctx.word d.name) (Local (length w.slots) (shape_of k d)) w.scopes; slots = w.slots ++ slot_of (env_at ctx w) k d ∷ [] }
+
+abbrev pub all_declared : Context → Kinded → List Declarator → Walk → Walk
+all_declared ctx k [] w = w
+all_declared ctx k (d ∷ ds) w = all_declared ctx k ds (declared ctx k d w)
+
+abbrev pub local : Context → Kinded → Declarator → Walk → Item
+local ctx k d w = item.Local (length w.slots) (initial (value_at (env_at ctx (declared ctx k d w))) d.value)
+
+-- one Local for each name, in order
+abbrev pub locals : Context → Kinded → List Declarator → Walk → List Item
+locals ctx k [] w = []
+locals ctx k (d ∷ ds) w = local ctx k d w ∷ locals ctx k ds (declared ctx k d w)
+
+abbrev pub local_faults : Context → Kinded → Declarator → Walk → Faults → Faults
+local_faults ctx k d w vs =
+    initial_faults (value_faults (env_at ctx (declared ctx k d w))) d.value
+    (bind_fault d.name (ctx.word d.name) w.scopes
+    (fault_if (is_bad_array true (env_at ctx w) d) d.name 35
+    (size_faults (env_at ctx w) d.size vs)))
+
+abbrev pub locals_faults : Context → Kinded → List Declarator → Walk → Faults → Faults
+locals_faults ctx k [] w vs = vs
+locals_faults ctx k (d ∷ ds) w vs = locals_faults ctx k ds (declared ctx k d w) (local_faults ctx k d w vs)

@@ -1,0 +1,131 @@
+-- Functions (ISO/IEC 9899:2011, 6.9.1): what their definition gives, and its violations.
+use Rattle.std.specs.Prelude.{ℕ, Bool, true, false, cond, List, [], ◌∷◌, ◌++◌, map, length, Option, Some, None, option_map}
+use Rattle.c_types.specs.declared.kinds.IntKind.{IntKind}
+use Rattle.c_tree.specs.declared.tree.Slot.{Slot}
+use Rattle.c_tree.specs.declared.tree.Function as tree
+use Rattle.c_tree.specs.declared.tree.Item as item
+use Rattle.c_source.specs.Items.{Body, Braces, Lone}
+use Rattle.c_source.specs.Tops.{Parameter, Function}
+use Rattle.c_source.specs.Words.{kind_of}
+use Rattle.c_kinds.specs.declared.binding.Shape.{Shape}
+use Rattle.c_kinds.specs.declared.binding.Want.{Want}
+use Rattle.c_kinds.specs.declared.binding.Want.TheVariants as want
+use Rattle.c_kinds.specs.declared.binding.Signature.{Signature}
+use Rattle.c_kinds.specs.declared.binding.Binding.TheVariants.{Local}
+use Rattle.c_kinds.specs.Scopes.{Scope, Faults, fault_if, bind, bind_fault}
+use Rattle.c_statements.specs.Context.{Anchor, AtEnd, Context, Walk, env_at, notes_at, no_construct}
+use Rattle.c_statements.specs.Declarations.{is_array, size_faults}
+use Rattle.c_statements.specs.Labels.{body_labels, distinct, twice_faults}
+use Rattle.c_statements.specs.Statements.{list_items, item_items, behind_items, behind_item}
+use Rattle.c_statements.specs.Violations.{list_faults, item_faults}
+use Rattle.c_statements.specs.Measures.{body_depth, body_longest, is_tangled}
+use Rattle.c_statements.specs.declared.measures.Measures.{Measures}
+
+-- ---- parameters
+
+abbrev pub result_kind : (ℕ → List ℕ) → Function → Option IntKind
+result_kind word f = option_map (kind_of word) f.words
+
+-- what the argument has to be; a function without a body in the file takes no array
+abbrev pub want_of : (ℕ → List ℕ) → Bool → Parameter → Want
+want_of word external x = cond (is_array x.size) (want.Array (kind_of word x.words) x.constant external) (want.Number (kind_of word x.words) x.constant)
+
+abbrev pub signature : (ℕ → List ℕ) → Bool → Function → Signature
+signature word external f = record { result = result_kind word f; wants = map (want_of word external) f.parameters }
+
+-- a parameter without a name has the empty name
+abbrev pub parameter_name : (ℕ → List ℕ) → Option ℕ → List ℕ
+parameter_name word None = []
+parameter_name word (Some at) = word at
+
+abbrev pub parameter_slot : (ℕ → List ℕ) → Parameter → Slot
+parameter_slot word x = record { name = parameter_name word x.name; kind = kind_of word x.words; cells = cond (is_array x.size) (Some 0) None; constant = x.constant }
+
+abbrev pub parameter_shape : (ℕ → List ℕ) → Parameter → Shape
+parameter_shape word x = record { kind = kind_of word x.words; array = is_array x.size; constant = x.constant }
+
+abbrev pub bind_parameter : (ℕ → List ℕ) → Parameter → Walk → Walk
+bind_parameter word x w =
+    record {
+      scopes = elim x.name [ Some at ↦ bind (word at) (Local (length w.slots) (parameter_shape word x)) w.scopes | None ↦ w.scopes ];
+      slots = w.slots ++ parameter_slot word x ∷ [];
+    }
+
+abbrev pub bind_parameters : (ℕ → List ℕ) → List Parameter → Walk → Walk
+bind_parameters word [] w = w
+bind_parameters word (x ∷ xs) w = bind_parameters word xs (bind_parameter word x w)
+
+-- a parameter without a name in a definition, and one that is declared twice; a length is a constant
+abbrev pub parameter_fault : Context → Bool → Parameter → Walk → Faults → Faults
+parameter_fault ctx defines x w vs =
+    elim x.name [ Some at ↦ bind_fault at (ctx.word at) w.scopes (size_faults (env_at ctx w) x.size vs) | None ↦ fault_if defines x.first 43 (size_faults (env_at ctx w) x.size vs) ]
+
+abbrev pub parameters_faults : Context → Bool → List Parameter → Walk → Faults → Faults
+parameters_faults ctx defines [] w vs = vs
+parameters_faults ctx defines (x ∷ xs) w vs = parameters_faults ctx defines xs (bind_parameter ctx.word x w) (parameter_fault ctx defines x w vs)
+
+-- ---- bodies: the parameters and the outermost list are one scope
+
+abbrev pub body_items : Context → Body → Walk → List item.Item
+body_items ctx (Braces first after xs) w = list_items ctx xs w ++ notes_at ctx (AtEnd first)
+body_items ctx (Lone first after x) w = item_items ctx x w ++ notes_at ctx (AtEnd first)
+
+abbrev pub behind_body : Context → Body → Walk → Walk
+behind_body ctx (Braces first after xs) w = behind_items ctx xs w
+behind_body ctx (Lone first after x) w = behind_item ctx x w
+
+abbrev pub body_faults : Context → Body → Walk → Faults → Faults
+body_faults ctx (Braces first after xs) w vs = list_faults ctx no_construct xs w vs
+body_faults ctx (Lone first after x) w vs = item_faults ctx no_construct x w vs
+
+-- what is known in a function with this body
+abbrev pub context : (ℕ → List ℕ) → (Anchor → List (List ℕ)) → Function → Body → Context
+context word notes f b = record { word = word; notes = notes; labels = distinct (map word (body_labels b [])); result = result_kind word f }
+
+-- of a prototype
+abbrev pub prototype_context : (ℕ → List ℕ) → Function → Context
+prototype_context word f = record { word = word; notes = λ anchor. []; labels = []; result = result_kind word f }
+
+-- in the scope of its parameters, behind them
+abbrev pub inside : (ℕ → List ℕ) → Function → List Scope → Walk
+inside word f scopes = bind_parameters word f.parameters (record { scopes = [] ∷ scopes; slots = [] })
+
+abbrev pub function : (ℕ → List ℕ) → Function → List Slot → List (List ℕ) → Option (List item.Item) → tree.Function
+function word f slots labels body =
+    record { name = word f.name; result = result_kind word f; file_only = f.static; params = length f.parameters; slots = slots; labels = labels; body = body; flat = false }
+
+abbrev pub defined : (ℕ → List ℕ) → (Anchor → List (List ℕ)) → Function → Option Body → List Scope → tree.Function
+defined word notes f None scopes = function word f (inside word f scopes).slots [] None
+defined word notes f (Some b) scopes =
+    let ctx = context word notes f b in
+    let w = inside word f scopes in
+    function word f (behind_body ctx b w).slots ctx.labels (Some (body_items ctx b w))
+
+abbrev pub function_of : (ℕ → List ℕ) → (Anchor → List (List ℕ)) → Function → List Scope → tree.Function
+function_of word notes f scopes = defined word notes f f.body scopes
+
+-- ---- violations in a function
+
+-- The numbers of gotos and labels of the flat form of a body, which has one if it has jumps.
+abbrev pub FlatCounts : Type 0
+FlatCounts = List item.Item → Option (ℕ × ℕ)
+
+abbrev pub measures : (ℕ → List ℕ) → Function → Body → ℕ × ℕ → Measures
+measures word f b flat = record { depth = body_depth b; counted = f.counted; jumps = flat.0; labels = flat.1; longest = body_longest word b }
+
+-- a function with jumps that is too tangled
+abbrev pub tangle_fault : FlatCounts → (ℕ → List ℕ) → Function → Body → List item.Item → Faults → Faults
+tangle_fault flat word f b items vs = elim (flat items) [ Some n ↦ fault_if (is_tangled (measures word f b n)) f.name 39 vs | None ↦ vs ]
+
+abbrev pub defined_faults : FlatCounts → (ℕ → List ℕ) → (Anchor → List (List ℕ)) → Function → Option Body → List Scope → Faults → Faults
+defined_faults flat word notes f None scopes vs = parameters_faults (prototype_context word f) false f.parameters (record { scopes = [] ∷ scopes; slots = [] }) vs
+defined_faults flat word notes f (Some b) scopes vs =
+    let ctx = context word notes f b in
+    let w = inside word f scopes in
+    tangle_fault flat word f b (body_items ctx b w)
+    (body_faults ctx b w
+    (twice_faults word (body_labels b [])
+    (parameters_faults ctx true f.parameters (record { scopes = [] ∷ scopes; slots = [] }) vs)))
+
+abbrev pub function_faults : FlatCounts → (ℕ → List ℕ) → (Anchor → List (List ℕ)) → Function → List Scope → Faults → Faults
+function_faults flat word notes f scopes vs = defined_faults flat word notes f f.body scopes vs

@@ -1,0 +1,10 @@
+pub mod Nodes
+pub mod Context
+pub mod Declarations
+pub mod Sections
+pub mod Labels
+pub mod Statements
+pub mod Cases
+pub mod Violations
+pub mod Measures
+pub mod Functions

@@ -1,0 +1,64 @@
+-- The sections of a switch (ISO/IEC 9899:2011, 6.8.4.2).
+use Rattle.std.specs.Prelude.{Bool, true, false, cond, not, ◌&&◌, ◌||◌, List, [], ◌∷◌, ◌++◌, Option, Some, None}
+use Rattle.c_tree.specs.declared.tree.Expression.{Expression}
+use Rattle.c_tree.specs.declared.tree.Item.{Item, out-Item}
+use Rattle.c_tree.specs.declared.tree.Item.TheOpen as Open
+use Rattle.c_tree.specs.declared.tree.Section.{Section, roll-Section, out-Section}
+
+-- a section that is being read, or items in front of the first section, which has no cases and no default
+pub record Reading : Type 0 where
+  pub cases : List Expression
+  pub default : Bool
+  pub list : List Item
+
+abbrev pub section : List Expression → Bool → List Item → Bool → Section
+section cases default list ends = roll-Section (record { cases = cases; default = default; list = list; ends = ends })
+
+-- these items at the end of the section; in front of the first section, where there are any, they are a section of their own
+abbrev pub extended : Option Reading → List Item → Option Reading
+extended (Some s) xs = Some (record { cases = s.cases; default = s.default; list = s.list ++ xs })
+extended None [] = None
+extended None (x ∷ xs) = Some (record { cases = []; default = false; list = x ∷ xs })
+
+abbrev pub has_label : Reading → Bool
+has_label s = elim s.cases [ [] ↦ s.default | c ∷ cs ↦ true ]
+
+abbrev pub is_break : Item → Bool
+is_break x = elim (out-Item x) [ Open.Break ↦ true | _ ↦ false ]
+
+-- a `break` that is the last item
+abbrev pub ends_in_break : List Item → Bool
+ends_in_break [] = false
+ends_in_break (x ∷ []) = is_break x
+ends_in_break (x ∷ y ∷ ys) = ends_in_break (y ∷ ys)
+
+abbrev pub without_last : List Item → List Item
+without_last [] = []
+without_last (x ∷ []) = []
+without_last (x ∷ y ∷ ys) = x ∷ without_last (y ∷ ys)
+
+-- its last `break` becomes its end
+abbrev pub ended : Reading → Section
+ended s = cond (has_label s && ends_in_break s.list) (section s.cases s.default (without_last s.list) true) (section s.cases s.default s.list false)
+
+abbrev pub closed : Option Reading → List Section
+closed (Some s) = ended s ∷ []
+closed None = []
+
+-- ---- sections with an empty list
+
+abbrev pub is_passing : Section → Bool
+is_passing s = elim (out-Section s).list [ [] ↦ not (out-Section s).ends | x ∷ xs ↦ false ]
+
+abbrev pub with_labels : List Expression → Bool → Section → Section
+with_labels cases default s = section (cases ++ (out-Section s).cases) (default || (out-Section s).default) (out-Section s).list (out-Section s).ends
+
+-- a section with an empty list and no end gives its cases and its default to the next, if there is one
+abbrev pub passed_on : List Expression → Bool → List Section → List Section
+passed_on cases default [] = []
+passed_on cases default (s ∷ []) = with_labels cases default s ∷ []
+passed_on cases default (s ∷ t ∷ ss) =
+    elim (is_passing s) [
+      | true ↦ passed_on (cases ++ (out-Section s).cases) (default || (out-Section s).default) (t ∷ ss)
+      | false ↦ with_labels cases default s ∷ passed_on [] false (t ∷ ss)
+    ]
