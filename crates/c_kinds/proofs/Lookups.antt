@@ -10,9 +10,9 @@ use Rattle.std.specs.Map.{lookup}
 use Rattle.std.proofs.lemmas.List.{length-reverse, reverse-append}
 use Rattle.std.proofs.lemmas.Map.Text.{is_eq-slice_cmp}
 use Rattle.c_kinds.specs.declared.binding.Binding.{Binding}
-use Rattle.c_kinds.specs.Scopes.{Scope, found, look_up, or_else, with_entry, with_name, bind, bound}
+use Rattle.c_kinds.specs.Scopes.{Scope, Names, found, look_up, or_else, with_entry, with_name, bind, bound}
 
-pub found_in : (name : List ℕ) (es : List (Bor (List ℕ) × Binding)) → lookup (is_at (λ k. slice_cmp nat_cmp name k.now)) es ≡ found name (map (λ e. (e.0.now, e.1)) es)
+pub found_in : {X : Type 0} (name : List ℕ) (es : List (Bor (List ℕ) × X)) → lookup (is_at (λ k. slice_cmp nat_cmp name k.now)) es ≡ found name (map (λ e. (e.0.now, e.1)) es)
 found_in name [] = refl
 found_in name (e ∷ es) = λ i. cond (is_eq-slice_cmp name e.0.now i) (Some e.1) (found_in name es i)
 
@@ -20,13 +20,13 @@ pub nearest_first : (ss : List Scope) (s : Scope) (name : List ℕ) → look_up 
 nearest_first ss s name = ap (λ l. look_up l name) (reverse-append ss (s ∷ []))
 
 -- the names of a map
-abbrev pub names_in : List (Bor (List ℕ) × Binding) → Scope
+abbrev pub names_in : {X : Type 0} → List (Bor (List ℕ) × X) → Names X
 names_in es = map (λ e. (e.0.now, e.1)) es
 
 abbrev pub key_cmp : Bor (List ℕ) → Bor (List ℕ) → Ordering
 key_cmp a b = slice_cmp nat_cmp a.now b.now
 
-with_entry_at : (o : Ordering) (k : Bor (List ℕ)) (b : Binding) (e : Bor (List ℕ) × Binding) (es : List (Bor (List ℕ) × Binding))
+with_entry_at : {X : Type 0} (o : Ordering) (k : Bor (List ℕ)) (b : X) (e : Bor (List ℕ) × X) (es : List (Bor (List ℕ) × X))
     → names_in (insert_entry key_cmp es k b) ≡ with_entry k.now b (names_in es)
     → names_in (match_ordering o ((k, b) ∷ e ∷ es) ((e.0, b) ∷ es) (e ∷ insert_entry key_cmp es k b))
     ≡ match_ordering o ((k.now, b) ∷ (e.0.now, e.1) ∷ names_in es) ((e.0.now, b) ∷ names_in es) ((e.0.now, e.1) ∷ with_entry k.now b (names_in es))
@@ -34,7 +34,7 @@ with_entry_at Less k b e es h = refl
 with_entry_at Equal k b e es h = refl
 with_entry_at Greater k b e es h = ap (λ l. (e.0.now, e.1) ∷ l) h
 
-pub with_entry_in : (k : Bor (List ℕ)) (b : Binding) (es : List (Bor (List ℕ) × Binding)) → names_in (insert_entry key_cmp es k b) ≡ with_entry k.now b (names_in es)
+pub with_entry_in : {X : Type 0} (k : Bor (List ℕ)) (b : X) (es : List (Bor (List ℕ) × X)) → names_in (insert_entry key_cmp es k b) ≡ with_entry k.now b (names_in es)
 with_entry_in k b [] = refl
 with_entry_in k b (e ∷ es) = with_entry_at (key_cmp k e.0) k b e es (with_entry_in k b es)
 

@@ -1,11 +1,12 @@
 -- What stands among the nodes of a list, from an index on.
-use Rattle.std.proofs.Common.{◌≡◌, ◌<◌, ◌+◌, ℕ, suc, List, ◌∷◌, true, false, cond, length, get_or, map, drop, max, refl, ap, arith, add-one, drop-cons, Option, Some, None}
+use Rattle.std.proofs.Common.{◌≡◌, ◌<◌, ◌+◌, ℕ, suc, Bool, List, [], ◌∷◌, ◌++◌, append_assoc, true, false, cond, length, get_or, map, drop, max, refl, ap, arith, add-one, drop-cons, Option, Some, None}
+use Rattle.std.proofs.lemmas.List.{append-nil}
 use Rattle.c_grammar.specs.declared.syntax.Syntax.{Syntax, out-Syntax}
 use Rattle.c_source.specs.Items.{Label, Declarator, Then}
 use Rattle.c_source.specs.ItemViews.{item_of, label_of, labels_of, declarator_of, declarators_of}
 use Rattle.c_source.specs.Parts.{part_of, is_token}
 use Rattle.c_source.proofs.Layers.{part-rule, weight-at}
-use Rattle.c_statements.specs.Labels.{name_in, named_in}
+use Rattle.c_statements.specs.Labels.{name_in, named_in, new_name}
 use Rattle.c_statements.specs.Measures.{length_in, longest_label, declared_length, longest_declared}
 use Rattle.c_statements.specs.Nodes.{items_of}
 
@@ -49,7 +50,20 @@ pub name_length_at : (word : ℕ → List ℕ) (xs : List Syntax) (i : ℕ) (d :
     → longest_declared word (declarators_of word (drop i xs)) ≡ max (declared_length word (declarator_of word (get_or xs i d))) (longest_declared word (declarators_of word (drop (i + 1) xs)))
 name_length_at word xs i d h = rw (add-one, drop-cons xs i d) (one-declared word (declarator_of word (get_or xs i d)) (declarators_of word (drop (suc i) xs)))
 
+-- ---- a list from an index on
+
+pub next : {X : Type 0} (xs : List X) (i : ℕ) (d : X) → i < length xs → drop i xs ≡ get_or xs i d ∷ drop (i + 1) xs
+next xs i d h = rw (add-one, drop-cons xs i d) refl
+
+-- ---- names, each once
+
+pub one_behind : (names : List (List ℕ)) (known : Bool) (n : List ℕ) (ns : List (List ℕ)) → (names ++ new_name known n []) ++ ns ≡ names ++ new_name known n ns
+one_behind names true n ns = append_assoc names [] ns
+one_behind names false n ns = append_assoc names (n ∷ []) ns
+
 -- ---- walks
+
+pub ruleset names_behind = (append-nil)
 
 pub ruleset names_back = (names_at)
 

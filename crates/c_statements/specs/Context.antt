@@ -1,11 +1,10 @@
 -- What is known at a place of a function's body.
-use Rattle.std.specs.Prelude.{ℕ, suc, Bool, true, false, cond, List, [], ◌∷◌, Option, map}
-use Rattle.std.specs.Str.{bytes_eq}
+use Rattle.std.specs.Prelude.{ℕ, Bool, true, false, List, [], ◌∷◌, Option, Some, None, is_some, length, map}
 use Rattle.c_types.specs.declared.kinds.IntKind.{IntKind}
 use Rattle.c_tree.specs.declared.tree.Slot.{Slot}
 use Rattle.c_tree.specs.declared.tree.Item.{Item}
 use Rattle.c_tree.specs.declared.tree.Item as item
-use Rattle.c_kinds.specs.Scopes.{Env, Scope}
+use Rattle.c_kinds.specs.Scopes.{Env, Scope, Names, found}
 
 -- ---- places of Notes
 
@@ -24,21 +23,19 @@ pub record Context : Type 0 where
   pub word : ℕ → List ℕ
   -- the comments of a place, in order
   pub notes : Anchor → List (List ℕ)
-  -- the function's labels, each once, in text order
-  pub labels : List (List ℕ)
+  -- the function's labels, with their numbers in text order
+  pub labels : Names ℕ
   pub result : Option IntKind
 
 abbrev pub notes_at : Context → Anchor → List Item
 notes_at ctx anchor = map item.Note (ctx.notes anchor)
 
--- the number of a label, and behind all of them that of one that the function doesn't have
-abbrev pub number_in : List (List ℕ) → List ℕ → ℕ
-number_in [] name = 0
-number_in (l ∷ ls) name = cond (bytes_eq name l) 0 (suc (number_in ls name))
+abbrev pub has_label : Names ℕ → List ℕ → Bool
+has_label labels name = is_some (found name labels)
 
-abbrev pub has_label : List (List ℕ) → List ℕ → Bool
-has_label [] name = false
-has_label (l ∷ ls) name = cond (bytes_eq name l) true (has_label ls name)
+-- the number of a label, and behind all of them that of one that the function doesn't have
+abbrev pub number_in : Names ℕ → List ℕ → ℕ
+number_in labels name = elim (found name labels) [ Some n ↦ n | None ↦ length labels ]
 
 -- ---- a place in it
 

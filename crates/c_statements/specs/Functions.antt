@@ -15,7 +15,7 @@ use Rattle.c_kinds.specs.declared.binding.Binding.TheVariants.{Local}
 use Rattle.c_kinds.specs.Scopes.{Scope, Faults, fault_if, bind, bind_fault}
 use Rattle.c_statements.specs.Context.{Anchor, AtEnd, Context, Walk, env_at, notes_at, no_construct}
 use Rattle.c_statements.specs.Declarations.{is_array, size_faults}
-use Rattle.c_statements.specs.Labels.{body_labels, distinct, twice_faults}
+use Rattle.c_statements.specs.Labels.{body_labels, numbers, distinct, twice_faults}
 use Rattle.c_statements.specs.Statements.{list_items, item_items, behind_items, behind_item}
 use Rattle.c_statements.specs.Violations.{list_faults, item_faults}
 use Rattle.c_statements.specs.Measures.{body_depth, body_longest, is_tangled}
@@ -80,7 +80,7 @@ body_faults ctx (Lone first after x) w vs = item_faults ctx no_construct x w vs
 
 -- what is known in a function with this body
 abbrev pub context : (ℕ → List ℕ) → (Anchor → List (List ℕ)) → Function → Body → Context
-context word notes f b = record { word = word; notes = notes; labels = distinct (map word (body_labels b [])); result = result_kind word f }
+context word notes f b = record { word = word; notes = notes; labels = numbers (map word (body_labels b [])); result = result_kind word f }
 
 -- of a prototype
 abbrev pub prototype_context : (ℕ → List ℕ) → Function → Context
@@ -99,7 +99,7 @@ defined word notes f None scopes = function word f (inside word f scopes).slots 
 defined word notes f (Some b) scopes =
     let ctx = context word notes f b in
     let w = inside word f scopes in
-    function word f (behind_body ctx b w).slots ctx.labels (Some (body_items ctx b w))
+    function word f (behind_body ctx b w).slots (distinct (map word (body_labels b []))) (Some (body_items ctx b w))
 
 abbrev pub function_of : (ℕ → List ℕ) → (Anchor → List (List ℕ)) → Function → List Scope → tree.Function
 function_of word notes f scopes = defined word notes f f.body scopes

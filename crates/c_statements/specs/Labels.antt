@@ -1,10 +1,10 @@
 -- Labels (ISO/IEC 9899:2011, 6.8.1): those of a function, and the items that a statement's labels are.
-use Rattle.std.specs.Prelude.{ℕ, Bool, true, false, cond, not, ◌||◌, List, [], ◌∷◌, ◌++◌, Option, Some, None}
+use Rattle.std.specs.Prelude.{ℕ, Bool, true, false, cond, not, ◌||◌, List, [], ◌∷◌, ◌++◌, Option, Some, None, length}
 use Rattle.c_tree.specs.declared.tree.Expression.{Expression}
 use Rattle.c_tree.specs.declared.tree.Item as item
 use Rattle.c_source.specs.Items.{Label, Named, Case, Default, Declares, States, Plain, From, Statement, Null, Evaluate, If, IfElse, While, DoWhile, For, Switch, Block, Goto, Break, Continue, Return, Unread, Body, Braces, Lone, Items, NoItem, Then}
 use Rattle.c_source.specs.Items as items
-use Rattle.c_kinds.specs.Scopes.{Env, Faults, fault_if}
+use Rattle.c_kinds.specs.Scopes.{Env, Faults, Names, fault_if, with_entry}
 use Rattle.c_kinds.specs.Typing.{constant_faults}
 use Rattle.c_statements.specs.Context.{Context, Before, notes_at, number_in, has_label}
 use Rattle.c_statements.specs.Declarations.{constant_at}
@@ -52,18 +52,33 @@ abbrev mutual
   list_labels NoItem rest = rest
   list_labels (Then x xs) rest = item_labels x (list_labels xs rest)
 
--- names, each once, behind those that are known
-abbrev pub distinct_from : List (List ℕ) → List (List ℕ) → List (List ℕ)
-distinct_from known [] = known
-distinct_from known (n ∷ ns) = distinct_from (cond (has_label known n) known (known ++ n ∷ [])) ns
+-- a name with the next number, unless it has one
+abbrev pub with_number : List ℕ → Names ℕ → Names ℕ
+with_number name known = cond (has_label known name) known (with_entry name (length known) known)
+
+-- names with their numbers, in the order in which they come first, behind those that are known
+abbrev pub numbers_from : Names ℕ → List (List ℕ) → Names ℕ
+numbers_from known [] = known
+numbers_from known (n ∷ ns) = numbers_from (with_number n known) ns
+
+abbrev pub numbers : List (List ℕ) → Names ℕ
+numbers ns = numbers_from [] ns
+
+abbrev pub new_name : Bool → List ℕ → List (List ℕ) → List (List ℕ)
+new_name known n ns = cond known ns (n ∷ ns)
+
+-- the names that are not known, each once, in the order in which they come first
+abbrev pub distinct_from : Names ℕ → List (List ℕ) → List (List ℕ)
+distinct_from known [] = []
+distinct_from known (n ∷ ns) = new_name (has_label known n) n (distinct_from (with_number n known) ns)
 
 abbrev pub distinct : List (List ℕ) → List (List ℕ)
 distinct ns = distinct_from [] ns
 
 -- a label with a name that an earlier label has
-abbrev pub twice_from : List (List ℕ) → (ℕ → List ℕ) → List ℕ → Faults → Faults
+abbrev pub twice_from : Names ℕ → (ℕ → List ℕ) → List ℕ → Faults → Faults
 twice_from known word [] vs = vs
-twice_from known word (at ∷ ats) vs = twice_from (word at ∷ known) word ats (fault_if (has_label known (word at)) at 32 vs)
+twice_from known word (at ∷ ats) vs = twice_from (with_number (word at) known) word ats (fault_if (has_label known (word at)) at 32 vs)
 
 abbrev pub twice_faults : (ℕ → List ℕ) → List ℕ → Faults → Faults
 twice_faults word ats vs = twice_from [] word ats vs

@@ -1,5 +1,5 @@
 -- The violations of statements (ISO/IEC 9899:2011, 6.8), in front of those that were found before.
-use Rattle.std.specs.Prelude.{ℕ, Bool, true, false, not, ◌||◌, List, [], Option, Some, None}
+use Rattle.std.specs.Prelude.{ℕ, Bool, true, false, not, ◌||◌, List, [], Option, Some, None, option_map}
 use Rattle.c_types.specs.declared.kinds.IntKind.{IntKind}
 use Rattle.c_source.specs.Terms.{Term}
 use Rattle.c_source.specs.Items.{Declaration, Label, Start, NoStart, StartValue, StartNames, Item, Declares, States, Plain, From, Statement, Null, Evaluate, If, IfElse, While, DoWhile, For, Switch, Block, Goto, Break, Continue, Return, Unread, Body, Braces, Lone, Items, NoItem, Then, stated_first}
@@ -61,7 +61,7 @@ abbrev mutual
       let env = env_at ctx inner in
       body_faults ctx (in_loop around) b inner (optional_faults (dropped_faults env) u (optional_faults (value_faults env) t (start_faults ctx start (enter w) vs)))
   statement_faults ctx around first (Switch t b) w vs =
-      switch_faults (value_of (typed (env_at ctx w) t)) (body_entries ctx b w []) (switch_body_faults ctx (in_switch around) b w (value_faults (env_at ctx w) t vs))
+      switch_faults (option_map (λ v. v.kind) (value_of (typed (env_at ctx w) t))) (body_entries ctx b w []) (switch_body_faults ctx (in_switch around) b w (value_faults (env_at ctx w) t vs))
   statement_faults ctx around first (Block b) w vs = body_faults ctx around b w vs
   statement_faults ctx around first (Goto at) w vs = fault_if (not (has_label ctx.labels (ctx.word at))) at 33 vs
   statement_faults ctx around first Break w vs = fault_if (not (around.loop || around.switch)) first 27 vs

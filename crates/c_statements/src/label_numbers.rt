@@ -1,0 +1,74 @@
+//! The numbers of a function's labels.
+
+ghost use Rattle.std.specs.Prelude.{◌≡◌, [], OnOk};
+ghost use Rattle.std.specs.Option.{option_copied};
+ghost use Rattle.c_kinds.specs.Scopes.{found, with_entry};
+ghost use Rattle.c_statements.specs.Context as context;
+ghost use Rattle.c_statements.specs.Labels as spec;
+
+use c_types::Memory;
+use std::alloc::Global;
+use std::collections::BTreeMap;
+use std::marker::Model;
+
+/// Labels and their numbers, which contracts see in byte order.
+#[derive(Drop)]
+pub struct LabelNumbers<'a> {
+    numbers: BTreeMap<&'a [u8], u32>,
+}
+
+impl<'a> Model for LabelNumbers<'a> {
+    ghost use Rattle.std.specs.Prelude.{List, ℕ, map};
+
+    ghost Value = { List (List ℕ × ℕ) };
+
+    ghost view = { λ it. map (λ e. (e.0.now, e.1)) it.numbers.entries };
+}
+
+impl<'a> LabelNumbers<'a> {
+    /// No labels.
+    pub fn new(alloc: Global) -> LabelNumbers<'a>
+        ensures { result ≡ [] }
+    {
+        LabelNumbers {
+            numbers: BTreeMap::new(alloc),
+        }
+    }
+
+    /// The number of a label.
+    #[tactic(auto, using(c_kinds::proofs::Lookups::found_in))]
+    pub fn get(&self, name: &[u8]) -> Option<&u32>
+        ensures { option_copied result ≡ found name.now self.now }
+    {
+        self.numbers.get(name)
+    }
+
+    /// Whether there is a label with this name.
+    pub fn has(&self, name: &[u8]) -> bool
+        ensures { result ≡ context.has_label self.now name.now }
+    {
+        self.get(name).is_some()
+    }
+
+    #[tactic(auto, using(c_kinds::proofs::Lookups::with_entry_in))]
+    fn insert(&mut self, name: &'a [u8], number: u32) -> Result<(), Memory>
+        ensures { OnOk result (self.new ≡ with_entry name.now number self.old) }
+    {
+        self.numbers.insert(name, number)?;
+        Ok(())
+    }
+
+    /// Gives a label the next number, unless it has one. More than 2^32 are refused as for want of memory.
+    pub fn add(&mut self, name: &'a [u8]) -> Result<(), Memory>
+        ensures { OnOk result (self.new ≡ spec.with_number name.now self.old) }
+    {
+        if self.has(name) {
+            return Ok(());
+        }
+        let next = self.numbers.len();
+        if next > 4294967295 {
+            return Err(Memory);
+        }
+        self.insert(name, next as u32)
+    }
+}
