@@ -1,4 +1,5 @@
 -- What the limits count in the derivations: the events of their tokens, behind these.
+-- The last event stands first, so each list is read from right to left; an `Opened` stands to the right of its token.
 use Rattle.std.specs.Prelude.{◌+◌, ℕ, Bool, true, false, cond, List, [], ◌∷◌, Option, Some, None}
 use Rattle.c_grammar.specs.Events.{Event, Uncounted, Counted, Outside, Opened}
 use Rattle.c_grammar.specs.Expressions.{Base, LongIntBase, NumberType, OfBase, SignedOf, UnsignedOf, Expression, One, More, Assignment, To, Value, Conditional, Choose, Only, Binary, Single, Both, Unary, Prefixed, StepTo, CastTo, CastVoid, Place, StepAfter, CallNone, CallWith, Number, Character, Within, Target, Variable, Cell, Round, Arguments, Last, Then, Argument, Given, Written, Texts, OneText, MoreTexts}

@@ -41,6 +41,7 @@ pub record IsUnexpected (tokens : List Class) (k : ℕ) : Type 0 where
   pub place : length front ≡ k
   pub viable : Viable front
   pub none : Viable (front ++ token ∷ []) → ⊥
+  -- in whichever file goes on from there, no token before k is over a limit
   pub within : (v : Viable front) → NotBefore k (first_too_many v.file)
 
 -- token k is the first that opens a level or counts past the limit, in each derivation that begins with the tokens up to it
