@@ -3,8 +3,9 @@ use Rattle.std.proofs.Common.{◌≡◌, ◌<◌, ◌+◌, ℕ, suc, Bool, List,
 use Rattle.std.proofs.lemmas.List.{append-nil}
 use Rattle.c_grammar.specs.declared.syntax.Syntax.{Syntax, out-Syntax}
 use Rattle.c_source.specs.Items.{Label, Declarator, Then}
-use Rattle.c_source.specs.ItemViews.{item_of, label_of, labels_of, declarator_of, declarators_of}
-use Rattle.c_source.specs.Parts.{part_of, is_token}
+use Rattle.c_source.specs.ItemViews.{item_of, term_list_of, label_of, labels_of, declarator_of, declarators_of}
+use Rattle.c_source.specs.Parts.{part_of, term_of, is_token}
+use Rattle.c_source.specs.Terms.{Term}
 use Rattle.c_source.proofs.Layers.{part-rule, weight-at}
 use Rattle.c_statements.specs.Labels.{name_in, named_in, new_name}
 use Rattle.c_statements.specs.Measures.{length_in, longest_label, declared_length, longest_declared}
@@ -23,6 +24,21 @@ items-token word xs i d h t = rw (add-one, drop-cons xs i d, items-cons word (ge
 pub items-item : (word : ℕ → List ℕ) (xs : List Syntax) (i : ℕ) (d : Syntax) → i < length xs → is_token (out-Syntax (get_or xs i d)).rule ≡ false
     → items_of word (drop i xs) ≡ Then (item_of word (get_or xs i d)) (items_of word (drop (i + 1) xs))
 items-item word xs i d h t = rw (add-one, drop-cons xs i d, items-cons word (get_or xs i d) (drop (suc i) xs), t) refl
+
+-- ---- values
+
+values-cons : (word : ℕ → List ℕ) (x : Syntax) (xs : List Syntax) → term_list_of word (x ∷ xs) ≡ cond (is_token (out-Syntax x).rule) (term_list_of word xs) (term_of word x ∷ term_list_of word xs)
+values-cons word x xs = ap (λ r. cond (is_token r) (term_list_of word xs) (term_of word x ∷ term_list_of word xs)) (part-rule word x)
+
+one-value : (b : Bool) (t : Term) (ts : List Term) → length (cond b ts (t ∷ ts)) ≡ cond b 0 1 + length ts
+one-value true t ts = omega arith
+one-value false t ts = omega arith
+
+pub count_at : (word : ℕ → List ℕ) (xs : List Syntax) (i : ℕ) (d : Syntax) → i < length xs
+    → length (term_list_of word (drop i xs)) ≡ cond (is_token (out-Syntax (get_or xs i d)).rule) 0 1 + length (term_list_of word (drop (i + 1) xs))
+count_at word xs i d h =
+    rw (add-one, drop-cons xs i d, values-cons word (get_or xs i d) (drop (suc i) xs))
+    (one-value (is_token (out-Syntax (get_or xs i d)).rule) (term_of word (get_or xs i d)) (term_list_of word (drop (suc i) xs)))
 
 -- ---- labels and declarators
 
@@ -70,6 +86,8 @@ pub ruleset names_back = (names_at)
 pub ruleset labels_back = (items-token, items-item, weight-at)
 
 pub ruleset depths = (items-token, items-item, weight-at)
+
+pub ruleset values = (count_at)
 
 pub ruleset lengths = (items-token, items-item, weight-at)
 

@@ -1,5 +1,5 @@
 -- Declared variables (ISO/IEC 9899:2011, 6.7): what they are, their slots, their initialisers, and the violations.
-use Rattle.std.specs.Prelude.{ℕ, ℤ, pos, Bool, true, false, cond, ◌&&◌, ◌||◌, nat_le, nat_lt, List, [], ◌∷◌, ◌++◌, map, Option, Some, None, length}
+use Rattle.std.specs.Prelude.{ℕ, ℤ, pos, Bool, true, false, cond, ◌&&◌, ◌||◌, nat_le, nat_lt, List, [], ◌∷◌, ◌++◌, map, Option, Some, None, length, is_some, not, option_map}
 use Rattle.c_types.specs.declared.kinds.IntKind.{IntKind}
 use Rattle.c_types.specs.declared.kinds.IntKind.TheVariants.{Int}
 use Rattle.c_tree.specs.declared.tree.Slot.{Slot}
@@ -17,6 +17,10 @@ use Rattle.c_kinds.specs.Scopes.{Env, Faults, fault_if, bind, bind_fault}
 use Rattle.c_kinds.specs.Values.{expression_of, expression, value_of}
 use Rattle.c_kinds.specs.Constants.{constant_of}
 use Rattle.c_kinds.specs.Typing.{typed, faults, used, constant_faults}
+use Rattle.c_statements.specs.declared.extents.Length.{Length}
+use Rattle.c_statements.specs.declared.extents.Length.TheVariants.{NoLength, OfList, Constant}
+use Rattle.c_statements.specs.declared.extents.Extent.{Extent}
+use Rattle.c_statements.specs.declared.extents.Extent.TheVariants.{One, Many, Unclear}
 use Rattle.c_statements.specs.Context.{Context, Walk, env_at}
 
 -- ---- expressions of declarations and statements
@@ -49,34 +53,37 @@ each_faults k (t ∷ ts) vs = each_faults k ts (k t vs)
 
 -- ---- lengths
 
--- a number, an array of so many cells, or an array of which the length has a violation
-pub data Extent : Type 0 where
-  One : Extent
-  Many : ℕ → Extent
-  Unclear : Extent
-
 -- the lengths that an array can have
 abbrev pub in_bounds : ℤ → Option ℕ
 in_bounds (pos n) = cond (nat_le 1 n && nat_le n 65536) (Some n) None
 in_bounds _ = None
 
+-- what the brackets behind a name give
+abbrev pub length_in : Env → Size → Length
+length_in env NoSize = NoLength
+length_in env Unsized = OfList
+length_in env (Sized t) = Constant (option_map (λ c. c.1) (constant_of (typed env t)))
+
 abbrev pub of_length : Option ℕ → Extent
 of_length (Some n) = Many n
 of_length None = Unclear
 
-abbrev pub written_extent : Option (Expression × ℤ) → Extent
-written_extent (Some c) = of_length (in_bounds c.1)
-written_extent None = Unclear
+abbrev pub constant_extent : Option ℤ → Extent
+constant_extent (Some n) = of_length (in_bounds n)
+constant_extent None = Unclear
 
 -- an array without a length has that of its list
 abbrev pub listed_extent : Initialiser → Extent
 listed_extent (ValueList ts) = Many (length ts)
 listed_extent _ = Unclear
 
+abbrev pub extent_of : Length → Initialiser → Extent
+extent_of NoLength value = One
+extent_of OfList value = listed_extent value
+extent_of (Constant n) value = constant_extent n
+
 abbrev pub extent : Env → Size → Initialiser → Extent
-extent env NoSize value = One
-extent env Unsized value = listed_extent value
-extent env (Sized t) value = written_extent (constant_of (typed env t))
+extent env size value = extent_of (length_in env size) value
 
 abbrev pub cells_of : Extent → Option ℕ
 cells_of One = None
@@ -90,15 +97,18 @@ is_array _ = true
 -- ---- bad arrays and initialisers
 
 -- a constant length that no array can have
-abbrev pub is_out_of_bounds : Option (Expression × ℤ) → Bool
-is_out_of_bounds (Some c) = elim (in_bounds c.1) [ Some n ↦ false | None ↦ true ]
+abbrev pub is_out_of_bounds : Option ℤ → Bool
+is_out_of_bounds (Some n) = not (is_some (in_bounds n))
 is_out_of_bounds None = false
 
-abbrev pub is_bad_length : Env → Size → Initialiser → Bool
-is_bad_length env NoSize value = false
-is_bad_length env Unsized (ValueList ts) = nat_lt 65536 (length ts)
-is_bad_length env Unsized value = true
-is_bad_length env (Sized t) value = is_out_of_bounds (constant_of (typed env t))
+abbrev pub is_bad_list_length : Initialiser → Bool
+is_bad_list_length (ValueList ts) = nat_lt 65536 (length ts)
+is_bad_list_length _ = true
+
+abbrev pub is_bad_length : Length → Initialiser → Bool
+is_bad_length NoLength value = false
+is_bad_length OfList value = is_bad_list_length value
+is_bad_length (Constant n) value = is_out_of_bounds n
 
 -- more initialisers than cells, or a long array of a block that has initialisers
 abbrev pub is_bad_list : Bool → Extent → ℕ → Bool
@@ -106,14 +116,20 @@ is_bad_list local One given = true
 is_bad_list local (Many n) given = nat_lt n given || (local && nat_lt 1024 n)
 is_bad_list local Unclear given = false
 
+abbrev pub is_one : Extent → Bool
+is_one One = true
+is_one _ = false
+
 abbrev pub is_bad_value : Bool → Extent → Initialiser → Bool
-is_bad_value local One (OneValue t) = false
-is_bad_value local _ (OneValue t) = true
-is_bad_value local x (ValueList ts) = is_bad_list local x (length ts)
 is_bad_value local x NoValue = false
+is_bad_value local x (OneValue t) = not (is_one x)
+is_bad_value local x (ValueList ts) = is_bad_list local x (length ts)
+
+abbrev pub is_bad_shape : Bool → Length → Initialiser → Bool
+is_bad_shape local l value = is_bad_length l value || is_bad_value local (extent_of l value) value
 
 abbrev pub is_bad_array : Bool → Env → Declarator → Bool
-is_bad_array local env d = is_bad_length env d.size d.value || is_bad_value local (extent env d.size d.value) d.value
+is_bad_array local env d = is_bad_shape local (length_in env d.size) d.value
 
 abbrev pub size_faults : Env → Size → Faults → Faults
 size_faults env (Sized t) vs = constant_faults env t vs
@@ -144,8 +160,11 @@ kinded word d = record { kind = kind_of word d.words; constant = d.constant }
 abbrev pub shape_of : Kinded → Declarator → Shape
 shape_of k d = record { kind = k.kind; array = is_array d.size; constant = k.constant }
 
+abbrev pub slot : List ℕ → Shape → Option ℕ → Slot
+slot name shape cells = record { name = name; kind = shape.kind; cells = cells; constant = shape.constant }
+
 abbrev pub slot_of : Env → Kinded → Declarator → Slot
-slot_of env k d = record { name = env.word d.name; kind = k.kind; cells = cells_of (extent env d.size d.value); constant = k.constant }
+slot_of env k d = slot (env.word d.name) (shape_of k d) (cells_of (extent env d.size d.value))
 
 -- behind its declarator, before its initialiser
 abbrev pub declared : Context → Kinded → Declarator → Walk → Walk

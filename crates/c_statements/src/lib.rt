@@ -1,21 +1,27 @@
 //! Statements: the items that they are, and their violations.
 #![tactic(auto)]
 
+mod arrays;
 mod cases;
 mod depth;
 mod entries;
+mod extents;
 mod label_list;
 mod label_numbers;
 mod labels;
 mod longest;
 mod measures;
 mod nodes;
+mod slots;
 
+pub use arrays::{count_values, extent_of, is_bad_shape, read_length};
 pub use cases::report_cases;
 pub use depth::body_depth;
 pub use entries::Entry;
+pub use extents::{Extent, Length};
 pub use label_list::{FunctionLabels, function_labels};
 pub use label_numbers::LabelNumbers;
 pub use labels::body_labels;
 pub use longest::body_longest;
 pub use measures::Measures;
+pub use slots::declare;

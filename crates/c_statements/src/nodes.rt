@@ -1,4 +1,4 @@
-ghost use Rattle.std.specs.Prelude.{◌≡◌, max};
+ghost use Rattle.std.specs.Prelude.{◌≡◌, ◌≤◌, cond, max};
 ghost use Rattle.c_grammar.specs.declared.syntax.Syntax.{out-Syntax};
 ghost use Rattle.c_source.specs.Parts as parts;
 
@@ -9,6 +9,14 @@ pub fn is_token(x: &Syntax) -> bool
     ensures { result ≡ parts.is_token (out-Syntax x.now).rule }
 {
     matches!(x.rule, Production::Token)
+}
+
+/// How many values are written by a node of a list of values and tokens.
+pub fn value_count(x: &Syntax) -> usize
+    ensures value { result ≡ cond (parts.is_token (out-Syntax x.now).rule) 0 1 }
+    ensures bound { result ≤ 1 }
+{
+    if is_token(x) { 0 } else { 1 }
 }
 
 /// The greater of two numbers.
