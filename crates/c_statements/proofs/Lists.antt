@@ -30,6 +30,14 @@ items-item word xs i d h t = rw (add-one, drop-cons xs i d, items-cons word (get
 values-cons : (word : ℕ → List ℕ) (x : Syntax) (xs : List Syntax) → term_list_of word (x ∷ xs) ≡ cond (is_token (out-Syntax x).rule) (term_list_of word xs) (term_of word x ∷ term_list_of word xs)
 values-cons word x xs = ap (λ r. cond (is_token r) (term_list_of word xs) (term_of word x ∷ term_list_of word xs)) (part-rule word x)
 
+pub values-token : (word : ℕ → List ℕ) (xs : List Syntax) (i : ℕ) (d : Syntax) → i < length xs → is_token (out-Syntax (get_or xs i d)).rule ≡ true
+    → term_list_of word (drop i xs) ≡ term_list_of word (drop (i + 1) xs)
+values-token word xs i d h t = rw (add-one, drop-cons xs i d, values-cons word (get_or xs i d) (drop (suc i) xs), t) refl
+
+pub values-value : (word : ℕ → List ℕ) (xs : List Syntax) (i : ℕ) (d : Syntax) → i < length xs → is_token (out-Syntax (get_or xs i d)).rule ≡ false
+    → term_list_of word (drop i xs) ≡ term_of word (get_or xs i d) ∷ term_list_of word (drop (i + 1) xs)
+values-value word xs i d h t = rw (add-one, drop-cons xs i d, values-cons word (get_or xs i d) (drop (suc i) xs), t) refl
+
 one-value : (b : Bool) (t : Term) (ts : List Term) → length (cond b ts (t ∷ ts)) ≡ cond b 0 1 + length ts
 one-value true t ts = omega arith
 one-value false t ts = omega arith
@@ -94,3 +102,5 @@ pub ruleset lengths = (items-token, items-item, weight-at)
 pub ruleset label_lengths = (label_length_at)
 
 pub ruleset name_lengths = (name_length_at)
+
+pub ruleset listed = (values-token, values-value, append_assoc)
