@@ -4,7 +4,7 @@ use Rattle.std.proofs.lemmas.List.{append-nil}
 use Rattle.c_grammar.specs.declared.syntax.Syntax.{Syntax, out-Syntax}
 use Rattle.c_source.specs.Items.{Label, Declarator, Then}
 use Rattle.c_source.specs.ItemViews.{item_of, term_list_of, label_of, labels_of, declarator_of, declarators_of}
-use Rattle.c_source.specs.Parts.{part_of, term_of, is_token}
+use Rattle.c_source.specs.Parts.{term_of, is_token}
 use Rattle.c_source.specs.Terms.{Term}
 use Rattle.c_source.proofs.Layers.{part-rule, weight-at}
 use Rattle.c_statements.specs.Labels.{name_in, named_in, new_name}
