@@ -44,8 +44,11 @@ pub record Walk : Type 0 where
   pub scopes : List Scope
   pub slots : List Slot
 
+abbrev pub env_in : (ℕ → List ℕ) → Walk → Env
+env_in word w = record { word = word; scopes = w.scopes }
+
 abbrev pub env_at : Context → Walk → Env
-env_at ctx w = record { word = ctx.word; scopes = w.scopes }
+env_at ctx w = env_in ctx.word w
 
 -- into a scope of its own, and out of it: the slots stay
 abbrev pub enter : Walk → Walk

@@ -13,15 +13,16 @@ use Rattle.c_source.specs.Words.{kind_of}
 use Rattle.c_kinds.specs.declared.binding.Shape.{Shape}
 use Rattle.c_kinds.specs.declared.binding.Binding.TheVariants.{Local}
 use Rattle.c_kinds.specs.declared.typed.Valued.{Valued}
-use Rattle.c_kinds.specs.Scopes.{Env, Faults, fault_if, bind, bind_fault}
+use Rattle.c_kinds.specs.Scopes.{Env, Scope, Faults, fault_if, bind, bind_fault}
 use Rattle.c_kinds.specs.Values.{expression_of, expression, value_of}
 use Rattle.c_kinds.specs.Constants.{constant_of}
 use Rattle.c_kinds.specs.Typing.{typed, faults, used, constant_faults}
+use Rattle.c_statements.specs.declared.extents.Kinded.{Kinded}
 use Rattle.c_statements.specs.declared.extents.Length.{Length}
 use Rattle.c_statements.specs.declared.extents.Length.TheVariants.{NoLength, OfList, Constant}
 use Rattle.c_statements.specs.declared.extents.Extent.{Extent}
 use Rattle.c_statements.specs.declared.extents.Extent.TheVariants.{One, Many, Unclear}
-use Rattle.c_statements.specs.Context.{Context, Walk, env_at}
+use Rattle.c_statements.specs.Context.{Walk, env_in}
 
 -- ---- expressions of declarations and statements
 
@@ -150,10 +151,6 @@ initial_faults k (ValueList ts) vs = each_faults k ts vs
 -- ---- variables of a block
 
 -- what all names of a declaration have
-pub record Kinded : Type 0 where
-  pub kind : IntKind
-  pub constant : Bool
-
 abbrev pub kinded : (ℕ → List ℕ) → Declaration → Kinded
 kinded word d = record { kind = kind_of word d.words; constant = d.constant }
 
@@ -166,30 +163,33 @@ slot name shape cells = record { name = name; kind = shape.kind; cells = cells; 
 abbrev pub slot_of : Env → Kinded → Declarator → Slot
 slot_of env k d = slot (env.word d.name) (shape_of k d) (cells_of (extent env d.size d.value))
 
+abbrev pub walk : List Scope → List Slot → Walk
+walk scopes slots = record { scopes = scopes; slots = slots }
+
 -- behind its declarator, before its initialiser
-abbrev pub declared : Context → Kinded → Declarator → Walk → Walk
-declared ctx k d w =
-    record { scopes = bind (ctx.word d.name) (Local (length w.slots) (shape_of k d)) w.scopes; slots = w.slots ++ slot_of (env_at ctx w) k d ∷ [] }
+abbrev pub declared : (ℕ → List ℕ) → Kinded → Declarator → Walk → Walk
+declared word k d w =
+    record { scopes = bind (word d.name) (Local (length w.slots) (shape_of k d)) w.scopes; slots = w.slots ++ slot_of (env_in word w) k d ∷ [] }
 
-abbrev pub all_declared : Context → Kinded → List Declarator → Walk → Walk
-all_declared ctx k [] w = w
-all_declared ctx k (d ∷ ds) w = all_declared ctx k ds (declared ctx k d w)
+abbrev pub all_declared : (ℕ → List ℕ) → Kinded → List Declarator → Walk → Walk
+all_declared word k [] w = w
+all_declared word k (d ∷ ds) w = all_declared word k ds (declared word k d w)
 
-abbrev pub local : Context → Kinded → Declarator → Walk → Item
-local ctx k d w = item.Local (length w.slots) (initial (value_at (env_at ctx (declared ctx k d w))) d.value)
+abbrev pub local : (ℕ → List ℕ) → Kinded → Declarator → Walk → Item
+local word k d w = item.Local (length w.slots) (initial (value_at (env_in word (declared word k d w))) d.value)
 
 -- one Local for each name, in order
-abbrev pub locals : Context → Kinded → List Declarator → Walk → List Item
-locals ctx k [] w = []
-locals ctx k (d ∷ ds) w = local ctx k d w ∷ locals ctx k ds (declared ctx k d w)
+abbrev pub locals : (ℕ → List ℕ) → Kinded → List Declarator → Walk → List Item
+locals word k [] w = []
+locals word k (d ∷ ds) w = local word k d w ∷ locals word k ds (declared word k d w)
 
-abbrev pub local_faults : Context → Kinded → Declarator → Walk → Faults → Faults
-local_faults ctx k d w vs =
-    initial_faults (value_faults (env_at ctx (declared ctx k d w))) d.value
-    (bind_fault d.name (ctx.word d.name) w.scopes
-    (fault_if (is_bad_array true (env_at ctx w) d) d.name 35
-    (size_faults (env_at ctx w) d.size vs)))
+abbrev pub local_faults : (ℕ → List ℕ) → Kinded → Declarator → Walk → Faults → Faults
+local_faults word k d w vs =
+    initial_faults (value_faults (env_in word (declared word k d w))) d.value
+    (bind_fault d.name (word d.name) w.scopes
+    (fault_if (is_bad_array true (env_in word w) d) d.name 35
+    (size_faults (env_in word w) d.size vs)))
 
-abbrev pub locals_faults : Context → Kinded → List Declarator → Walk → Faults → Faults
-locals_faults ctx k [] w vs = vs
-locals_faults ctx k (d ∷ ds) w vs = locals_faults ctx k ds (declared ctx k d w) (local_faults ctx k d w vs)
+abbrev pub locals_faults : (ℕ → List ℕ) → Kinded → List Declarator → Walk → Faults → Faults
+locals_faults word k [] w vs = vs
+locals_faults word k (d ∷ ds) w vs = locals_faults word k ds (declared word k d w) (local_faults word k d w vs)

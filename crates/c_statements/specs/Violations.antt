@@ -21,7 +21,7 @@ optional_faults k None vs = vs
 optional_faults k (Some t) vs = k t vs
 
 abbrev pub declaration_faults : Context → Declaration → Walk → Faults → Faults
-declaration_faults ctx d w vs = locals_faults ctx (kinded ctx.word d) d.names w vs
+declaration_faults ctx d w vs = locals_faults ctx.word (kinded ctx.word d) d.names w vs
 
 abbrev pub start_faults : Context → Start → Walk → Faults → Faults
 start_faults ctx NoStart w vs = vs

@@ -1,3 +1,12 @@
+use c_types::IntKind;
+
+/// What all names of a declaration have.
+#[derive(Clone, Copy, Debug, PartialEq, Eq)]
+pub struct Kinded {
+    pub kind: IntKind,
+    pub constant: bool,
+}
+
 /// What the brackets behind a declared name give.
 #[derive(Clone, Copy, Debug, PartialEq, Eq)]
 pub enum Length {
