@@ -1,12 +1,12 @@
 -- A simplification that applies may be made where its path leads.
-use Rattle.std.proofs.Common.{◌≡◌, ℕ, suc, ◌<◌, inl, inr, ◌⊎◌, Bool, List, drop, length, Option, Some, IsSome, slice_get, refl, sym, ap, subst, ◌∙◌}
+use Rattle.std.proofs.Common.{◌≡◌, ℕ, suc, ◌<◌, inl, inr, Bool, List, drop, length, Some, IsSome, slice_get, refl, sym, subst, ◌∙◌}
 use Rattle.std.proofs.lemmas.Option.{slice_get_within}
 use Rattle.c_tree.specs.declared.tree.Item.{Item}
 use Rattle.c_tree.specs.Paths.{list_at}
 use Rattle.c_tree.specs.Trees.{tree_of, trees_of}
-use Rattle.move_records.specs.declared.moves.MoveKind.TheVariants.{Z1, Z2, Z3, Z4, Z5}
+use Rattle.move_records.specs.declared.moves.MoveKind.TheVariants.{Z5}
 use Rattle.guard_simplify.specs.declared.choice.Choice.{Choice}
-use Rattle.guard_simplify.specs.Choice.{Among, choices, choices_from, barred, is_nested}
+use Rattle.guard_simplify.specs.Choice.{Among, choices, barred}
 use Rattle.guard_simplify.proofs.Members.{OwnAt, Located, located}
 use Rattle.guard_edits.specs.Built.{IsNest, MayEdit}
 use Rattle.guard_edits.proofs.Nests.{nest_of}

@@ -1,12 +1,12 @@
 -- An `if` round one `if` becomes one.
-use Rattle.std.proofs.Common.{◌≡◌, Bool, true, false, ◌&&◌, ℕ, zero, suc, List, [], ◌∷◌, ◌++◌, Option, Some, slice_get, slice_set, refl, sym, ap, subst, ◌∙◌}
+use Rattle.std.proofs.Common.{◌≡◌, Bool, true, false, ◌&&◌, ℕ, zero, suc, List, [], ◌∷◌, ◌++◌, Some, slice_get, slice_set, refl, sym, ap, ◌∙◌}
 use Rattle.c_tree.specs.declared.tree.Item.{Item, Item-F, If, out-Item, roll-Item, out-roll-Item, roll-out-Item}
 use Rattle.c_tree.specs.declared.tree.Section.{Section}
 use Rattle.c_tree.specs.declared.tree.Item.TheOpen as O
 use Rattle.c_tree.specs.declared.tree.Item.TheVariants.{rolls-If}
 use Rattle.c_tree.specs.declared.tree.Test.{Test}
 use Rattle.c_tree.specs.TestTrees.{test_tree}
-use Rattle.c_tree.specs.Trees.{Forest, Nil, Then, tree_of, trees_of}
+use Rattle.c_tree.specs.Trees.{Nil, Then, tree_of, trees_of}
 use Rattle.c_tree.specs.Trees as P
 use Rattle.c_tree.proofs.TreeLaws.{tree-If, trees-more, trees-none}
 use Rattle.move_records.specs.declared.moves.MoveKind.TheVariants.{Z4}
@@ -60,7 +60,7 @@ set_unnested (z ∷ xs) (suc i) x y e h = ap (Then (tree_of z)) (set_unnested xs
 
 -- ---- the shape that Z4 asks for has these parts
 
-pub both : (a b : Bool) → (a && b) ≡ true → (a ≡ true) × (b ≡ true)
+both : (a b : Bool) → (a && b) ≡ true → (a ≡ true) × (b ≡ true)
 both true b h = (refl, h)
 both false b h = cc
 

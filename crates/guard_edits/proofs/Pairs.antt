@@ -1,5 +1,5 @@
 -- Two neighbours that are `if`s become one.
-use Rattle.std.proofs.Common.{◌≡◌, ℕ, zero, suc, ◌+◌, ◌<◌, ◌≤◌, Bool, true, false, cond, not, ◌&&◌, ◌==◌, List, [], ◌∷◌, ◌++◌, drop, length, Option, Some, None, IsSome, slice_get, slice_set, refl, sym, ap, subst, ◌∙◌, arith}
+use Rattle.std.proofs.Common.{◌≡◌, ℕ, zero, suc, ◌+◌, ◌≤◌, Bool, List, [], ◌∷◌, ◌++◌, drop, length, Option, Some, None, IsSome, slice_get, slice_set, refl, sym, ap, subst, ◌∙◌, arith}
 use Rattle.std.specs.Prelude.{remove}
 use Rattle.c_tree.specs.declared.tree.Item.{Item, Item-F, If, out-Item, roll-Item, roll-out-Item}
 use Rattle.c_tree.specs.declared.tree.Section.{Section}
@@ -7,13 +7,13 @@ use Rattle.c_tree.specs.declared.tree.Item.TheOpen as O
 use Rattle.c_tree.specs.declared.tree.Item.TheVariants.{rolls-If}
 use Rattle.c_tree.specs.declared.tree.Test.{Test}
 use Rattle.c_tree.specs.TestTrees.{test_tree}
-use Rattle.c_tree.specs.Trees.{Forest, Nil, Then, join, tree_of, trees_of}
+use Rattle.c_tree.specs.Trees.{Then, tree_of, trees_of}
 use Rattle.c_tree.specs.Trees as P
 use Rattle.c_tree.proofs.TreeLaws.{tree-If, trees-append}
 use Rattle.move_records.specs.declared.moves.MoveKind.TheVariants.{Z3}
 use Rattle.guard_simplify.specs.Application.{edited, joined}
-use Rattle.guard_simplify.specs.Choice.{is_nil, neighbours}
-use Rattle.guard_simplify.specs.Views.{guard_F, guard, off_label, beside, next_guard, arms_item}
+use Rattle.guard_simplify.specs.Choice.{neighbours}
+use Rattle.guard_simplify.specs.Views.{guard_F, guard, beside, next_guard, arms_item}
 use Rattle.guard_simplify.proofs.ViewLaws.{neighbours-item}
 use Rattle.guard_edits.specs.Built.{IsIf, first_length, first_length_F, IsJoined, ArePair}
 use Rattle.guard_edits.proofs.Nests.{out_if}

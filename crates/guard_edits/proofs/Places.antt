@@ -1,5 +1,5 @@
 -- An item of a list is changed, or goes.
-use Rattle.std.proofs.Common.{◌≡◌, ℕ, zero, suc, ◌<◌, List, [], ◌∷◌, ◌++◌, take, drop, length, Option, Some, None, slice_get, slice_set, get_or, refl, sym, ap, subst, ◌∙◌, arith}
+use Rattle.std.proofs.Common.{◌≡◌, ℕ, zero, suc, ◌<◌, List, [], ◌∷◌, length, Option, Some, None, slice_get, slice_set, refl, sym, ap, ◌∙◌, arith}
 use Rattle.std.specs.Prelude.{remove}
 use Rattle.c_tree.specs.declared.tree.Item.{Item, If, While, Do, Switch}
 use Rattle.c_tree.specs.declared.tree.Section.{Section}
@@ -8,9 +8,9 @@ use Rattle.c_tree.specs.declared.tree.Selector.{Selector}
 use Rattle.c_tree.specs.TestTrees.{test_tree, selector_tree}
 use Rattle.c_tree.specs.Trees as P
 use Rattle.c_tree.proofs.TreeLaws.{tree-If, tree-While, tree-Do, tree-Switch}
-use Rattle.c_tree.specs.Trees.{Tree, Forest, Nil, Then, tree_of, trees_of, sections_of}
-use Rattle.move_records.specs.declared.moves.MoveKind.TheVariants.{Z1, Z2, Z3, Z4}
-use Rattle.guard_simplify.specs.Application.{edited, shortened, with_shortened, without, without_pick, without_repeat, without_repeat_pick}
+use Rattle.c_tree.specs.Trees.{Tree, Then, tree_of, trees_of, sections_of}
+use Rattle.move_records.specs.declared.moves.MoveKind.TheVariants.{Z1, Z2}
+use Rattle.guard_simplify.specs.Application.{edited, shortened, without, without_pick, without_repeat, without_repeat_pick}
 use Rattle.guard_simplify.specs.declared.choice.Repeat.{Repeat}
 use Rattle.guard_simplify.specs.Choice.{repeat_of}
 use Rattle.guard_simplify.specs.Views.{repeat_in}

@@ -22,7 +22,7 @@ use Rattle.c_tree.specs.declared.tree.Step.{Step}
 use Rattle.c_tree.specs.Paths.{list_of}
 use Rattle.c_tree.specs.TestTrees.{TestTree, test_layer, test_tree, selector_tree}
 use Rattle.c_tree.specs.TestTrees as PT
-use Rattle.c_tree.specs.Trees.{Tree, Forest, Nil, Then, Sections, SectionTree, tree_of, trees_of, section_tree, sections_of}
+use Rattle.c_tree.specs.Trees.{Tree, Forest, Nil, Then, SectionTree, tree_of, trees_of, sections_of}
 use Rattle.c_tree.specs.Trees as P
 use Rattle.c_tree.specs.ExpressionTrees.{ExpressionTree, NodeTree, PlaceTree, node_layer, place_layer, expression_layer, expression_tree, node_tree}
 use Rattle.c_tree.specs.ExpressionTrees as PE

@@ -1,5 +1,5 @@
 -- The tests and searches of Choice as the code has them: of an item, and by its one layer (the names that end in _F).
-use Rattle.std.specs.Prelude.{ℕ, ◌==◌, Bool, true, false, cond, not, ◌&&◌, ◌||◌, List, [], ◌∷◌, ◌++◌, Option, Some, None}
+use Rattle.std.specs.Prelude.{ℕ, ◌==◌, Bool, false, cond, not, ◌&&◌, ◌||◌, List, [], ◌∷◌, ◌++◌, Option, Some, None}
 use Rattle.c_tree.specs.declared.tree.Item.{Item, Item-F, out-Item}
 use Rattle.c_tree.specs.declared.tree.Item.TheOpen.{If, While, Do, For, Switch, Block, Goto, Arm, Leap, Land}
 use Rattle.c_tree.specs.declared.tree.Section.{Section}
