@@ -13,7 +13,6 @@ mod Fronts
 mod Keeps
 mod Outcomes
 pub mod Reading
-pub mod Resumes
 pub mod Runs
 mod Tokens
 mod Traces

@@ -6,21 +6,21 @@ use Rattle.c_grammar.specs.declared.syntax.Syntax.{Syntax}
 use Rattle.c_grammar.specs.declared.syntax.Production.{Production}
 use Rattle.c_grammar.specs.declared.syntax.Production.TheVariants as p
 use Rattle.c_grammar.specs.Nodes.{node, leaf}
-use Rattle.c_parser.specs.declared.load.Load.{Load}
-use Rattle.c_parser.specs.declared.load.Role.{Role}
-use Rattle.c_parser.specs.declared.load.Role.TheVariants as r
-use Rattle.c_parser.specs.declared.form.Form.{Form}
-use Rattle.c_parser.specs.declared.form.Want.{Want}
-use Rattle.c_parser.specs.declared.form.Want.TheVariants as w
-use Rattle.c_parser.specs.declared.form.Lead.TheVariants as o
-use Rattle.c_parser.specs.declared.form.Member.{Member}
-use Rattle.c_parser.specs.declared.form.Member.TheVariants as m
-use Rattle.c_parser.specs.declared.frame.Full.{Full}
-use Rattle.c_parser.specs.declared.frame.Full.TheVariants as f
-use Rattle.c_parser.specs.declared.frame.Frame.{Frame}
-use Rattle.c_parser.specs.declared.frame.Frame.TheVariants as s
-use Rattle.c_parser.specs.Nodes.{postfix}
-use Rattle.c_parser.specs.Tests.{is_close, is_text, same}
+use Rattle.parse_stack.specs.declared.load.Load.{Load}
+use Rattle.parse_stack.specs.declared.load.Role.{Role}
+use Rattle.parse_stack.specs.declared.load.Role.TheVariants as r
+use Rattle.parse_stack.specs.declared.form.Form.{Form}
+use Rattle.parse_stack.specs.declared.form.Want.{Want}
+use Rattle.parse_stack.specs.declared.form.Want.TheVariants as w
+use Rattle.parse_stack.specs.declared.form.Lead.TheVariants as o
+use Rattle.parse_stack.specs.declared.form.Member.{Member}
+use Rattle.parse_stack.specs.declared.form.Member.TheVariants as m
+use Rattle.parse_stack.specs.declared.frame.Full.{Full}
+use Rattle.parse_stack.specs.declared.frame.Full.TheVariants as f
+use Rattle.parse_stack.specs.declared.frame.Frame.{Frame}
+use Rattle.parse_stack.specs.declared.frame.Frame.TheVariants as s
+use Rattle.parse_stack.specs.Nodes.{postfix}
+use Rattle.parse_stack.specs.Tests.{is_close, is_text, same}
 
 abbrev pub Frames : Type 0
 Frames = List Frame

@@ -2,9 +2,9 @@
 
 ghost use Rattle.std.specs.Prelude.{◌≡◌, ◌<◌, ◌∷◌, [], ◌++◌};
 ghost use Rattle.c_grammar.specs.Nodes as nodes;
-ghost use Rattle.c_parser.specs.Machine as spec;
-ghost use Rattle.c_parser.specs.Starts as starts;
-ghost use Rattle.c_parser.specs.Steps.{Reduces, Steps};
+ghost use Rattle.parse_stack.specs.Machine as spec;
+ghost use Rattle.parse_stack.specs.Starts as starts;
+ghost use Rattle.parse_stack.specs.Steps.{Reduces, Steps};
 
 use crate::build::{leaf, node};
 use crate::expressions::at_full;

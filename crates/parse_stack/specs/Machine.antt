@@ -8,22 +8,22 @@ use Rattle.c_grammar.specs.declared.syntax.Production.TheVariants as p
 use Rattle.c_grammar.specs.Nodes.{node, leaf}
 use Rattle.c_grammar.specs.Classes.{level, is_assign}
 use Rattle.c_grammar.specs.Events.{most}
-use Rattle.c_parser.specs.declared.load.Load.{Load}
-use Rattle.c_parser.specs.declared.load.Role.{Role}
-use Rattle.c_parser.specs.declared.load.Role.TheVariants as r
-use Rattle.c_parser.specs.declared.form.Form.{Form}
-use Rattle.c_parser.specs.declared.form.Want.{Want}
-use Rattle.c_parser.specs.declared.form.Want.TheVariants as w
-use Rattle.c_parser.specs.declared.form.Lead.{Lead}
-use Rattle.c_parser.specs.declared.form.Lead.TheVariants as o
-use Rattle.c_parser.specs.declared.frame.Full.{Full}
-use Rattle.c_parser.specs.declared.frame.Full.TheVariants as f
-use Rattle.c_parser.specs.declared.frame.Found.{Found}
-use Rattle.c_parser.specs.declared.frame.Found.TheVariants.{Lone, Whole}
-use Rattle.c_parser.specs.declared.frame.Frame.TheVariants as s
-use Rattle.c_parser.specs.Nodes.{lift, solid_unary, solid_binary, solid_conditional, solid_assignment, solid_expression, solid, postfix, target, commas}
-use Rattle.c_parser.specs.Tests.{is_step, is_question, is_colon, is_comma, is_open, is_close, is_open_index, is_close_index, is_text, starts_local, is_base, same}
-use Rattle.c_parser.specs.Starts.{Frames, Next, Fails, Takes, load, taken, counted, passed, rest, conditional, assignment, expression, at_unary, at_target, at_argument, at_full, at_type, at_opened, at_type_end, at_local, at_declarator, at_enumerator, at_initialiser, at_member, at_parameter, at_parameters, at_block, at_labelled, at_statement, at_body, at_external, at_top}
+use Rattle.parse_stack.specs.declared.load.Load.{Load}
+use Rattle.parse_stack.specs.declared.load.Role.{Role}
+use Rattle.parse_stack.specs.declared.load.Role.TheVariants as r
+use Rattle.parse_stack.specs.declared.form.Form.{Form}
+use Rattle.parse_stack.specs.declared.form.Want.{Want}
+use Rattle.parse_stack.specs.declared.form.Want.TheVariants as w
+use Rattle.parse_stack.specs.declared.form.Lead.{Lead}
+use Rattle.parse_stack.specs.declared.form.Lead.TheVariants as o
+use Rattle.parse_stack.specs.declared.frame.Full.{Full}
+use Rattle.parse_stack.specs.declared.frame.Full.TheVariants as f
+use Rattle.parse_stack.specs.declared.frame.Found.{Found}
+use Rattle.parse_stack.specs.declared.frame.Found.TheVariants.{Lone, Whole}
+use Rattle.parse_stack.specs.declared.frame.Frame.TheVariants as s
+use Rattle.parse_stack.specs.Nodes.{lift, solid_unary, solid_binary, solid_conditional, solid_assignment, solid_expression, solid, postfix, target, commas}
+use Rattle.parse_stack.specs.Tests.{is_step, is_question, is_colon, is_comma, is_open, is_close, is_open_index, is_close_index, is_text, starts_local, is_base, same}
+use Rattle.parse_stack.specs.Starts.{Frames, Next, Fails, Takes, load, taken, counted, passed, rest, conditional, assignment, expression, at_unary, at_target, at_argument, at_full, at_type, at_opened, at_type_end, at_local, at_declarator, at_enumerator, at_initialiser, at_member, at_parameter, at_parameters, at_block, at_labelled, at_statement, at_body, at_external, at_top}
 
 -- the token that leads in what may be left out
 abbrev pub leader : Lead → Class

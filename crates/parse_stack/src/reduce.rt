@@ -1,8 +1,8 @@
 //! What a frame does with a value, in front of the next token.
 
 ghost use Rattle.std.specs.Prelude.{◌≡◌, ◌<◌, [], ◌∷◌, IfOk};
-ghost use Rattle.c_parser.specs.Machine as spec;
-ghost use Rattle.c_parser.specs.Steps.{Reduces, ReducesAlone};
+ghost use Rattle.parse_stack.specs.Machine as spec;
+ghost use Rattle.parse_stack.specs.Steps.{Reduces, ReducesAlone};
 
 use crate::build::{
     commas, four, leaf, lift, more, node, one, postfix, solid, solid_assignment, solid_binary,

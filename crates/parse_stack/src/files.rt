@@ -1,8 +1,8 @@
 //! Tokens that begin a part of a file.
 
 ghost use Rattle.std.specs.Prelude.{◌≡◌, ◌<◌, IfOk};
-ghost use Rattle.c_parser.specs.Starts as spec;
-ghost use Rattle.c_parser.specs.Steps.{Steps};
+ghost use Rattle.parse_stack.specs.Starts as spec;
+ghost use Rattle.parse_stack.specs.Steps.{Steps};
 
 use crate::build::{leaf, more, node, one};
 use crate::form::{Lead, Member, Want};

@@ -1,14 +1,14 @@
 -- How a node goes on in front of a token, by what stands next in it.
 use Rattle.std.proofs.Common.{◌≡◌, ℕ, Bool, false, cond, List, [], ◌∷◌, Option, Some, None, Ok, ap, subst, ◌∙◌}
 use Rattle.c_grammar.specs.declared.class.Class.{Class}
-use Rattle.c_parser.specs.declared.form.Form.{Form}
-use Rattle.c_parser.specs.declared.form.Want.{Want}
-use Rattle.c_parser.specs.declared.frame.Found.TheVariants.{Whole}
+use Rattle.parse_stack.specs.declared.form.Form.{Form}
+use Rattle.parse_stack.specs.declared.form.Want.{Want}
+use Rattle.parse_stack.specs.declared.frame.Found.TheVariants.{Whole}
 use Rattle.c_grammar.specs.Nodes.{node}
-use Rattle.c_parser.specs.declared.load.Load.{Load}
-use Rattle.c_parser.specs.Starts.{Frames, Next, Fails, Takes}
-use Rattle.c_parser.specs.Steps.{Steps}
-use Rattle.c_parser.specs.Machine.{skips, skipped, begin, feed, give, resume}
+use Rattle.parse_stack.specs.declared.load.Load.{Load}
+use Rattle.parse_stack.specs.Starts.{Frames, Next, Fails, Takes}
+use Rattle.parse_stack.specs.Steps.{Steps}
+use Rattle.parse_stack.specs.Machine.{skips, skipped, begin, feed, give, resume}
 
 pub resumes_begun : (form : Form) (x : Want) (l : List Want) (z : Frames) (t : Class) (at : ℕ) → form.todo ≡ x ∷ l → skips x t ≡ false
     → resume form z t at ≡ begin form.rule form.first form.level form.parts l x z t at

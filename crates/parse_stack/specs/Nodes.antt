@@ -4,10 +4,10 @@ use Rattle.c_grammar.specs.declared.syntax.Syntax.{Syntax}
 use Rattle.c_grammar.specs.declared.syntax.Production.{Production}
 use Rattle.c_grammar.specs.declared.syntax.Production.TheVariants as p
 use Rattle.c_grammar.specs.Nodes.{node}
-use Rattle.c_parser.specs.declared.frame.Found.{Found}
-use Rattle.c_parser.specs.declared.frame.Found.TheVariants.{Lone, Whole}
-use Rattle.c_parser.specs.declared.frame.Full.{Full}
-use Rattle.c_parser.specs.declared.frame.Full.TheVariants as f
+use Rattle.parse_stack.specs.declared.frame.Found.{Found}
+use Rattle.parse_stack.specs.declared.frame.Found.TheVariants.{Lone, Whole}
+use Rattle.parse_stack.specs.declared.frame.Full.{Full}
+use Rattle.parse_stack.specs.declared.frame.Full.TheVariants as f
 
 -- one more node around it, and none around a target alone
 abbrev pub lift : Production → ℕ → ℕ → Found → Found

@@ -2,8 +2,8 @@
 
 ghost use Rattle.std.specs.Prelude.{◌≡◌, ◌<◌, ◌∷◌, []};
 ghost use Rattle.c_grammar.specs.Nodes as nodes;
-ghost use Rattle.c_parser.specs.Starts as spec;
-ghost use Rattle.c_parser.specs.Steps.{Steps};
+ghost use Rattle.parse_stack.specs.Starts as spec;
+ghost use Rattle.parse_stack.specs.Steps.{Steps};
 
 use crate::build::{leaf, one};
 use crate::expressions::at_full;

@@ -1,8 +1,8 @@
 //! One token more.
 
 ghost use Rattle.std.specs.Prelude.{◌≡◌, ◌<◌, ◌∷◌, [], IfOk};
-ghost use Rattle.c_parser.specs.Machine as spec;
-ghost use Rattle.c_parser.specs.Steps.{Steps};
+ghost use Rattle.parse_stack.specs.Machine as spec;
+ghost use Rattle.parse_stack.specs.Steps.{Steps};
 
 use crate::build::{leaf, more, node, one, postfix, target, three, two, two_more};
 use crate::expressions::{at_argument, at_opened, at_target, at_type_end, at_unary};
@@ -233,7 +233,9 @@ fn at_top_name(
     resumed(alloc, stack, form, class, at)
 }
 
-/// Takes the token, or answers that it fits nowhere.
+/// Takes one more token, the one with the number `at`, of which only the class counts. `None` where no file goes on
+/// with it; after that, as after want of memory, the stack is given up. What the limits have to know of a token that
+/// is taken is answered (docs/SUBSET.md).
 pub fn step(
     alloc: Global,
     stack: &mut Stack<Frame>,

@@ -1,8 +1,8 @@
 use Rattle.std.proofs.Common.{◌∙◌, ap, sym}
-use Rattle.c_parser.specs.declared.frame.Found.TheVariants.{Whole}
-use Rattle.c_parser.specs.Machine as spec
-use Rattle.c_parser.proofs.Resumes.{resumes_begun, resumes_ended, steps_taken, steps_failed}
-use Rattle.c_parser.proofs.resume.resume.Goals as goal
+use Rattle.parse_stack.specs.declared.frame.Found.TheVariants.{Whole}
+use Rattle.parse_stack.specs.Machine as spec
+use Rattle.parse_stack.proofs.Resumes.{resumes_begun, resumes_ended, steps_taken, steps_failed}
+use Rattle.parse_stack.proofs.resume.resume.Goals as goal
 
 pub returns-in-Some-2 : goal.returns-in-Some-2
 returns-in-Some-2 c =

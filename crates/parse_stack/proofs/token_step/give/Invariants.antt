@@ -1,6 +1,6 @@
 use Rattle.std.proofs.Common.{◌≡◌, length}
-use Rattle.c_parser.specs.Machine as spec
-use Rattle.c_parser.proofs.step.give.Given as goal
+use Rattle.parse_stack.specs.Machine as spec
+use Rattle.parse_stack.proofs.token_step.give.Given as goal
 
 -- the frames that are left do with the value what all of them do
 abbrev pub invariant-loop-frame : goal.invariant-loop-frame

@@ -2,13 +2,13 @@
 use Rattle.std.specs.Prelude.{◌≡◌, ℕ, ◌∷◌, Option, Some, None, Result, Ok, Err}
 use Rattle.c_types.specs.declared.refusal.Memory.{Memory}
 use Rattle.c_grammar.specs.declared.class.Class.{Class}
-use Rattle.c_parser.specs.declared.frame.Found.{Found}
-use Rattle.c_parser.specs.declared.frame.Frame.{Frame}
-use Rattle.c_parser.specs.declared.given.Given.{Given}
-use Rattle.c_parser.specs.declared.given.Given.TheVariants as g
-use Rattle.c_parser.specs.declared.load.Load.{Load}
-use Rattle.c_parser.specs.Starts.{Frames, Next, Fails, Takes}
-use Rattle.c_parser.specs.Machine.{give}
+use Rattle.parse_stack.specs.declared.frame.Found.{Found}
+use Rattle.parse_stack.specs.declared.frame.Frame.{Frame}
+use Rattle.parse_stack.specs.declared.given.Given.{Given}
+use Rattle.parse_stack.specs.declared.given.Given.TheVariants as g
+use Rattle.parse_stack.specs.declared.load.Load.{Load}
+use Rattle.parse_stack.specs.Starts.{Frames, Next, Fails, Takes}
+use Rattle.parse_stack.specs.Machine.{give}
 
 abbrev pub Steps : Next → Result (Option Load) Memory → Frames → Type 0
 Steps next (Ok (Some l)) new = next ≡ Takes l new

@@ -1,5 +1,5 @@
 use Rattle.std.proofs.Common.{◌≡◌, ◌≤◌, length, drop}
-use Rattle.c_parser.proofs.want.todo.Given as goal
+use Rattle.parse_stack.proofs.want.todo.Given as goal
 
 abbrev pub invariant-loop-i : goal.invariant-loop-i
 invariant-loop-i l = record { bound : l.i ≤ length l.wants; left : l.left ≡ drop l.i l.wants }

@@ -1,8 +1,8 @@
 //! What is awaited for a node that begins at a place.
 
 ghost use Rattle.std.specs.Prelude.{◌≡◌, ◌∷◌, OnOk, IfOk};
-ghost use Rattle.c_parser.specs.Machine as machine;
-ghost use Rattle.c_parser.specs.Starts as spec;
+ghost use Rattle.parse_stack.specs.Machine as machine;
+ghost use Rattle.parse_stack.specs.Starts as spec;
 
 use crate::form::{Form, Lead, Want};
 use crate::frame::{Frame, Full};

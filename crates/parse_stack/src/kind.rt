@@ -2,8 +2,8 @@
 
 ghost use Rattle.std.specs.Prelude.{◌≡◌};
 ghost use Rattle.c_grammar.specs.Classes as classes;
-ghost use Rattle.c_parser.specs.Machine as machine;
-ghost use Rattle.c_parser.specs.Tests as tests;
+ghost use Rattle.parse_stack.specs.Machine as machine;
+ghost use Rattle.parse_stack.specs.Tests as tests;
 
 use crate::form::{Lead, Want};
 use c_grammar::Class;

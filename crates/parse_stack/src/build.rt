@@ -2,7 +2,7 @@
 
 ghost use Rattle.std.specs.Prelude.{◌≡◌, ◌<◌, [], ◌∷◌, ◌++◌, IfOk};
 ghost use Rattle.c_grammar.specs.Nodes as nodes;
-ghost use Rattle.c_parser.specs.Nodes as spec;
+ghost use Rattle.parse_stack.specs.Nodes as spec;
 
 use crate::frame::{Found, Full};
 use c_grammar::{Production, Syntax};

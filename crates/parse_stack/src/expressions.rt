@@ -1,8 +1,8 @@
 //! Tokens that begin an expression or a part of one.
 
 ghost use Rattle.std.specs.Prelude.{◌≡◌, ◌<◌, ◌∷◌, []};
-ghost use Rattle.c_parser.specs.Starts as spec;
-ghost use Rattle.c_parser.specs.Steps.{Steps};
+ghost use Rattle.parse_stack.specs.Starts as spec;
+ghost use Rattle.parse_stack.specs.Steps.{Steps};
 
 use crate::build::{leaf, one, postfix, three};
 use crate::frame::{Frame, Full};

@@ -1,6 +1,6 @@
 use Rattle.std.proofs.Common.{◌≡◌, length}
-use Rattle.c_parser.specs.Machine as spec
-use Rattle.c_parser.proofs.resume.resume.Given as goal
+use Rattle.parse_stack.specs.Machine as spec
+use Rattle.parse_stack.proofs.resume.resume.Given as goal
 
 -- what is left goes on to what the whole node gives
 abbrev pub invariant-loop-want : goal.invariant-loop-want

@@ -1,0 +1,5 @@
+pub mod Machine
+pub mod Nodes
+pub mod Starts
+pub mod Steps
+pub mod Tests
