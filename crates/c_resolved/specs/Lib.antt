@@ -1,0 +1,14 @@
+pub mod Within
+pub mod Names
+pub mod Kinds
+pub mod Scopes
+pub mod Form
+pub mod Switches
+pub mod Verbatims
+pub mod PrintableExpressions
+pub mod PrintableStatements
+pub mod PrintablePrograms
+pub mod Spelling
+pub mod Files
+pub mod Limits
+pub mod Resolved
