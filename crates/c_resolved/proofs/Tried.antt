@@ -1,5 +1,5 @@
 -- The definitions tried: a body with an outer and an inner `x`, what is refused, formats, and a whole program.
-use Rattle.std.proofs.Common.{ℕ, pos, Bool, true, false, List, [], ◌∷◌, codes, Option, Some, None, ◌≡◌, is_some, true≢false, refl, ap, arith}
+use Rattle.std.proofs.Common.{ℕ, pos, Bool, true, false, List, [], ◌∷◌, codes, Option, Some, None, ◌≡◌, is_some, true≢false, inl, inr, refl, ap, sym, arith}
 use Rattle.std.proofs.lemmas.Int.{ints}
 use Rattle.c_types.specs.declared.kinds.IntKind.{IntKind}
 use Rattle.c_types.specs.declared.kinds.IntKind.TheVariants.{Int, Long}
@@ -16,6 +16,7 @@ use Rattle.c_tree.specs.TestTrees.{Source}
 use Rattle.c_tree.specs.Trees.{Forest, Nil, Then, Evaluate, Return, If, Block, Local, Goto, Mark, trees_of}
 use Rattle.c_resolved.specs.Kinds.{KindsAgree, HasValue, wanted}
 use Rattle.c_resolved.specs.Scopes.{Meaning, AVariable, Scope, at_start, inside, with_parameters, AreBound}
+use Rattle.c_resolved.specs.Verbatims.{IsComment}
 use Rattle.c_resolved.specs.Form.{gathered, declared_slot, marked_label, numbers_from}
 use Rattle.c_resolved.specs.PrintableStatements.{depth}
 use Rattle.c_resolved.specs.Limits.{no_counts, most_counted}
@@ -111,6 +112,16 @@ twice h = is_there h.0.0
 -- an int where the kind of `x + 1` is a long
 wrong_kind : KindsAgree (record { tops = []; slots = two_slots }) (Typed (Some Long) (Binary (Arith Add) (read 0) (number 1))) → ⊥
 wrong_kind h = one_or_long (ap is_long h.0.2)
+
+-- ---- comments
+
+a_line : IsComment (codes "// a")
+a_line = (refl, inl (refl, record { whole = refl; ended = refl }))
+
+-- a `\` in front of the newline
+continued : IsComment (codes "// a\\") → ⊥
+continued (e, inl h) = true≢false (sym h.1.whole)
+continued (e, inr h) = true≢false (sym h.1)
 
 -- ---- formats
 

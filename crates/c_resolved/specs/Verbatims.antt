@@ -3,16 +3,16 @@ use Rattle.std.specs.Prelude.{◌≡◌, ◌⊎◌, ℕ, true, List, [], ◌∷�
 use Rattle.c_lexer.specs.Pieces.{runs_on, closes, bare, is_include}
 
 -- behind `//` or `#`: bytes that the line in front of a newline is, to its end, without carriage returns there
-pub record IsLine (w : List ℕ) : Type 0 where
+pub record IsOneLine (w : List ℕ) : Type 0 where
   pub whole : runs_on w (10 ∷ []) ≡ true
   pub ended : bare w ≡ w
 
 -- a comment: a line of it, or what stands between `/*` and the first `*/`, with both
 abbrev pub IsComment : List ℕ → Type 0
-IsComment (a ∷ b ∷ w) = (a ≡ 47) × ((b ≡ 47) × IsLine w ⊎ (b ≡ 42) × (closes w ≡ true))
+IsComment (a ∷ b ∷ w) = (a ≡ 47) × ((b ≡ 47) × IsOneLine w ⊎ (b ≡ 42) × (closes w ≡ true))
 IsComment _ = ⊥
 
 -- an `#include` line
 abbrev pub IsDirective : List ℕ → Type 0
-IsDirective (a ∷ b ∷ w) = (a ≡ 35) × IsLine (b ∷ w) × (is_include (b ∷ w) ≡ true)
+IsDirective (a ∷ b ∷ w) = (a ≡ 35) × IsOneLine (b ∷ w) × (is_include (b ∷ w) ≡ true)
 IsDirective _ = ⊥
