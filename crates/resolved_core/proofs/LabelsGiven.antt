@@ -28,7 +28,7 @@ use Rattle.c_resolved.specs.Resolved.{IsResolvedFunction}
 -- ---- Marks are counted by the list of their numbers
 
 -- how often a number stands in a list
-abbrev count_in : ℕ → List ℕ → ℕ
+abbrev pub count_in : ℕ → List ℕ → ℕ
 count_in l [] = 0
 count_in l (m ∷ ms) = cond (eqb l m) 1 0 + count_in l ms
 
@@ -41,7 +41,7 @@ module _ (l : ℕ) where
   Bit x = mark_bit l x
 
   mutual
-    counted : (xs : Forest) → total Bit xs ≡ count_in l (gathered marked_label xs)
+    pub counted : (xs : Forest) → total Bit xs ≡ count_in l (gathered marked_label xs)
     counted Nil = refl
     counted (Then x xs) =
         let e = counted_of x in
@@ -133,19 +133,19 @@ section_same [] true = refl
 section_same [] false = refl
 section_same (e ∷ es) default = ap (λ l. Some e ∷ l) (section_same es default)
 
-labels_same : (c : Sections) → P.switch_labels c ≡ switch_labels c
+pub labels_same : (c : Sections) → P.switch_labels c ≡ switch_labels c
 labels_same NoSection = refl
 labels_same (Section cases default a ends c) =
     ap (λ l. l ++ (P.arrivals a ++ P.switch_labels c)) (section_same cases default)
     ∙ ap (λ l. section_labels cases default ++ (l ++ P.switch_labels c)) (arrivals_same a)
     ∙ ap (λ l. section_labels cases default ++ (arrivals a ++ l)) (labels_same c)
 
-cases_same : (ls : List (Option ExpressionTree)) → P.cases_among ls ≡ cases_among ls
+pub cases_same : (ls : List (Option ExpressionTree)) → P.cases_among ls ≡ cases_among ls
 cases_same [] = refl
 cases_same (Some e ∷ ls) = ap (λ l. e ∷ l) (cases_same ls)
 cases_same (None ∷ ls) = cases_same ls
 
-nones_same : (ls : List (Option ExpressionTree)) → nones ls ≡ defaults_among ls
+pub nones_same : (ls : List (Option ExpressionTree)) → nones ls ≡ defaults_among ls
 nones_same [] = refl
 nones_same (Some e ∷ ls) = nones_same ls
 nones_same (None ∷ ls) = ap suc (nones_same ls)

@@ -2,9 +2,11 @@ pub mod Ranged
 pub mod KindsGiven
 pub mod ItemsGiven
 pub mod LabelsGiven
+pub mod LiveGotos
 pub mod SourceGiven
 pub mod Printed
 pub mod OneScope
 pub mod Scoped
+pub mod GoodSource
 mod Tried
 pub mod TheLaws

@@ -18,13 +18,15 @@ use Rattle.jump_meaning.specs.Code.{entry_or}
 use Rattle.jump_meaning.specs.World.{no_slot}
 use Rattle.loose_core.specs.Loose.{Setting, In, AreIn}
 use Rattle.flat_core.specs.Parts as P
+use Rattle.flat_core.specs.Parts.{is_named}
 use Rattle.flat_core.specs.Source.{InTest, InSelector, AreInitialisers, IsSourceItem}
 use Rattle.c_resolved.specs.Within.{Each}
 use Rattle.c_resolved.specs.Form.{HasNoLoose, IsNotLoose, gathered, gathered_of, gathered_in, declared_slot, numbers_from, HasSourceForm, IsFirstPart, AreAlike}
 use Rattle.c_resolved.specs.Files as F
 use Rattle.c_resolved.specs.Limits.{FlatCounts}
 use Rattle.c_resolved.specs.Resolved.{IsResolvedFunction, IsInitialised}
-use Rattle.resolved_core.specs.Laws.{NamesLive, IsSettingOf}
+use Rattle.resolved_core.specs.Laws.{IsSettingOf}
+use Rattle.resolved_core.proofs.LiveGotos.{NamesLive, named_live}
 use Rattle.resolved_core.proofs.Ranged.{the_some, each_left, each_right, function_ranged}
 
 -- ---- a fact of each declared slot
@@ -187,17 +189,17 @@ module _ (f : Function) (s : Setting) (live : ℕ → Bool) (g : IsSettingOf s f
   item_source (Arrival e) h = tt
   item_source (Note bs) h = tt
 
-pub function_source : (counts : FlatCounts) (ts : List Top) (f : Function) (s : Setting) (live : ℕ → Bool) → IsResolvedFunction counts ts f → IsSettingOf s f → Everywhere (NamesLive live) (body_of f)
-    → Everywhere (IsSourceItem s live) (body_of f)
-function_source counts ts f s live r g named =
+pub function_source : (counts : FlatCounts) (ts : List Top) (f : Function) (s : Setting) → IsResolvedFunction counts ts f → IsSettingOf s f → Everywhere (IsSourceItem s (is_named (body_of f))) (body_of f)
+function_source counts ts f s r g =
     let a = body_of f in
+    let live = is_named a in
     let slots = subst (Each (λ y. f.params ≤ y)) (sym r.form.slots) (numbers_from_on f.params f.params (length f.slots - f.params) (grind (arith))) in
     let D = Declared (λ y. f.params ≤ y) in
     everywhere_map (Known f s live g) (IsSourceItem s live) (item_source f s live g) a
     (everywhere_both (λ x. HasSourceForm f x × ItemSlots (λ y. y < length f.slots) x) (λ x. IsInitialised f.slots x × (D x × NamesLive live x)) a
     (everywhere_both (HasSourceForm f) (ItemSlots (λ y. y < length f.slots)) a r.form.items (function_ranged counts ts f r).slots)
     (everywhere_both (IsInitialised f.slots) (λ x. D x × NamesLive live x) a r.initialised
-    (everywhere_both D (NamesLive live) a (declared (λ y. f.params ≤ y) a slots) named)))
+    (everywhere_both D (NamesLive live) a (declared (λ y. f.params ≤ y) a slots) (named_live a))))
 
 pub function_calm : (counts : FlatCounts) (ts : List Top) (f : Function) → IsResolvedFunction counts ts f → is_empty (P.arrivals (body_of f)) ≡ true
 function_calm counts ts f r = ap is_empty (none_loose (body_of f) r.form.cases)

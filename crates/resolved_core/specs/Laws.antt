@@ -1,11 +1,11 @@
 -- What the functions of this crate state: what a resolved program is known to be.
-use Rattle.std.specs.Prelude.{ℕ, ◌≡◌, ◌≢◌, ◌<◌, Bool, true, List, ◌∷◌, length, Some, All}
+use Rattle.std.specs.Prelude.{ℕ, ◌≡◌, ◌≢◌, ◌<◌, true, List, ◌∷◌, length, Some, All}
 use Rattle.c_tree.specs.declared.tree.Function.{Function}
 use Rattle.c_tree.specs.declared.tree.Slot.{Slot}
 use Rattle.c_tree.specs.declared.tree.Top.{Top}
 use Rattle.c_tree.specs.declared.tree.Top.TheVariants as T
 use Rattle.c_tree.specs.declared.tree.Program.{Program}
-use Rattle.c_tree.specs.Trees.{Tree, Forest, Local, Goto, Arrival}
+use Rattle.c_tree.specs.Trees.{Tree, Forest, Local, Arrival}
 use Rattle.c_tree.specs.Everywhere.{Everywhere}
 use Rattle.c_tree.specs.InRange.{body_of, IsProgramInRange}
 use Rattle.c_tree.specs.Jumps.{is_jump_free_program, is_plain_program}
@@ -19,8 +19,9 @@ use Rattle.plain_core.specs.Kinded.{KindedItem}
 use Rattle.plain_core.specs.Laws.{IsProgramReady}
 use Rattle.loose_core.specs.Loose.{Setting, slot_of}
 use Rattle.c_tree.specs.TextItems.{is_empty}
-use Rattle.flat_core.specs.Parts.{arrivals}
+use Rattle.flat_core.specs.Parts.{arrivals, is_named}
 use Rattle.flat_core.specs.Source.{IsSourceItem, HasOwnLabels}
+use Rattle.flat_made.specs.Laws.{IsGoodSource}
 use Rattle.c_resolved.specs.Within.{ItemExpressions}
 use Rattle.c_resolved.specs.Scopes.{Meaning, Scope, look_up, bind, IsBound, AreBound}
 use Rattle.c_resolved.specs.Limits.{FlatCounts, no_counts}
@@ -51,11 +52,6 @@ abbrev pub HasText : Program → Type 0
 HasText p = All TopHasText p.tops
 
 -- ---- what the flat form takes of a function
-
--- the label of each goto is live
-abbrev pub NamesLive : (ℕ → Bool) → Tree → Type 0
-NamesLive live (Goto l) = live l ≡ true
-NamesLive live _ = Unit {0}
 
 -- the setting has the slots of the function, with the same lengths
 pub record IsSettingOf (s : Setting) (f : Function) : Type 0 where
@@ -91,9 +87,10 @@ pub record ResolvedLaws : Type 0 where
   pub meanings : (counts : FlatCounts) (p : Program) → IsResolvedWith counts p → is_jump_free_program p ≡ true → MeaningsAgreeOn (code_of p)
   -- each label of a function has one Mark, and the cases of a switch differ
   pub labels : (counts : FlatCounts) (ts : List Top) (f : Function) → IsResolvedFunction counts ts f → HasOwnLabels (length f.labels) (body_of f)
+  -- its body can be flattened
+  pub good : (counts : FlatCounts) (ts : List Top) (f : Function) → IsResolvedFunction counts ts f → IsGoodSource (length f.labels) (body_of f)
   -- its items are those that the flat form takes
-  pub source : (counts : FlatCounts) (ts : List Top) (f : Function) (s : Setting) (live : ℕ → Bool) → IsResolvedFunction counts ts f → IsSettingOf s f → Everywhere (NamesLive live) (body_of f)
-      → Everywhere (IsSourceItem s live) (body_of f)
+  pub source : (counts : FlatCounts) (ts : List Top) (f : Function) (s : Setting) → IsResolvedFunction counts ts f → IsSettingOf s f → Everywhere (IsSourceItem s (is_named (body_of f))) (body_of f)
   -- and no nested case label stands outside of a switch
   pub calm : (counts : FlatCounts) (ts : List Top) (f : Function) → IsResolvedFunction counts ts f → is_empty (arrivals (body_of f)) ≡ true
   -- a list without declarations is bound if each of its names is, in whatever lists of it they stand
