@@ -1,0 +1,11 @@
+pub mod Source
+pub mod Calm
+pub mod BodiesKept
+pub mod Chains
+pub mod Unlabelled
+pub mod Flattened
+pub mod FlatPrograms
+pub mod Free
+pub mod Ended
+pub mod KindsFlat
+pub mod Whole

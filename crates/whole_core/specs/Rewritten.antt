@@ -1,0 +1,148 @@
+-- A whole program rewritten, on trees: each function gets its flat form, its gotos are converted and moved until
+-- no Leap is left, and what that made is simplified. Names of labels, slots and guards aside.
+use Rattle.std.specs.Prelude.{ℕ, ◌+◌, ◌≡◌, true, false, List, [], ◌∷◌, ◌++◌, map, length, take, drop, Option, Some, None, cond}
+use Rattle.std.specs.List.{AllByRecursion}
+use Rattle.c_tree.specs.declared.tree.Item.{Item}
+use Rattle.c_tree.specs.declared.tree.Slot.{Slot}
+use Rattle.c_tree.specs.declared.tree.Path.{Path}
+use Rattle.c_tree.specs.declared.tree.Function.{Function}
+use Rattle.c_tree.specs.declared.tree.Top.{Top}
+use Rattle.c_tree.specs.declared.tree.Top.TheVariants as T
+use Rattle.c_tree.specs.declared.tree.Program.{Program}
+use Rattle.c_tree.specs.Trees.{trees_of}
+use Rattle.c_tree.specs.Everywhere.{total}
+use Rattle.c_tree.specs.InRange.{body_of}
+use Rattle.jump_meaning.specs.Laws.{IsTopUnflat}
+use Rattle.loose_core.specs.Pieces.{Stays}
+use Rattle.c_tree.specs.Numerals.{constant}
+use Rattle.loose_core.specs.Loose.{Setting, NoArrival, ExtendSlots}
+use Rattle.loose_core.proofs.Spelled.{spelled_numbers}
+use Rattle.flat_core.specs.Parts.{has_jumps, variables_of}
+use Rattle.flat_core.specs.FlatForm.{Plan, flat, marks, coded, numbered, first_here, flat_body}
+use Rattle.flat_core.specs.Source.{HaveVariables}
+use Rattle.flat_core.specs.Unlabelled.{unlabelled}
+use Rattle.flat_made.specs.Laws.{label_count}
+use Rattle.guard_vars.specs.Conversion.{converted, converted_list}
+use Rattle.move_core.specs.Bodies.{with_body}
+use Rattle.move_records.specs.declared.moves.MoveKind.{MoveKind}
+use Rattle.derivation.specs.declared.kept.Kept.{Kept}
+use Rattle.derivation.specs.Derivations.{Derives}
+use Rattle.guard_simplify.specs.declared.choice.Choice.{Choice}
+use Rattle.guard_simplify.specs.Application.{Reaches, IsSimple}
+
+-- ---- flat forms
+
+-- the numbers of the labels of the flat form of a function
+abbrev pub plan_of : Function → Plan
+plan_of f =
+    let p = coded constant f.slots (length f.labels) (body_of f) in
+    numbered (marks (flat p (first_here (length f.slots)) Stays Stays NoArrival (body_of f))) p
+
+-- g has the slots of f and further ones, and the labels of its flat form
+abbrev pub setting : Function → Function → Setting
+setting f g = record {
+  labels = λ l. cond ((plan_of f).live l) (Some ((plan_of f).source l)) None;
+  params = f.params;
+  old = f.slots;
+  new = g.slots;
+  number = constant;
+  numbers = spelled_numbers;
+}
+
+-- g has no labels
+abbrev pub without_labels : Function → Function → Setting
+without_labels f g = record { labels = λ l. None; params = f.params; old = f.slots; new = g.slots; number = constant; numbers = spelled_numbers }
+
+-- g is the flat form of f
+pub record IsFlatForm (f g : Function) : Type 0 where
+  pub old : List Item
+  pub new : List Item
+  pub old_body : f.body ≡ Some old
+  pub new_body : g.body ≡ Some new
+  pub trees : trees_of new ≡ flat_body constant f.slots (length f.labels) (trees_of old)
+  pub flat : g.flat ≡ true
+  pub name : f.name ≡ g.name
+  pub result : f.result ≡ g.result
+  pub params : f.params ≡ g.params
+  pub file_only : f.file_only ≡ g.file_only
+  -- its parameters are those of f; its other variables, none of them const, have the kinds and cells of those of f, and
+  -- there is a number more for each scattered switch
+  pub parameters : take f.params g.slots ≡ take f.params f.slots
+  pub constants : AllByRecursion (λ (s : Slot). s.constant ≡ false) (drop f.params g.slots)
+  pub slots : ExtendSlots f.slots g.slots
+  pub more_slots : length g.slots ≡ length f.slots + total variables_of (trees_of old)
+  pub variables : HaveVariables (setting f g) (first_here (length f.slots)) (trees_of old)
+  -- and the labels that stand in it
+  pub labels : length g.labels ≡ label_count f.slots (length f.labels) (trees_of old)
+
+-- g is f without its labels
+pub record IsUnlabelledForm (f g : Function) : Type 0 where
+  pub old : List Item
+  pub new : List Item
+  pub old_body : f.body ≡ Some old
+  pub new_body : g.body ≡ Some new
+  pub trees : trees_of new ≡ unlabelled (trees_of old)
+  pub flat : g.flat ≡ false
+  pub name : f.name ≡ g.name
+  pub result : f.result ≡ g.result
+  pub params : f.params ≡ g.params
+  pub file_only : f.file_only ≡ g.file_only
+  pub slots : g.slots ≡ f.slots
+  pub labels : g.labels ≡ []
+
+abbrev pub IsNoFunction : Top → Type 0
+IsNoFunction (T.Function f) = ⊥
+IsNoFunction _ = Unit {0}
+
+pub data FlatTop : Top → Top → Type 0 where
+  ft_flat : {f g : Function} → has_jumps (body_of f) ≡ true → IsFlatForm f g → FlatTop (T.Function f) (T.Function g)
+  ft_unlabelled : {f g : Function} → has_jumps (body_of f) ≡ false → IsUnlabelledForm f g → FlatTop (T.Function f) (T.Function g)
+  ft_declared : (f : Function) → f.body ≡ None → FlatTop (T.Function f) (T.Function f)
+  ft_other : (t : Top) → IsNoFunction t → FlatTop t t
+
+pub data FlatTops : List Top → List Top → Type 0 where
+  ft_none : FlatTops [] []
+  ft_more : {t u : Top} {ts us : List Top} → FlatTop t u → FlatTops ts us → FlatTops (t ∷ ts) (u ∷ us)
+
+-- ---- moves
+
+-- a move: in which function, of which kind, of which label, and where
+pub record Made : Type 0 where
+  pub function : List ℕ
+  pub kind : MoveKind
+  pub label : Option ℕ
+  pub path : Path
+
+abbrev pub of_kept : Function → Kept → Made
+of_kept f m = record { function = f.name; kind = m.kind; label = Some m.label; path = m.path }
+
+abbrev pub of_choice : Function → Choice → Made
+of_choice f c = record { function = f.name; kind = c.kind; label = c.label; path = c.path }
+
+-- g is f, a flat function, after its conversion, all moves of its Leaps and all simplifications
+pub record IsMoved (f g : Function) (ms : List Made) : Type 0 where
+  pub body : List Item
+  pub middle : List Item
+  pub new : List Item
+  pub moves : List Kept
+  pub choices : List Choice
+  pub body_is : f.body ≡ Some body
+  pub derives : Derives (converted_list body) moves middle
+  pub reaches : Reaches middle choices new
+  pub simple : IsSimple new
+  pub result : g ≡ with_body (converted f) new
+  pub made : ms ≡ map (of_kept f) moves ++ map (of_choice f) choices
+
+pub data MovedTop : Top → Top → List Made → Type 0 where
+  mt_moved : {f g : Function} {ms : List Made} → f.flat ≡ true → IsMoved f g ms → MovedTop (T.Function f) (T.Function g) ms
+  mt_other : (t : Top) → IsTopUnflat t → MovedTop t t []
+
+pub data MovedTops : List Top → List Top → List Made → Type 0 where
+  mt_none : MovedTops [] [] []
+  mt_more : {t u : Top} {ts us : List Top} {ms ns : List Made} → MovedTop t u ms → MovedTops ts us ns → MovedTops (t ∷ ts) (u ∷ us) (ms ++ ns)
+
+-- q is what p is rewritten to, by these moves in this order
+pub record IsRewritten (p q : Program) (ms : List Made) : Type 0 where
+  pub flat : Program
+  pub flattened : FlatTops p.tops flat.tops
+  pub moved : MovedTops flat.tops q.tops ms
