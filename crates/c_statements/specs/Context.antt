@@ -1,20 +1,25 @@
 -- What is known at a place of a function's body.
-use Rattle.std.specs.Prelude.{ℕ, Bool, true, false, List, [], ◌∷◌, Option, Some, None, is_some, length, map}
+use Rattle.std.specs.Prelude.{ℕ, Bool, true, false, cond, ◌==◌, List, [], ◌∷◌, ◌++◌, Option, Some, None, is_some, length, map}
 use Rattle.c_types.specs.declared.kinds.IntKind.{IntKind}
 use Rattle.c_tree.specs.declared.tree.Slot.{Slot}
 use Rattle.c_tree.specs.declared.tree.Item.{Item}
 use Rattle.c_tree.specs.declared.tree.Item as item
 use Rattle.c_kinds.specs.Scopes.{Env, Scope, Names, found}
+pub use Rattle.c_statements.specs.declared.anchors.Anchor.{Anchor}
+pub use Rattle.c_statements.specs.declared.anchors.Anchor.TheVariants.{Before, AtEnd, AtSection, Last}
 
 -- ---- places of Notes
 
--- Where a Note stands: directly before the element that begins with a token, at the end of the list that
--- begins with one, first in the section that begins with one, or at the end of the file.
-pub data Anchor : Type 0 where
-  Before : ℕ → Anchor
-  AtEnd : ℕ → Anchor
-  AtSection : ℕ → Anchor
-  Last : Anchor
+abbrev pub same_place : Anchor → Anchor → Bool
+same_place (Before a) (Before b) = a == b
+same_place (AtEnd a) (AtEnd b) = a == b
+same_place (AtSection a) (AtSection b) = a == b
+same_place Last Last = true
+same_place _ _ = false
+
+-- with one comment more, behind those of its place
+abbrev pub with_note : Anchor → List ℕ → (Anchor → List (List ℕ)) → Anchor → List (List ℕ)
+with_note place bytes notes anchor = cond (same_place place anchor) (notes anchor ++ bytes ∷ []) (notes anchor)
 
 -- ---- the whole function
 

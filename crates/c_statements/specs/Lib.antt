@@ -1,5 +1,6 @@
 pub mod Nodes
 pub mod Context
+pub mod NoteViews
 pub mod Declarations
 pub mod Sections
 pub mod Labels

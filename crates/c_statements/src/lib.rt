@@ -1,6 +1,7 @@
 //! Statements: the items that they are, and their violations.
 #![tactic(auto)]
 
+mod anchors;
 mod arrays;
 mod cases;
 mod depth;
@@ -14,8 +15,10 @@ mod locals;
 mod longest;
 mod measures;
 mod nodes;
+mod notes;
 mod slots;
 
+pub use anchors::Anchor;
 pub use arrays::{count_values, extent_of, is_bad_shape, read_length};
 pub use cases::report_cases;
 pub use depth::body_depth;
@@ -28,4 +31,5 @@ pub use labels::body_labels;
 pub use locals::declare_local;
 pub use longest::body_longest;
 pub use measures::Measures;
+pub use notes::Notes;
 pub use slots::declare;
