@@ -18,8 +18,9 @@ use Rattle.c_source.specs.Items.{NoSize, NoValue, OneValue, Declaration, Named, 
 use Rattle.c_source.specs.Tops as tops
 use Rattle.c_source.specs.Tops.{Top, Globals, Defines}
 use Rattle.c_kinds.specs.Scopes.{fault}
-use Rattle.c_statements.specs.Context.{Before, AtEnd, AtSection, Last}
-use Rattle.c_scopes.specs.Files.{File, file_faults, tops_of, bodies_of, start}
+use Rattle.c_statements.specs.declared.anchors.Anchor.TheVariants.{Before, AtEnd, AtSection, Last}
+use Rattle.c_scopes.specs.Files.{File, file_faults, tops_of, start}
+use Rattle.c_scopes.specs.FunctionNames.{bodies_of}
 use Rattle.c_scopes.specs.Notes.{place_in}
 use Rattle.c_scopes.specs.Resolving.{violation_of}
 

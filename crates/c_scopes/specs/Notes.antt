@@ -1,11 +1,13 @@
 -- The places of comments. That of a comment is decided by the token that follows it.
-use Rattle.std.specs.Prelude.{ℕ, suc, Bool, true, false, cond, ◌==◌, nat_le, nat_lt, List, [], ◌∷◌, map, filter, slice_range, Option, Some, None}
+use Rattle.std.specs.Prelude.{ℕ, suc, Bool, true, false, cond, nat_le, nat_lt, List, [], ◌∷◌, map, filter, slice_range, Option, Some, None}
 use Rattle.c_lexer.specs.declared.token.Token.{Token}
 use Rattle.c_lexer.specs.declared.token.Span.{Span}
 use Rattle.c_source.specs.Items.{Label, Named, Case, Default, Item, Declares, States, Plain, From, Statement, If, IfElse, While, DoWhile, For, Switch, Block, Body, Braces, Lone, Items, NoItem, Then, label_first, first_label}
 use Rattle.c_source.specs.Tops.{Function, Top, Form, Defines}
 use Rattle.c_source.specs.Tops as tops
-use Rattle.c_statements.specs.Context.{Anchor, Before, AtEnd, AtSection, Last}
+use Rattle.c_statements.specs.declared.anchors.Anchor.{Anchor}
+use Rattle.c_statements.specs.declared.anchors.Anchor.TheVariants.{Before, AtEnd, AtSection, Last}
+use Rattle.c_statements.specs.Context.{same_place}
 use Rattle.c_statements.specs.Labels.{has_case}
 use Rattle.c_statements.specs.Violations.{is_null}
 
@@ -126,13 +128,6 @@ place_in [] t = Last
 place_in (x ∷ xs) t = elim (nat_lt t (top_after x)) [ true ↦ top_place x t | false ↦ place_in xs t ]
 
 -- ---- comments
-
-abbrev pub same_place : Anchor → Anchor → Bool
-same_place (Before a) (Before b) = a == b
-same_place (AtEnd a) (AtEnd b) = a == b
-same_place (AtSection a) (AtSection b) = a == b
-same_place Last Last = true
-same_place _ _ = false
 
 -- the number of the token that follows a comment, which is the first that begins behind it
 abbrev pub next_token : List Token → Span → ℕ
