@@ -74,6 +74,16 @@ pub name_length_at : (word : ℕ → List ℕ) (xs : List Syntax) (i : ℕ) (d :
     → longest_declared word (declarators_of word (drop i xs)) ≡ max (declared_length word (declarator_of word (get_or xs i d))) (longest_declared word (declarators_of word (drop (i + 1) xs)))
 name_length_at word xs i d h = rw (add-one, drop-cons xs i d) (one-declared word (declarator_of word (get_or xs i d)) (declarators_of word (drop (suc i) xs)))
 
+pub declarators-none : (word : ℕ → List ℕ) (xs : List Syntax) (i : ℕ) (d : Syntax) → i < length xs → declarator_of word (get_or xs i d) ≡ None
+    → declarators_of word (drop i xs) ≡ declarators_of word (drop (i + 1) xs)
+declarators-none word xs i d h e =
+    rw (add-one, drop-cons xs i d) (ap (λ o. elim o [ Some l ↦ l ∷ declarators_of word (drop (suc i) xs) | None ↦ declarators_of word (drop (suc i) xs) ]) e)
+
+pub declarators-some : (word : ℕ → List ℕ) (xs : List Syntax) (i : ℕ) (d : Syntax) (y : Declarator) → i < length xs → declarator_of word (get_or xs i d) ≡ Some y
+    → declarators_of word (drop i xs) ≡ y ∷ declarators_of word (drop (i + 1) xs)
+declarators-some word xs i d y h e =
+    rw (add-one, drop-cons xs i d) (ap (λ o. elim o [ Some l ↦ l ∷ declarators_of word (drop (suc i) xs) | None ↦ declarators_of word (drop (suc i) xs) ]) e)
+
 -- ---- a list from an index on
 
 pub next : {X : Type 0} (xs : List X) (i : ℕ) (d : X) → i < length xs → drop i xs ≡ get_or xs i d ∷ drop (i + 1) xs
@@ -104,3 +114,5 @@ pub ruleset label_lengths = (label_length_at)
 pub ruleset name_lengths = (name_length_at)
 
 pub ruleset listed = (values-token, values-value, append_assoc)
+
+pub ruleset declarators = (declarators-none, declarators-some, append_assoc)

@@ -182,12 +182,12 @@ abbrev pub locals : (ℕ → List ℕ) → Kinded → List Declarator → Walk �
 locals word k [] w = []
 locals word k (d ∷ ds) w = local word k d w ∷ locals word k ds (declared word k d w)
 
+-- those of the name and the length
+abbrev pub shape_faults : Env → Declarator → Faults → Faults
+shape_faults env d vs = bind_fault d.name (env.word d.name) env.scopes (fault_if (is_bad_array true env d) d.name 35 (size_faults env d.size vs))
+
 abbrev pub local_faults : (ℕ → List ℕ) → Kinded → Declarator → Walk → Faults → Faults
-local_faults word k d w vs =
-    initial_faults (value_faults (env_in word (declared word k d w))) d.value
-    (bind_fault d.name (word d.name) w.scopes
-    (fault_if (is_bad_array true (env_in word w) d) d.name 35
-    (size_faults (env_in word w) d.size vs)))
+local_faults word k d w vs = initial_faults (value_faults (env_in word (declared word k d w))) d.value (shape_faults (env_in word w) d vs)
 
 abbrev pub locals_faults : (ℕ → List ℕ) → Kinded → List Declarator → Walk → Faults → Faults
 locals_faults word k [] w vs = vs

@@ -21,6 +21,9 @@ use Rattle.c_statements.specs.Sections.{Reading, extended, closed, passed_on}
 abbrev pub declared_by : Context → Declaration → Walk → Walk
 declared_by ctx d w = all_declared ctx.word (kinded ctx.word d) d.names w
 
+abbrev pub declaration_items : Context → Declaration → Walk → List item.Item
+declaration_items ctx d w = locals ctx.word (kinded ctx.word d) d.names w
+
 abbrev pub behind_start : Context → Start → Walk → Walk
 behind_start ctx (StartNames d) w = declared_by ctx d w
 behind_start ctx _ w = w
@@ -55,8 +58,12 @@ abbrev mutual
 -- ---- items
 
 -- an expression of which a value is dropped
+abbrev pub or_dropped : Option Expression → Expression
+or_dropped (Some e) = e
+or_dropped None = placeholder
+
 abbrev pub dropped_at : Env → Term → Expression
-dropped_at env t = elim (dropped (typed env t)) [ Some e ↦ e | None ↦ placeholder ]
+dropped_at env t = or_dropped (dropped (typed env t))
 
 abbrev pub test_at : Env → Term → test.Test
 test_at env t = test.Source (value_at env t)
@@ -64,7 +71,7 @@ test_at env t = test.Source (value_at env t)
 abbrev pub start_items : Context → Start → Walk → List item.Item
 start_items ctx NoStart w = []
 start_items ctx (StartValue t) w = item.Evaluate (dropped_at (env_at ctx w) t) ∷ []
-start_items ctx (StartNames d) w = locals ctx.word (kinded ctx.word d) d.names w
+start_items ctx (StartNames d) w = declaration_items ctx d w
 
 -- a statement that begins a section of a switch
 abbrev pub begun : Context → Env → List Label → List item.Item → Option Reading
@@ -79,7 +86,7 @@ a_switch e sections = item.Switch (selector.Source e) (passed_on [] false sectio
 
 abbrev mutual
   pub item_items : Context → items.Item → Walk → List item.Item
-  item_items ctx (Declares first after d) w = notes_at ctx (Before first) ++ locals ctx.word (kinded ctx.word d) d.names w
+  item_items ctx (Declares first after d) w = notes_at ctx (Before first) ++ declaration_items ctx d w
   item_items ctx (States ls p) w = labels_items ctx (env_at ctx w) ls ++ plain_items ctx p w
 
   pub plain_items : Context → Plain → Walk → List item.Item
@@ -122,14 +129,14 @@ abbrev mutual
   pub sections_from : Context → Option Reading → Items → List item.Item → Walk → List Section
   sections_from ctx reading NoItem notes w = sections_of reading notes
   sections_from ctx reading (Then (Declares first after d) xs) notes w =
-      sections_from ctx (extended reading (notes_at ctx (Before first) ++ locals ctx.word (kinded ctx.word d) d.names w)) xs notes (declared_by ctx d w)
+      sections_from ctx (extended reading (notes_at ctx (Before first) ++ declaration_items ctx d w)) xs notes (declared_by ctx d w)
   sections_from ctx reading (Then (States ls p) xs) notes w = elim (has_case ls) [
     | true ↦ closed reading ++ sections_from ctx (begun ctx (env_at ctx w) ls (plain_items ctx p w)) xs notes (behind_plain ctx p w)
     | false ↦ sections_from ctx (extended reading (labels_items ctx (env_at ctx w) ls ++ plain_items ctx p w)) xs notes (behind_plain ctx p w)
   ]
 
   pub sections_at : Context → Option Reading → items.Item → List item.Item → Walk → List Section
-  sections_at ctx reading (Declares first after d) notes w = sections_of (extended reading (notes_at ctx (Before first) ++ locals ctx.word (kinded ctx.word d) d.names w)) notes
+  sections_at ctx reading (Declares first after d) notes w = sections_of (extended reading (notes_at ctx (Before first) ++ declaration_items ctx d w)) notes
   sections_at ctx reading (States ls p) notes w = elim (has_case ls) [
     | true ↦ sections_of (begun ctx (env_at ctx w) ls (plain_items ctx p w)) notes
     | false ↦ sections_of (extended reading (labels_items ctx (env_at ctx w) ls ++ plain_items ctx p w)) notes

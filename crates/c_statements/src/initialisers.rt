@@ -15,7 +15,7 @@ use c_types::{IntKind, List, Memory, Stack};
 use std::alloc::Global;
 
 /// The expression of a value, and another in the place of one with a violation.
-fn or_placeholder(value: Option<Valued>) -> Expression
+pub fn or_placeholder(value: Option<Valued>) -> Expression
     ensures { result ≡ spec.or_placeholder value }
 {
     match value {

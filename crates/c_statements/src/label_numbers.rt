@@ -1,6 +1,6 @@
 //! The numbers of a function's labels.
 
-ghost use Rattle.std.specs.Prelude.{◌≡◌, [], OnOk};
+ghost use Rattle.std.specs.Prelude.{◌≡◌, [], IfOk, OnOk};
 ghost use Rattle.std.specs.Option.{option_copied};
 ghost use Rattle.c_kinds.specs.Scopes.{found, with_entry};
 ghost use Rattle.c_statements.specs.Context as context;
@@ -70,5 +70,20 @@ impl<'a> LabelNumbers<'a> {
             return Err(Memory);
         }
         self.insert(name, next as u32)
+    }
+
+    /// The number of a label, and behind all of them that of one that isn't there. More than 2^32 are
+    /// refused as for want of memory.
+    pub fn number(&self, name: &[u8]) -> Result<u32, Memory>
+        ensures { IfOk result (λ n. n ≡ context.number_in self.now name.now) }
+    {
+        if let Some(number) = self.get(name) {
+            return Ok(*number);
+        }
+        let behind = self.numbers.len();
+        if behind > 4294967295 {
+            return Err(Memory);
+        }
+        Ok(behind as u32)
     }
 }
