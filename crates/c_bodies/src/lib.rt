@@ -2,6 +2,8 @@
 //! violations.
 #![tactic(auto)]
 
+mod notes;
 mod state;
+mod values;
 
-pub use state::{FunctionContext, State};
+pub use state::{Around, FunctionContext, State};

@@ -1,13 +1,21 @@
 //! What the walk over a body reads, and what it changes.
 
+ghost use Rattle.std.specs.Prelude.{◌≡◌, OnOk};
+ghost use Rattle.c_bodies.specs.Views as views;
+ghost use Rattle.c_statements.specs.Context as spec;
+
 use c_kinds::{Fault, Known};
-use c_statements::{LabelNumbers, Notes};
+use c_source::Words;
+use c_statements::{Entry, LabelNumbers, Notes};
 use c_tree::Slot;
-use c_types::{IntKind, List, Stack};
+use c_types::{IntKind, List, Memory, Stack};
+use std::alloc::Global;
 
 /// What is known in the whole body of a function.
 #[derive(Clone, Copy)]
 pub struct FunctionContext<'n, 'a> {
+    /// The words of the text.
+    pub words: Words<'a>,
     /// The comments of the file, by their places.
     pub notes: &'n Notes<'a>,
     /// The function's labels, with their numbers in text order.
@@ -19,10 +27,39 @@ pub struct FunctionContext<'n, 'a> {
 /// A place of the file, and what was found before it.
 #[derive(Drop)]
 pub struct State<'a> {
-    /// The names that are declared there.
+    /// The names that are declared there. What reads them sets the words to those of the text.
     pub known: Known<'a>,
     /// The slots of the function that are declared before it.
     pub slots: List<Slot>,
+    /// The labels before it of the switch that it is in.
+    pub cases: List<Entry>,
     /// The violations that were found, the last first.
     pub faults: Stack<Fault>,
+}
+
+/// The constructs around a place.
+#[derive(Clone, Copy, Debug, PartialEq, Eq)]
+pub struct Around {
+    pub in_loop: bool,
+    pub in_switch: bool,
+}
+
+/// Enters a scope of its own.
+#[tactic(auto, unfolding(crate::specs::Views::walk_of))]
+pub fn enter(alloc: Global, state: &mut State) -> Result<(), Memory>
+    ensures walk { OnOk result (views.walk_of state.new ≡ spec.enter (views.walk_of state.old)) }
+    ensures cases { OnOk result (state.new.cases ≡ state.old.cases) }
+    ensures faults { OnOk result (state.new.faults ≡ state.old.faults) }
+{
+    state.known.scopes.enter(alloc)
+}
+
+/// Leaves the nearest scope. The slots stay.
+#[tactic(auto, unfolding(crate::specs::Views::walk_of))]
+pub fn leave(state: &mut State)
+    ensures walk { views.walk_of state.new ≡ views.left (views.walk_of state.old) }
+    ensures cases { state.new.cases ≡ state.old.cases }
+    ensures faults { state.new.faults ≡ state.old.faults }
+{
+    state.known.scopes.leave();
 }
