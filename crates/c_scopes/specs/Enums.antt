@@ -23,10 +23,14 @@ next_value before = option_map (λ v. v +ℤ pos 1) before
 abbrev pub worth : Env → Term → Option ℤ
 worth env t = option_map (λ c. c.1) (constant_of (typed env t))
 
--- the value that is written, or one more than that of the constant before; none where it is no int
+-- the number that is written, or one more than the value of the constant before
+abbrev pub number_of : Env → Option Term → Option ℤ → Option ℤ
+number_of env (Some t) before = worth env t
+number_of env None before = next_value before
+
+-- none where the number is no int
 abbrev pub value_of : Env → Option Term → Option ℤ → Option ℤ
-value_of env (Some t) before = option_and_then an_int (worth env t)
-value_of env None before = option_and_then an_int (next_value before)
+value_of env t before = option_and_then an_int (number_of env t before)
 
 -- behind a violation a value is 0
 abbrev pub or_zero : Option ℤ → ℤ
@@ -56,9 +60,17 @@ abbrev pub int_fault : ℕ → Option ℤ → Faults → Faults
 int_fault at (Some v) vs = fault_if (not (is_in_range Int v)) at 34 vs
 int_fault at None vs = vs
 
+abbrev pub given_faults : Env → Option Term → Faults → Faults
+given_faults env (Some t) vs = constant_faults env t vs
+given_faults env None vs = vs
+
+-- where a number that is no int is named
+abbrev pub number_first : ℕ → Option Term → ℕ
+number_first name (Some t) = first_of t
+number_first name None = name
+
 abbrev pub value_faults : Env → ℕ → Option Term → Option ℤ → Faults → Faults
-value_faults env name (Some t) before vs = int_fault (first_of t) (worth env t) (constant_faults env t vs)
-value_faults env name None before vs = int_fault name (next_value before) vs
+value_faults env name t before vs = int_fault (number_first name t) (number_of env t before) (given_faults env t vs)
 
 abbrev pub enum_faults : List Enumerator → Option ℤ → Env → Faults → Faults
 enum_faults [] before env vs = vs

@@ -32,11 +32,14 @@ has_body f = is_some f.body
 abbrev pub with_body : (ℕ → List ℕ) → Function → List (List ℕ) → List (List ℕ)
 with_body word f bodies = cond (has_body f) (with_function (word f.name) bodies) bodies
 
+abbrev pub with_top : (ℕ → List ℕ) → Top → List (List ℕ) → List (List ℕ)
+with_top word (From first after (Defines f)) bodies = with_body word f bodies
+with_top word _ bodies = bodies
+
 -- the functions that have a body in the file
 abbrev pub bodies_of : (ℕ → List ℕ) → List Top → List (List ℕ)
 bodies_of word [] = []
-bodies_of word (From first after (Defines f) ∷ xs) = with_body word f (bodies_of word xs)
-bodies_of word (x ∷ xs) = bodies_of word xs
+bodies_of word (x ∷ xs) = with_top word x (bodies_of word xs)
 
 -- ---- what they are bound to
 
@@ -82,9 +85,13 @@ is_empty (x ∷ xs) = false
 abbrev pub is_main_form : (ℕ → List ℕ) → Function → Bool
 is_main_form word f = same_result (result_kind word f) (Some Int) && not f.static && is_empty f.parameters
 
--- the functions with a body in the file, and those of them that stand before
-abbrev pub function_name_faults : List (List ℕ) → List (List ℕ) → Function → Env → Faults → Faults
-function_name_faults bodies before f env vs =
-    again_faults f.name (has_body f && has_function before (env.word f.name)) (signature_in bodies env.word f) (bound (env.word f.name) env.scopes)
+-- of a function with this signature, behind those that have a body
+abbrev pub name_faults : List (List ℕ) → Signature → Function → Env → Faults → Faults
+name_faults before s f env vs =
+    again_faults f.name (has_body f && has_function before (env.word f.name)) s (bound (env.word f.name) env.scopes)
     (fault_if (bytes_eq (env.word f.name) (codes "main") && not (is_main_form env.word f)) f.name 36
     (fault_if (is_known (env.word f.name)) f.name 21 vs))
+
+-- the functions with a body in the file, and those of them that stand before
+abbrev pub function_name_faults : List (List ℕ) → List (List ℕ) → Function → Env → Faults → Faults
+function_name_faults bodies before f env vs = name_faults before (signature_in bodies env.word f) f env vs

@@ -29,12 +29,12 @@ globals static k (d ∷ ds) env = top.Global (global static k d env) ∷ globals
 
 -- ---- violations
 
+-- of its length and its name
+abbrev pub slot_faults : Declarator → Env → Faults → Faults
+slot_faults d env vs = file_name_faults d.name env (fault_if (is_bad_array false env d) d.name 35 (size_faults env d.size vs))
+
 abbrev pub global_faults : Kinded → Declarator → Env → Faults → Faults
-global_faults k d env vs =
-    initial_faults (constant_faults (global_declared k d env)) d.value
-    (file_name_faults d.name env
-    (fault_if (is_bad_array false env d) d.name 35
-    (size_faults env d.size vs)))
+global_faults k d env vs = initial_faults (constant_faults (global_declared k d env)) d.value (slot_faults d env vs)
 
 abbrev pub globals_faults : Kinded → List Declarator → Env → Faults → Faults
 globals_faults k [] env vs = vs

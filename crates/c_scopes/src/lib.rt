@@ -1,2 +1,23 @@
 //! Files: names of file scope, the places of comments, and the resolved program of a text.
 #![tactic(auto)]
+
+mod blocks;
+mod constants;
+mod counted;
+mod enums;
+mod file_names;
+mod function_names;
+mod globals;
+mod parameters;
+mod signatures;
+mod tangle;
+
+pub use blocks::{Block, block_of};
+pub use constants::constant_initial;
+pub use counted::{Counts, counts_of};
+pub use enums::read_enum;
+pub use function_names::{FunctionNames, add_body, bodies_of, declare_function, has_body};
+pub use globals::read_globals;
+pub use parameters::read_parameters;
+pub use signatures::{same_signature, signature};
+pub use tangle::{is_tangled, measures_of};

@@ -13,7 +13,7 @@ use Rattle.c_kinds.specs.declared.binding.Want.TheVariants as want
 use Rattle.c_kinds.specs.declared.binding.Signature.{Signature}
 use Rattle.c_kinds.specs.declared.binding.Binding.TheVariants.{Local}
 use Rattle.c_kinds.specs.Scopes.{Scope, Faults, fault_if, bind, bind_fault}
-use Rattle.c_statements.specs.Context.{Anchor, AtEnd, Context, Walk, env_at, notes_at, no_construct}
+use Rattle.c_statements.specs.Context.{Anchor, AtEnd, Context, Walk, env_in, notes_at, no_construct}
 use Rattle.c_statements.specs.Declarations.{is_array, size_faults}
 use Rattle.c_statements.specs.Labels.{body_labels, numbers, distinct, twice_faults}
 use Rattle.c_statements.specs.Statements.{list_items, item_items, behind_items, behind_item}
@@ -56,13 +56,16 @@ bind_parameters word [] w = w
 bind_parameters word (x ∷ xs) w = bind_parameters word xs (bind_parameter word x w)
 
 -- a parameter without a name in a definition, and one that is declared twice; a length is a constant
-abbrev pub parameter_fault : Context → Bool → Parameter → Walk → Faults → Faults
-parameter_fault ctx defines x w vs =
-    elim x.name [ Some at ↦ bind_fault at (ctx.word at) w.scopes (size_faults (env_at ctx w) x.size vs) | None ↦ fault_if defines x.first 43 (size_faults (env_at ctx w) x.size vs) ]
+abbrev pub parameter_fault : (ℕ → List ℕ) → Bool → Parameter → Walk → Faults → Faults
+parameter_fault word defines x w vs =
+    elim x.name [
+      | Some at ↦ bind_fault at (word at) w.scopes (size_faults (env_in word w) x.size vs)
+      | None ↦ fault_if defines x.first 43 (size_faults (env_in word w) x.size vs)
+    ]
 
-abbrev pub parameters_faults : Context → Bool → List Parameter → Walk → Faults → Faults
-parameters_faults ctx defines [] w vs = vs
-parameters_faults ctx defines (x ∷ xs) w vs = parameters_faults ctx defines xs (bind_parameter ctx.word x w) (parameter_fault ctx defines x w vs)
+abbrev pub parameters_faults : (ℕ → List ℕ) → Bool → List Parameter → Walk → Faults → Faults
+parameters_faults word defines [] w vs = vs
+parameters_faults word defines (x ∷ xs) w vs = parameters_faults word defines xs (bind_parameter word x w) (parameter_fault word defines x w vs)
 
 -- ---- bodies: the parameters and the outermost list are one scope
 
@@ -82,13 +85,12 @@ body_faults ctx (Lone first after x) w vs = item_faults ctx no_construct x w vs
 abbrev pub context : (ℕ → List ℕ) → (Anchor → List (List ℕ)) → Function → Body → Context
 context word notes f b = record { word = word; notes = notes; labels = numbers (map word (body_labels b [])); result = result_kind word f }
 
--- of a prototype
-abbrev pub prototype_context : (ℕ → List ℕ) → Function → Context
-prototype_context word f = record { word = word; notes = λ anchor. []; labels = []; result = result_kind word f }
+-- in the scope of its parameters, before them and behind them
+abbrev pub entered : List Scope → Walk
+entered scopes = record { scopes = [] ∷ scopes; slots = [] }
 
--- in the scope of its parameters, behind them
 abbrev pub inside : (ℕ → List ℕ) → Function → List Scope → Walk
-inside word f scopes = bind_parameters word f.parameters (record { scopes = [] ∷ scopes; slots = [] })
+inside word f scopes = bind_parameters word f.parameters (entered scopes)
 
 abbrev pub function : (ℕ → List ℕ) → Function → List Slot → List (List ℕ) → Option (List item.Item) → tree.Function
 function word f slots labels body =
@@ -118,14 +120,14 @@ abbrev pub tangle_fault : FlatCounts → (ℕ → List ℕ) → Function → Bod
 tangle_fault flat word f b items vs = elim (flat items) [ Some n ↦ fault_if (is_tangled (measures word f b n)) f.name 39 vs | None ↦ vs ]
 
 abbrev pub defined_faults : FlatCounts → (ℕ → List ℕ) → (Anchor → List (List ℕ)) → Function → Option Body → List Scope → Faults → Faults
-defined_faults flat word notes f None scopes vs = parameters_faults (prototype_context word f) false f.parameters (record { scopes = [] ∷ scopes; slots = [] }) vs
+defined_faults flat word notes f None scopes vs = parameters_faults word false f.parameters (entered scopes) vs
 defined_faults flat word notes f (Some b) scopes vs =
     let ctx = context word notes f b in
     let w = inside word f scopes in
     tangle_fault flat word f b (body_items ctx b w)
     (body_faults ctx b w
     (twice_faults word (body_labels b [])
-    (parameters_faults ctx true f.parameters (record { scopes = [] ∷ scopes; slots = [] }) vs)))
+    (parameters_faults word true f.parameters (entered scopes) vs)))
 
 abbrev pub function_faults : FlatCounts → (ℕ → List ℕ) → (Anchor → List (List ℕ)) → Function → List Scope → Faults → Faults
 function_faults flat word notes f scopes vs = defined_faults flat word notes f f.body scopes vs

@@ -93,3 +93,7 @@ abbrev mutual
 
 abbrev pub is_tangled : Measures → Bool
 is_tangled m = nat_lt 400 (m.depth + 3 * m.jumps) || nat_lt 400 (m.counted + 6 * m.labels) || nat_lt 63 m.longest
+
+-- the numbers, counted no further than 64 bits do
+abbrev pub within_bounds : Measures → Measures
+within_bounds m = record { depth = bounded m.depth; counted = bounded m.counted; jumps = m.jumps; labels = m.labels; longest = m.longest }

@@ -62,9 +62,10 @@ pub fn body_depth(words: &Words, x: &Syntax) -> u64
     }
 }
 
+/// How many lists are nested in one list, without itself.
 #[cycle(depth)]
 #[tactic(auto, using(crate::proofs::Lists::depths))]
-fn list_depth(words: &Words, items: &[Syntax]) -> u64
+pub fn list_depth(words: &Words, items: &[Syntax]) -> u64
     ensures { result ≡ spec.bounded (spec.list_depth (items_of (words_of words.now) items.now)) }
 {
     let mut deepest = 0;

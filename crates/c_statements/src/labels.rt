@@ -90,9 +90,10 @@ pub fn body_labels(words: &Words, x: &Syntax, out: &mut Stack<u32>) -> Result<()
     }
 }
 
+/// Puts the labels of items, by the tokens of their names in text order, in front of others.
 #[cycle(labels)]
 #[tactic(auto, using(crate::proofs::Lists::labels_back))]
-fn list_labels(words: &Words, items: &[Syntax], out: &mut Stack<u32>) -> Result<(), Memory>
+pub fn list_labels(words: &Words, items: &[Syntax], out: &mut Stack<u32>) -> Result<(), Memory>
     ensures { OnOk result (out.new ≡ spec.list_labels (items_of (words_of words.now) items.now) out.old) }
 {
     let mut i = items.len();

@@ -22,7 +22,8 @@ use c_tree::{Item, Slot};
 use c_types::{IntKind, List, Memory, Stack};
 use std::alloc::Global;
 
-fn is_array(words: &Words, size: SizeLayer) -> bool
+/// Whether a declared name is that of an array.
+pub fn is_array(words: &Words, size: SizeLayer) -> bool
     ensures { result ≡ spec.is_array (size_form (words_of words.now) size.entry) }
 {
     match size {

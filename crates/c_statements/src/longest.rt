@@ -119,9 +119,10 @@ pub fn body_longest(words: &Words, x: &Syntax) -> u64
     }
 }
 
+/// The bytes of the longest name of a label or a variable among items.
 #[cycle(longest)]
 #[tactic(auto, using(crate::proofs::Lists::lengths))]
-fn list_longest(words: &Words, items: &[Syntax]) -> u64
+pub fn list_longest(words: &Words, items: &[Syntax]) -> u64
     ensures { result ≡ spec.list_longest (words_of words.now) (items_of (words_of words.now) items.now) }
 {
     let mut longest = 0;

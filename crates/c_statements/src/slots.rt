@@ -13,7 +13,7 @@ use c_types::{List, Memory};
 use std::alloc::Global;
 
 /// How many cells the slot of a variable has. 2^32 are refused as for want of memory.
-fn cells_of(extent: Extent) -> Result<Option<u32>, Memory>
+pub fn cells_of(extent: Extent) -> Result<Option<u32>, Memory>
     ensures { IfOk result (λ cells. cells ≡ spec.cells_of extent) }
 {
     match extent {
