@@ -114,7 +114,7 @@ mutual
 
 -- ---- items
 
-slot_there : (ss : List Slot) (x : ℕ) (r : Slot) → slice_get ss x ≡ Some r → slice_get ss x ≡ Some (entry_or no_slot ss x)
+pub slot_there : (ss : List Slot) (x : ℕ) (r : Slot) → slice_get ss x ≡ Some r → slice_get ss x ≡ Some (entry_or no_slot ss x)
 slot_there [] x r e = let h : x < 0 = slice_get_within [] x r e in grind (arith)
 slot_there (s ∷ ss) zero r e = refl
 slot_there (s ∷ ss) (suc x) r e = slot_there ss x r e
@@ -189,17 +189,21 @@ module _ (f : Function) (s : Setting) (live : ℕ → Bool) (g : IsSettingOf s f
   item_source (Arrival e) h = tt
   item_source (Note bs) h = tt
 
+-- each slot that a body declares is none of a parameter
+pub function_declared : (counts : FlatCounts) (ts : List Top) (f : Function) → IsResolvedFunction counts ts f → Everywhere (Declared (λ y. f.params ≤ y)) (body_of f)
+function_declared counts ts f r =
+    declared (λ y. f.params ≤ y) (body_of f) (subst (Each (λ y. f.params ≤ y)) (sym r.form.slots) (numbers_from_on f.params f.params (length f.slots - f.params) (grind (arith))))
+
 pub function_source : (counts : FlatCounts) (ts : List Top) (f : Function) (s : Setting) → IsResolvedFunction counts ts f → IsSettingOf s f → Everywhere (IsSourceItem s (is_named (body_of f))) (body_of f)
 function_source counts ts f s r g =
     let a = body_of f in
     let live = is_named a in
-    let slots = subst (Each (λ y. f.params ≤ y)) (sym r.form.slots) (numbers_from_on f.params f.params (length f.slots - f.params) (grind (arith))) in
     let D = Declared (λ y. f.params ≤ y) in
     everywhere_map (Known f s live g) (IsSourceItem s live) (item_source f s live g) a
     (everywhere_both (λ x. HasSourceForm f x × ItemSlots (λ y. y < length f.slots) x) (λ x. IsInitialised f.slots x × (D x × NamesLive live x)) a
     (everywhere_both (HasSourceForm f) (ItemSlots (λ y. y < length f.slots)) a r.form.items (function_ranged counts ts f r).slots)
     (everywhere_both (IsInitialised f.slots) (λ x. D x × NamesLive live x) a r.initialised
-    (everywhere_both D (NamesLive live) a (declared (λ y. f.params ≤ y) a slots) (named_live a))))
+    (everywhere_both D (NamesLive live) a (function_declared counts ts f r) (named_live a))))
 
 pub function_calm : (counts : FlatCounts) (ts : List Top) (f : Function) → IsResolvedFunction counts ts f → is_empty (P.arrivals (body_of f)) ≡ true
 function_calm counts ts f r = ap is_empty (none_loose (body_of f) r.form.cases)

@@ -46,7 +46,7 @@ use Rattle.plain_core.specs.Kinded.{Grown, SameKinds, Kinded, KindedCondition, K
 
 -- ---- constants of promoted kinds
 
-one_in_kind : (k : IntKind) → IsInRange k (pos 1)
+pub one_in_kind : (k : IntKind) → IsInRange k (pos 1)
 one_in_kind Char = record { from_least = grind (arith, ints); to_greatest = grind (arith, ints) }
 one_in_kind UChar = record { from_least = grind (arith, ints); to_greatest = grind (arith, ints) }
 one_in_kind Int = record { from_least = grind (arith, ints); to_greatest = grind (arith, ints) }
@@ -54,7 +54,7 @@ one_in_kind UInt = record { from_least = grind (arith, ints); to_greatest = grin
 one_in_kind Long = record { from_least = grind (arith, ints); to_greatest = grind (arith, ints) }
 one_in_kind ULong = record { from_least = grind (arith, ints); to_greatest = grind (arith, ints) }
 
-greatest_in_kind : (k : IntKind) → IsInRange k (greatest k)
+pub greatest_in_kind : (k : IntKind) → IsInRange k (greatest k)
 greatest_in_kind Char = record { from_least = grind (arith, ints); to_greatest = grind (arith, ints) }
 greatest_in_kind UChar = record { from_least = grind (arith, ints); to_greatest = grind (arith, ints) }
 greatest_in_kind Int = record { from_least = grind (arith, ints); to_greatest = grind (arith, ints) }
@@ -66,7 +66,7 @@ none_below : (k : IntKind) (n : ℕ) → IsInRange k (negsuc n) → least k ≡ 
 none_below k n r l = let h = r.from_least in grind (arith, ints, h, l)
 
 -- of a negative number that isn't the least
-negated_in_kind : (k : IntKind) (n : ℕ) → IsInRange k (negsuc n) → int_le (negsuc n) (least k) ≡ false → IsInRange k (pos (suc n))
+pub negated_in_kind : (k : IntKind) (n : ℕ) → IsInRange k (negsuc n) → int_le (negsuc n) (least k) ≡ false → IsInRange k (pos (suc n))
 negated_in_kind Char n r e = let l = r.from_least in let h : suc n ≤ 127 = grind (arith, ints, e, l) in record { from_least = grind (arith, ints); to_greatest = grind (arith, ints, h) }
 negated_in_kind Int n r e = let l = r.from_least in let h : suc n ≤ 2147483647 = grind (arith, ints, e, l) in record { from_least = grind (arith, ints); to_greatest = grind (arith, ints, h) }
 negated_in_kind Long n r e = let l = r.from_least in let h : suc n ≤ 9223372036854775807 = grind (arith, ints, e, l) in record { from_least = grind (arith, ints); to_greatest = grind (arith, ints, h) }
@@ -74,7 +74,7 @@ negated_in_kind UChar n r e = absurd (none_below UChar n r refl)
 negated_in_kind UInt n r e = absurd (none_below UInt n r refl)
 negated_in_kind ULong n r e = absurd (none_below ULong n r refl)
 
-sub_kind : (k : IntKind) → promoted k ≡ k → arith_kind Sub k k ≡ k
+pub sub_kind : (k : IntKind) → promoted k ≡ k → arith_kind Sub k k ≡ k
 sub_kind Char e = cc
 sub_kind UChar e = cc
 sub_kind Int e = refl

@@ -14,9 +14,11 @@ use Rattle.jump_meaning.proofs.Covering.{same_runs_trans}
 use Rattle.jump_meaning.proofs.RunFacts.{same_trans}
 use Rattle.struct_meaning.specs.Runs.{structural_run}
 use Rattle.plain_core.specs.Plain.{plain_with}
-use Rattle.plain_core.specs.Laws.{BehavesAsStructured, IsTopFinished, IsFinished}
+use Rattle.plain_core.specs.Laws.{BehavesAsStructured, IsTopFinished, IsFinished, IsProgramReady}
 use Rattle.plain_core.proofs.TheLaws.{plain_laws}
 use Rattle.kinds_kept.specs.Laws.{IsKindedTop, IsKindedProgram}
+use Rattle.c_resolved.specs.Limits.{FlatCounts}
+use Rattle.c_resolved.specs.Resolved.{IsResolvedWith}
 use Rattle.whole_core.specs.Rewritten.{Made, FlatTops, ft_none, ft_more, MovedTops, mt_none, mt_more, IsRewritten}
 use Rattle.whole_core.proofs.Source.{IsSourceTop, IsSource, resolved_source}
 use Rattle.whole_core.specs.Laws.{IsTopNamed, IsRight, WholeLaws}
@@ -82,20 +84,29 @@ both_runs p q r h k = record {
       (h.codes.runs m arguments e input answers) (k.runs m arguments ((h.codes.entries m arguments).0 e) input answers);
 }
 
-whole : (names : Function → List (List ℕ)) (p q : Program) (ms : List Made) → IsSource p → IsRewritten p q ms → All (IsTopNamed names) q.tops → IsRight names p q
-whole names p q ms s w n =
+-- what is reached is ready for its plain form
+ready : (names : Function → List (List ℕ)) (p q : Program) (ms : List Made) → IsSource p → IsRewritten p q ms → All (IsTopNamed names) q.tops → IsProgramReady names q
+ready names p q ms s w n =
     let k = kept p q ms s w in
     let c = code_of q in
     let finished : IsFinished names q = All-from_recursion (IsTopFinished c names) q.tops
     (finished_tops c names q.tops (ended p q ms s w) (recursion_from_All (IsKindedTop c) q.tops k.kinded) (recursion_from_All (IsTopNamed names) q.tops n)) in
-    let ready = plain_laws.of_steady names q k.steady finished in
+    plain_laws.of_steady names q k.steady finished
+
+pub resolved_ready : (counts : FlatCounts) (names : Function → List (List ℕ)) (p q : Program) (ms : List Made) → IsResolvedWith counts p → IsRewritten p q ms → All (IsTopNamed names) q.tops → IsProgramReady names q
+resolved_ready counts names p q ms r w n = ready names p q ms (resolved_source counts p r) w n
+
+whole : (names : Function → List (List ℕ)) (p q : Program) (ms : List Made) → IsSource p → IsRewritten p q ms → All (IsTopNamed names) q.tops → IsRight names p q
+whole names p q ms s w n =
+    let k = kept p q ms s w in
+    let is_ready = ready names p q ms s w n in
     let free = jump_free p q ms s w in
     record {
       steady = k.steady;
       same = k.same;
-      ranged = plain_laws.ranged names q ready;
+      ranged = plain_laws.ranged names q is_ready;
       plain = plain_laws.plain names q free;
-      runs = both_runs p q (plain_with names q) k.same (plain_laws.meanings names q ready free);
+      runs = both_runs p q (plain_with names q) k.same (plain_laws.meanings names q is_ready free);
     }
 
 pub whole_laws : WholeLaws

@@ -1,0 +1,13 @@
+pub mod Facts
+pub mod FactsKept
+pub mod FactsFlat
+pub mod SameFile
+pub mod NamesKept
+pub mod PlainTops
+pub mod FactsPlain
+pub mod SameTops
+pub mod FactsMoved
+pub mod MadeKinds
+pub mod ItemKinds
+pub mod PlainSlots
+pub mod PlainKinds

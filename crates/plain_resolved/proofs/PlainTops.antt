@@ -1,0 +1,122 @@
+-- What each function of the plain form is made of.
+use Rattle.std.proofs.Common.{◌≡◌, ℕ, Bool, true, false, true≢false, cond, List, [], ◌∷◌, length, map, Option, Some, None, refl, sym, ap, subst, ◌∙◌}
+use Rattle.std.specs.List.{AllByRecursion}
+use Rattle.c_tree.specs.declared.tree.Item.{Item}
+use Rattle.c_tree.specs.declared.tree.Function.{Function}
+use Rattle.c_tree.specs.declared.tree.Top.{Top}
+use Rattle.c_tree.specs.declared.tree.Top.TheVariants as T
+use Rattle.c_tree.specs.Everywhere.{Everywhere}
+use Rattle.c_tree.specs.InRange.{body_of, IsInRange}
+use Rattle.c_tree.specs.Trees.{trees_of}
+use Rattle.c_tree.specs.WellMade.{IsWellMade}
+use Rattle.derivation.specs.declared.kept.Kept.{Kept}
+use Rattle.derivation.specs.Derivations.{Derives}
+use Rattle.flat_core.specs.Parts.{has_jumps}
+use Rattle.guard_simplify.specs.declared.choice.Choice.{Choice}
+use Rattle.guard_simplify.specs.Application.{Reaches, IsSimple}
+use Rattle.guard_vars.specs.Conversion.{converted, converted_list}
+use Rattle.move_core.specs.Bodies.{with_body}
+use Rattle.jump_meaning.specs.Code.{Code}
+use Rattle.plain_core.specs.Laws.{IsNoLeap, IsReady, IsTopReady}
+use Rattle.plain_core.specs.Plain.{tidied, with_guard_variables, plain_body, plain_function, plain_top}
+use Rattle.whole_core.specs.Rewritten.{Made, IsFlatForm, IsUnlabelledForm, IsNoFunction, FlatTop, ft_flat, ft_unlabelled, ft_declared, ft_other, FlatTops, ft_none, ft_more, IsMoved, MovedTop, mt_moved, mt_other, MovedTops, mt_none, mt_more}
+
+-- h is the plain form of a function with jumps
+pub record IsMovedForm (f h : Function) : Type 0 where
+  pub jumps : has_jumps (body_of f) ≡ true
+  pub flat_form : Function
+  pub is_flat : IsFlatForm f flat_form
+  pub body : List Item
+  pub middle : List Item
+  pub new : List Item
+  pub moves : List Kept
+  pub choices : List Choice
+  pub body_is : flat_form.body ≡ Some body
+  pub derives : Derives (converted_list body) moves middle
+  pub reaches : Reaches middle choices new
+  pub simple : IsSimple new
+  -- what is reached is in range and well made, and no Leap is left
+  pub ranged : IsInRange (with_body (converted flat_form) new)
+  pub made : IsWellMade (trees_of new)
+  pub leapless : Everywhere IsNoLeap (trees_of new)
+  pub names : List (List ℕ)
+  pub named : length names ≡ length flat_form.labels
+  pub plain : h ≡ with_guard_variables names (with_body (converted flat_form) new) new
+
+-- h is that of a function without jumps
+pub record IsUnmovedForm (f h : Function) : Type 0 where
+  pub free : has_jumps (body_of f) ≡ false
+  pub left : Function
+  pub is_left : IsUnlabelledForm f left
+  pub plain : h ≡ record left { body = Some (tidied is_left.new) }
+
+pub data PlainTop : Top → Top → Type 0 where
+  pt_moved : {f h : Function} → IsMovedForm f h → PlainTop (T.Function f) (T.Function h)
+  pt_unmoved : {f h : Function} → IsUnmovedForm f h → PlainTop (T.Function f) (T.Function h)
+  pt_declared : (f : Function) → f.body ≡ None → PlainTop (T.Function f) (T.Function f)
+  pt_other : (t : Top) → IsNoFunction t → PlainTop t t
+
+pub data PlainTops : List Top → List Top → Type 0 where
+  pt_none : PlainTops [] []
+  pt_more : {t u : Top} {ts us : List Top} → PlainTop t u → PlainTops ts us → PlainTops (t ∷ ts) (u ∷ us)
+
+-- ---- the plain form of a function by its body
+
+plain_flat : (ns : List (List ℕ)) (g : Function) (xs : List Item) → g.flat ≡ true → plain_body ns g (Some xs) ≡ with_guard_variables ns g xs
+plain_flat ns g xs e = ap (λ b. cond b (with_guard_variables ns g xs) (record g { body = Some (tidied xs) })) e
+
+plain_unflat : (ns : List (List ℕ)) (g : Function) (xs : List Item) → g.flat ≡ false → plain_body ns g (Some xs) ≡ record g { body = Some (tidied xs) }
+plain_unflat ns g xs e = ap (λ b. cond b (with_guard_variables ns g xs) (record g { body = Some (tidied xs) })) e
+
+no_body : (ns : List (List ℕ)) (f : Function) → f.body ≡ None → plain_function ns f ≡ f
+no_body ns f e = ap (plain_body ns f) e
+
+other_plain : (names : Function → List (List ℕ)) (t : Top) → IsNoFunction t → plain_top names t ≡ t
+other_plain names (T.Function f) n = absurd n
+other_plain names (T.Include bytes) n = refl
+other_plain names (T.Enum xs) n = refl
+other_plain names (T.Global g) n = refl
+other_plain names (T.Note bytes) n = refl
+
+none_is_some : {A : Type 0} (o : Option A) (a : A) → o ≡ None → o ≡ Some a → ⊥
+none_is_some o a e i = let q : None ≡ Some a = sym e ∙ i in cc
+
+module _ (c : Code) (names : Function → List (List ℕ)) where
+  moved_form : (f g k : Function) (ms : List Made) → has_jumps (body_of f) ≡ true → IsFlatForm f g → IsMoved g k ms → IsReady c names k → IsMovedForm f (plain_function (names k) k)
+  moved_form f g k ms jumps w m n = record {
+    jumps = jumps;
+    flat_form = g;
+    is_flat = w;
+    body = m.body;
+    middle = m.middle;
+    new = m.new;
+    moves = m.moves;
+    choices = m.choices;
+    body_is = m.body_is;
+    derives = m.derives;
+    reaches = m.reaches;
+    simple = m.simple;
+    ranged = subst IsInRange m.result n.ranged;
+    made = subst (λ (j : Function). IsWellMade (body_of j)) m.result (n.finished.made (ap (λ (j : Function). j.flat) m.result ∙ w.flat));
+    leapless = subst (λ (j : Function). Everywhere IsNoLeap (body_of j)) m.result (n.finished.leapless (ap (λ (j : Function). j.flat) m.result ∙ w.flat));
+    names = names k;
+    named = n.finished.named ∙ ap (λ (j : Function). length j.labels) m.result;
+    plain = ap (plain_function (names k)) m.result ∙ plain_flat (names k) (with_body (converted g) m.new) m.new w.flat;
+  }
+
+  unmoved_form : (f g : Function) → has_jumps (body_of f) ≡ false → IsUnlabelledForm f g → IsUnmovedForm f (plain_function (names g) g)
+  unmoved_form f g free w = record { free = free; left = g; is_left = w; plain = ap (plain_body (names g) g) w.new_body ∙ plain_unflat (names g) g w.new w.flat }
+
+  plain_of : {t u v : Top} {ms : List Made} → FlatTop t u → MovedTop u v ms → IsTopReady c names v → PlainTop t (plain_top names v)
+  plain_of (ft_flat {f = f} {g = g} jumps w) (mt_moved {g = k} {ms = ms} flat m) n = pt_moved (moved_form f g k ms jumps w m n)
+  plain_of (ft_flat jumps w) (mt_other t unflat) n = absurd (true≢false (sym w.flat ∙ unflat))
+  plain_of (ft_unlabelled free w) (mt_moved flat m) n = absurd (true≢false (sym flat ∙ w.flat))
+  plain_of (ft_unlabelled {f = f} {g = g} free w) (mt_other t unflat) n = pt_unmoved (unmoved_form f g free w)
+  plain_of (ft_declared f e) (mt_moved flat m) n = absurd (none_is_some f.body m.body e m.body_is)
+  plain_of (ft_declared f e) (mt_other t unflat) n = subst (λ k. PlainTop (T.Function f) (T.Function k)) (sym (no_body (names f) f e)) (pt_declared f e)
+  plain_of (ft_other t o) (mt_moved flat m) n = absurd o
+  plain_of (ft_other t o) (mt_other s unflat) n = subst (PlainTop t) (sym (other_plain names t o)) (pt_other t o)
+
+  pub plain_tops : {ts us vs : List Top} {ms : List Made} → FlatTops ts us → MovedTops us vs ms → AllByRecursion (IsTopReady c names) vs → PlainTops ts (map (plain_top names) vs)
+  plain_tops ft_none mt_none n = pt_none
+  plain_tops (ft_more w r) (mt_more m s) n = pt_more (plain_of w m n.0) (plain_tops r s n.1)

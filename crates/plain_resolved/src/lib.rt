@@ -1,0 +1,2 @@
+//! The plain form of a resolved program is resolved again.
+#![tactic(auto)]
