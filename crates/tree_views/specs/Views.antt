@@ -6,7 +6,7 @@ use Rattle.c_tree.specs.declared.tree.Item.TheOpen as O
 use Rattle.c_tree.specs.declared.tree.Section as Real
 use Rattle.c_tree.specs.ExpressionTrees.{expression_tree}
 use Rattle.c_tree.specs.TestTrees.{test_tree, selector_tree}
-use Rattle.c_tree.specs.Trees.{Tree, Forest, Then, Sections, Section, Evaluate, Return, If, While, Do, For, Switch, Block, Local, Break, Continue, Goto, Mark, Arm, Leap, Land, Arrival, Note, expression_trees, tree_of, trees_of, sections_of}
+use Rattle.c_tree.specs.Trees.{Tree, Then, Sections, Section, Evaluate, Return, If, While, Do, For, Switch, Block, Local, Break, Continue, Goto, Mark, Arm, Leap, Land, Arrival, Note, expression_trees, tree_of, trees_of, sections_of}
 
 abbrev pub layer_at : Item-F Item Real.Section → Tree
 layer_at (O.Evaluate e) = Evaluate (expression_tree e)

@@ -1,0 +1,17 @@
+//! What the flat form asks of a body: which labels are named, which switches are scattered, what is
+//! jumpy, and how lists end.
+#![tactic(auto)]
+
+mod arrivals;
+mod cases;
+mod endings;
+mod exits;
+mod jumps;
+mod named;
+
+pub use arrivals::is_scattered;
+pub use cases::{case_number, case_numbers};
+pub use endings::{Ending, ends_by, is_gone, keeps_break, kept_length, leaves};
+pub use exits::{has_break, has_continue, sections_have_continue};
+pub use jumps::{has_jumps, holds_jump, sections_hold_jump};
+pub use named::named_labels;
