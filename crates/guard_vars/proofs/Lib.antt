@@ -1,7 +1,6 @@
-pub mod PlainLemmas
 pub mod FreshLemmas
 pub mod FreshFound
 pub mod LoopLemmas
-pub mod PlainLaw
+pub mod GuardNames
 pub mod GotoFree
 pub mod ConversionLemmas

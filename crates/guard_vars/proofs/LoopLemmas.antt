@@ -1,9 +1,8 @@
--- One turn of the loops that name guards and declare variables.
-use Rattle.std.proofs.Common.{◌≡◌, ℕ, suc, ◌+◌, ◌-◌, ◌<◌, ◌≤◌, List, [], ◌∷◌, ◌++◌, length, drop, get_or, map, sym, ap, ◌∙◌, append_assoc, arith}
+-- One turn of the loop that names guards.
+use Rattle.std.proofs.Common.{◌≡◌, ℕ, ◌+◌, ◌<◌, List, [], ◌∷◌, ◌++◌, length, drop, get_or, sym, ap, ◌∙◌, append_assoc}
 use Rattle.std.proofs.lemmas.List.{at_drop_more}
 use Rattle.c_copies.specs.Names.{with_name}
 use Rattle.guard_vars.specs.Fresh.{guard_name, named_guards}
-use Rattle.guard_vars.specs.Plain.{numbers_from}
 
 -- one more at the end, and the rest after it
 one_more : {A : Type 0} (out : List A) (x : A) (rest : List A) → (out ++ x ∷ []) ++ rest ≡ out ++ (x ∷ rest)
@@ -20,15 +19,3 @@ guards_step used more out next done labels i x name h is named added pushed inv 
     ∙ ap (λ n. n ∷ named_guards (with_name used n) rest) (sym same)
     ∙ ap (λ u. name ∷ named_guards u rest) (sym added) in
     ap (λ l. l ++ named_guards more rest) pushed ∙ one_more out name (named_guards more rest) ∙ ap (λ l. out ++ l) (sym turn) ∙ inv
-
-numbers_more : (k to : ℕ) → k < to → numbers_from k (to - k) ≡ k ∷ numbers_from (k + 1) (to - (k + 1))
-numbers_more k to h = let s : to - k ≡ suc (to - (k + 1)) = omega arith in ap (numbers_from k) s
-
-pub declare_step : {A : Type 0} (f : ℕ → A) (out next done : List A) (k to : ℕ) → k < to → next ≡ out ++ f k ∷ []
-    → out ++ map f (numbers_from k (to - k)) ≡ done → next ++ map f (numbers_from (k + 1) (to - (k + 1))) ≡ done
-declare_step f out next done k to h pushed inv =
-    let rest = map f (numbers_from (k + 1) (to - (k + 1))) in
-    ap (λ l. l ++ rest) pushed ∙ one_more out (f k) rest ∙ ap (λ l. out ++ map f l) (sym (numbers_more k to h)) ∙ inv
-
-pub declare_end : {A : Type 0} (f : ℕ → A) (k to : ℕ) → to ≤ k → map f (numbers_from k (to - k)) ≡ []
-declare_end f k to h = let s : to - k ≡ 0 = omega arith in ap (λ n. map f (numbers_from k n)) s

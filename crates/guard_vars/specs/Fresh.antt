@@ -1,5 +1,5 @@
 -- Names that are not used yet.
-use Rattle.std.specs.Prelude.{ℕ, zero, suc, ◌+◌, cond, List, [], ◌∷◌, ◌++◌, length, codes}
+use Rattle.std.specs.Prelude.{ℕ, zero, suc, ◌+◌, ◌≡◌, false, cond, List, [], ◌∷◌, ◌++◌, length, codes}
 use Rattle.std.specs.Fmt.{decimal}
 use Rattle.c_types.specs.Words.{known_functions}
 use Rattle.c_copies.specs.Names.{has_name, with_name, with_names, slots_names}
@@ -34,3 +34,8 @@ named_guards used (l ∷ ls) = let g = guard_name l used in g ∷ named_guards (
 
 abbrev pub guard_names : List (List ℕ) → Function → List (List ℕ)
 guard_names ns f = named_guards (used_names ns f) f.labels
+
+-- names of which none is used, and none stands before it
+abbrev pub AreNew : List (List ℕ) → List (List ℕ) → Type 0
+AreNew used [] = Unit {0}
+AreNew used (g ∷ gs) = (has_name used g ≡ false) × AreNew (g ∷ used) gs

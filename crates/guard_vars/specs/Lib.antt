@@ -1,4 +1,2 @@
 pub mod Conversion
 pub mod Fresh
-pub mod Kinds
-pub mod Plain

@@ -1,7 +1,7 @@
-ghost use Rattle.std.specs.Prelude.{◌≡◌, ◌+◌, ◌<◌, ◌^◌, false, length, IfOk, OnOk};
+ghost use Rattle.std.specs.Prelude.{◌≡◌, ◌+◌, ◌<◌, ◌^◌, ◌++◌, false, length, IfOk, OnOk};
 ghost use Rattle.c_types.specs.Words.{known_functions};
-ghost use Rattle.c_copies.specs.Names.{has_name, with_names};
-ghost use Rattle.guard_vars.specs.Fresh.{numbered as the_numbered, first_free as the_first_free, fresh as the_fresh, guard_name as the_guard_name, used_names as the_used_names, named_guards as the_named_guards, guard_names as the_guard_names};
+ghost use Rattle.c_copies.specs.Names.{has_name, with_names, slots_names};
+ghost use Rattle.guard_vars.specs.Fresh.{numbered as the_numbered, first_free as the_first_free, fresh as the_fresh, guard_name as the_guard_name, used_names as the_used_names, named_guards as the_named_guards, guard_names as the_guard_names, AreNew};
 
 use c_copies::{NameSet, add_names, add_slots};
 use c_tree::Function;
@@ -68,7 +68,8 @@ fn used_names(alloc: Global, names: &List<Name>, function: &Function) -> Result<
 }
 
 fn guard_name(alloc: Global, label: &Name, used: &NameSet) -> Result<Name, Memory>
-    ensures { IfOk result (λ it. it ≡ the_guard_name label.now used.now) }
+    ensures value { IfOk result (λ it. it ≡ the_guard_name label.now used.now) }
+    ensures unused { IfOk result (λ it. has_name used.now it ≡ false) }
 {
     let label = label.as_str();
     let base = format!(in alloc; "goto_{label}")?;
@@ -76,7 +77,8 @@ fn guard_name(alloc: Global, label: &Name, used: &NameSet) -> Result<Name, Memor
 }
 
 fn named_guards(alloc: Global, used: &mut NameSet, labels: &[Name]) -> Result<List<Name>, Memory>
-    ensures { IfOk result (λ it. it ≡ the_named_guards used.old labels.now) }
+    ensures value { IfOk result (λ it. it ≡ the_named_guards used.old labels.now) }
+    ensures new_names { IfOk result (λ it. AreNew used.old it) }
 {
     let mut out = List::new(alloc);
     for i in 0..labels.len() {
@@ -90,13 +92,16 @@ fn named_guards(alloc: Global, used: &mut NameSet, labels: &[Name]) -> Result<Li
 /// A name for the guard of each label of a function, in the order of its labels: the first of
 /// `goto_L`, `goto_L_2`, `goto_L_3` and so on that isn't used. Used are the names handed in, which
 /// are those of the whole file, the known functions of the library, the names of the function's own
-/// variables and labels, and the names given to earlier labels. Want of memory is the only failure.
+/// variables and labels, and the names given to earlier labels. Each name that is given is none of
+/// these. Want of memory is the only failure.
 pub fn guard_names(
     alloc: Global,
     names: &List<Name>,
     function: &Function,
 ) -> Result<List<Name>, Memory>
-    ensures { IfOk result (λ it. it ≡ the_guard_names names.now function.now) }
+    ensures value { IfOk result (λ it. it ≡ the_guard_names names.now function.now) }
+    ensures one_each { IfOk result (λ it. length it ≡ length function.now.labels) }
+    ensures new_names { IfOk result (λ it. AreNew (names.now ++ known_functions ++ slots_names function.now.slots ++ function.now.labels) it) }
 {
     let mut used = used_names(alloc, names, function)?;
     named_guards(alloc, &mut used, function.labels.as_slice())

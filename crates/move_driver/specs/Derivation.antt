@@ -7,7 +7,7 @@ use Rattle.c_tree.specs.declared.tree.Top.TheVariants as T
 use Rattle.c_tree.specs.declared.tree.Program.{Program}
 use Rattle.flat_form.specs.Flattened.{flattened}
 use Rattle.guard_vars.specs.Conversion.{converted}
-use Rattle.guard_vars.specs.Plain.{plain}
+use Rattle.plain_form.specs.Plain.{plain}
 use Rattle.c_tree.specs.Jumps.{is_jump_free_program}
 use Rattle.c_copies.specs.Names.{names}
 use Rattle.move_driver.specs.declared.counts.Counts.{Counts}

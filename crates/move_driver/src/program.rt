@@ -10,7 +10,8 @@ use c_copies::names;
 use c_tree::{Function, Item, Program, Top};
 use c_types::List;
 use flat_form::flatten;
-use guard_vars::{convert, plain};
+use guard_vars::convert;
+use plain_form::plain;
 use std::alloc::Global;
 
 /// A body after its moves, and how many they were.

@@ -1,6 +1,0 @@
-use Rattle.std.proofs.Common.{◌≡◌, ◌++◌, ◌-◌, map}
-use Rattle.guard_vars.specs.Plain.{numbers_from, guard_declared}
-use Rattle.guard_vars.proofs.plain_form.declare_guards.Given as goal
-
-abbrev pub invariant-loop-k : goal.invariant-loop-k
-invariant-loop-k l = l.out ++ map guard_declared (numbers_from l.k (l.to - l.k)) ≡ map guard_declared (numbers_from l.from (l.to - l.from))

@@ -1,7 +1,0 @@
-use Rattle.guard_vars.specs.Plain.{variable_declared}
-use Rattle.guard_vars.proofs.LoopLemmas.{declare_step}
-use Rattle.guard_vars.proofs.plain_form.declare_variables.Goals as goal
-
-pub loop-k-preserved : goal.loop-k-preserved
-loop-k-preserved c =
-    declare_step variable_declared c.loop-k.out c.push.new.self _ c.loop-k.k c.args.to c.loop-k-test.true c.in_ok-push.ensures.ok c.loop-k.invariant

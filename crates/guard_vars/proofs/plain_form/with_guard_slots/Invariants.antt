@@ -1,6 +1,0 @@
-use Rattle.std.proofs.Common.{◌≡◌, ◌++◌, map}
-use Rattle.guard_vars.specs.Plain.{guard_slot}
-use Rattle.guard_vars.proofs.plain_form.with_guard_slots.Given as goal
-
-abbrev pub invariant-loop-name : goal.invariant-loop-name
-invariant-loop-name l = l.out ≡ l.fn.slots ++ map guard_slot l.yielded

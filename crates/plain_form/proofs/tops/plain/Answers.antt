@@ -1,0 +1,26 @@
+use Rattle.std.proofs.Common.{ap, ◌∙◌, List, map}
+use Rattle.c_tree.specs.declared.tree.Top.{Top}
+use Rattle.guard_vars.specs.Fresh.{guard_names}
+use Rattle.plain_core.specs.Plain.{plain_top}
+use Rattle.plain_form.proofs.ProgramLaws.{no_jumps, few, ranged, behaves, structured}
+use Rattle.plain_form.proofs.tops.plain.Goals as goal
+
+pub returns-clause-no_jumps : goal.returns-clause-no_jumps
+returns-clause-no_jumps c =
+    no_jumps c.args.names.now c.args.program.now c.in_ok-tops.tops (c.in_ok-tops.ensures ∙ ap (λ (ts : List Top). map (plain_top (guard_names c.args.names.now)) ts) c.as_slice.ensures.value)
+
+pub returns-clause-few : goal.returns-clause-few
+returns-clause-few c =
+    few c.args.names.now c.args.program.now c.in_ok-tops.tops (c.in_ok-tops.ensures ∙ ap (λ (ts : List Top). map (plain_top (guard_names c.args.names.now)) ts) c.as_slice.ensures.value)
+
+pub returns-clause-ranged : goal.returns-clause-ranged
+returns-clause-ranged c =
+    ranged c.args.names.now c.args.program.now c.in_ok-tops.tops (c.in_ok-tops.ensures ∙ ap (λ (ts : List Top). map (plain_top (guard_names c.args.names.now)) ts) c.as_slice.ensures.value)
+
+pub returns-clause-behaves : goal.returns-clause-behaves
+returns-clause-behaves c =
+    behaves c.args.names.now c.args.program.now c.in_ok-tops.tops (c.in_ok-tops.ensures ∙ ap (λ (ts : List Top). map (plain_top (guard_names c.args.names.now)) ts) c.as_slice.ensures.value)
+
+pub returns-clause-structured : goal.returns-clause-structured
+returns-clause-structured c =
+    structured c.args.names.now c.args.program.now c.in_ok-tops.tops (c.in_ok-tops.ensures ∙ ap (λ (ts : List Top). map (plain_top (guard_names c.args.names.now)) ts) c.as_slice.ensures.value)

@@ -1,0 +1,4 @@
+pub mod Few
+pub mod Made
+pub mod Marks
+pub mod Plain

@@ -1,0 +1,180 @@
+ghost use Rattle.std.specs.Prelude.{◌≡◌, ◌≤◌, ◌+◌, ◌-◌, ◌++◌, length, map, Some, IfOk};
+ghost use Rattle.guard_vars.specs.Fresh.{guard_names as the_guard_names};
+ghost use Rattle.plain_core.specs.Plain.{guard_slot, numbers_from, variable_declared, guard_declared as the_guard_declared, declared as the_declared, guarded_body as the_guarded_body, with_guard_variables as the_with_guard_variables, tidied, plain_function as the_plain_function};
+
+use crate::expressions::number;
+use crate::items::{plain_items, tidied_items};
+use crate::left::{Left, guards_left};
+use crate::sections::joined;
+use crate::slots::Slots;
+use c_copies::{copy_function, copy_slots};
+use c_tree::{Function, Item, Slot};
+use c_types::{IntKind, List, MOST, Memory, Name};
+use guard_vars::guard_names;
+use std::alloc::Global;
+
+fn declare_variables(alloc: Global, from: u32, to: u32) -> Result<List<Item>, Memory>
+    ensures { IfOk result (λ it. it ≡ map variable_declared (numbers_from from (to - from))) }
+{
+    let mut out = List::new(alloc);
+    for k in from..to {
+        out.push(Item::Local(k, None))?;
+    }
+    Ok(out)
+}
+
+fn guard_declared(alloc: Global, k: u32) -> Result<Item, Memory>
+    ensures { IfOk result (λ it. it ≡ the_guard_declared k) }
+{
+    let mut values = List::new(alloc);
+    values.push(number(IntKind::Int, 0))?;
+    Ok(Item::Local(k, Some(values)))
+}
+
+fn declare_guards(alloc: Global, from: u32, to: u32) -> Result<List<Item>, Memory>
+    ensures { IfOk result (λ it. it ≡ map the_guard_declared (numbers_from from (to - from))) }
+{
+    let mut out = List::new(alloc);
+    for k in from..to {
+        out.push(guard_declared(alloc, k)?)?;
+    }
+    Ok(out)
+}
+
+/// The declarations of a function's block variables and of its guards, whose labels these are.
+fn declared(alloc: Global, function: &Function, left: &List<u32>) -> Result<List<Item>, Memory>
+    requires { length function.now.slots + length left.now ≤ 4294967295 }
+    ensures { IfOk result (λ it. it ≡ the_declared function.now left.now) }
+{
+    let base = function.slots.len() as u32;
+    let variables = declare_variables(alloc, function.params, base)?;
+    let guards = declare_guards(alloc, base, base + left.len() as u32)?;
+    joined(variables, guards)
+}
+
+fn with_guard_slots(slots: List<Slot>, names: List<Name>) -> Result<List<Slot>, Memory>
+    ensures { IfOk result (λ it. it ≡ slots ++ map guard_slot names) }
+{
+    let mut out = slots;
+    for name in names.into_vec() {
+        out.push(Slot {
+            name,
+            kind: IntKind::Int,
+            cells: None,
+            constant: false,
+        })?;
+    }
+    Ok(out)
+}
+
+/// The slots of a function and behind them those of its guards, which have these names.
+fn guarded_slots(
+    alloc: Global,
+    function: &Function,
+    names: List<Name>,
+) -> Result<List<Slot>, Memory>
+    ensures { IfOk result (λ it. it ≡ function.now.slots ++ map guard_slot names) }
+{
+    let slots = copy_slots(alloc, function.slots.as_slice())?;
+    with_guard_slots(slots, names)
+}
+
+fn guarded_body(
+    alloc: Global,
+    function: &Function,
+    left: List<u32>,
+    body: &List<Item>,
+) -> Result<List<Item>, Memory>
+    ensures { IfOk result (λ it. it ≡ the_guarded_body function.now left body.now) }
+{
+    let base = function.slots.len();
+    if left.len() > MOST - base {
+        return Err(Memory);
+    }
+    let declared = declared(alloc, function, &left)?;
+    let slots = Slots {
+        base: base as u32,
+        left,
+    };
+    let items = plain_items(alloc, slots, body)?;
+    joined(declared, items)
+}
+
+fn with_guard_variables(
+    alloc: Global,
+    names: &List<Name>,
+    function: &Function,
+    body: &List<Item>,
+) -> Result<Function, Memory>
+    ensures { IfOk result (λ it. it ≡ the_with_guard_variables (the_guard_names names.now function.now) function.now body.now) }
+{
+    let name = function.name.copy(alloc)?;
+    let guards = guard_names(alloc, names, function)?;
+    let Left { labels, names } = guards_left(alloc, body, guards)?;
+    let slots = guarded_slots(alloc, function, names)?;
+    let body = guarded_body(alloc, function, labels, body)?;
+    Ok(Function {
+        name,
+        result: function.result,
+        file_only: function.file_only,
+        params: function.params,
+        slots,
+        labels: List::new(alloc),
+        body: Some(body),
+        flat: false,
+    })
+}
+
+fn copy_labels(alloc: Global, labels: &[Name]) -> Result<List<Name>, Memory>
+    ensures { IfOk result (λ it. it ≡ labels.now) }
+{
+    let mut out = List::new(alloc);
+    for label in labels {
+        out.push(label.copy(alloc)?)?;
+    }
+    Ok(out)
+}
+
+/// The function with the sections of its switches in the plain form.
+fn with_tidied_body(
+    alloc: Global,
+    function: &Function,
+    body: &List<Item>,
+) -> Result<Function, Memory>
+    ensures { IfOk result (λ it. it ≡ record function.now { body = Some (tidied body.now) }) }
+{
+    let name = function.name.copy(alloc)?;
+    let slots = copy_slots(alloc, function.slots.as_slice())?;
+    let labels = copy_labels(alloc, function.labels.as_slice())?;
+    let body = tidied_items(alloc, body)?;
+    Ok(Function {
+        name,
+        result: function.result,
+        file_only: function.file_only,
+        params: function.params,
+        slots,
+        labels,
+        body: Some(body),
+        flat: function.flat,
+    })
+}
+
+/// The plain form of a function.
+pub fn plain_function(
+    alloc: Global,
+    names: &List<Name>,
+    function: &Function,
+) -> Result<Function, Memory>
+    ensures { IfOk result (λ it. it ≡ the_plain_function (the_guard_names names.now function.now) function.now) }
+{
+    match &function.body {
+        None => copy_function(alloc, function),
+        Some(body) => {
+            if function.flat {
+                with_guard_variables(alloc, names, function, body)
+            } else {
+                with_tidied_body(alloc, function, body)
+            }
+        }
+    }
+}
