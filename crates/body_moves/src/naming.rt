@@ -1,5 +1,5 @@
 ghost use Rattle.std.specs.Prelude.{◌≡◌, IfOk, slice_get, take};
-ghost use Rattle.body_moves.specs.Naming.{named, all_named};
+ghost use Rattle.derivation.specs.Naming.{named, all_named};
 
 use c_types::{List, Memory, Name};
 use derivation::Kept;

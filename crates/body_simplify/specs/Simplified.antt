@@ -9,7 +9,7 @@ use Rattle.move_core.specs.Laws.{Keeps}
 use Rattle.move_records.specs.declared.moves.Move.{Move}
 use Rattle.guard_simplify.specs.declared.choice.Choice.{Choice}
 use Rattle.guard_simplify.specs.Application.{Reaches, IsSimple}
-use Rattle.body_simplify.specs.Naming.{choices_named}
+use Rattle.guard_simplify.specs.Naming.{choices_named}
 
 -- the body stands after some of the simplifications of the old one, each the next
 pub record IsOnTheWay (old new : List Item) : Type 0 where

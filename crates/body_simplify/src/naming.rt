@@ -2,7 +2,7 @@
 
 ghost use Rattle.std.specs.Prelude.{◌≡◌, IfOk, slice_get};
 ghost use Rattle.std.specs.Option.{option_and_then};
-ghost use Rattle.body_simplify.specs.Naming.{choice_named, choices_named};
+ghost use Rattle.guard_simplify.specs.Naming.{choice_named, choices_named};
 
 use c_types::{List, Memory, Name};
 use guard_simplify::Choice;

@@ -1,6 +1,6 @@
 use Rattle.std.proofs.Common.{◌≡◌, ◌++◌}
 use Rattle.std.specs.Vec.Iter.{into_iter_items}
-use Rattle.body_simplify.specs.Naming.{choices_named}
+use Rattle.guard_simplify.specs.Naming.{choices_named}
 use Rattle.body_simplify.proofs.naming.name_choices.Given as goal
 
 abbrev pub invariant-loop-choice : goal.invariant-loop-choice
