@@ -32,75 +32,12 @@ use Rattle.c_kinds.specs.Typing.{constant, typed, commas, target_of, form_target
 use Rattle.c_resolved.specs.Within.{Each}
 use Rattle.c_resolved.specs.Names.{Names}
 use Rattle.c_resolved.specs.Scopes.{Scope}
-use Rattle.resolving_core.proofs.Lists.{none_left, clean_if}
+use Rattle.resolving_core.proofs.Empty.{use_empty, drop_empty, given_empty}
 use Rattle.resolving_core.proofs.Known.{Knows}
 use Rattle.resolving_core.proofs.Read.{IsTarget, IsTargetForm, FitsStep, IsReadTerm, IsReadForm, AreReadTerms}
 use Rattle.resolving_core.proofs.Numbers.{IsNumberOf, integer_in_range}
 use Rattle.resolving_core.proofs.Values.{SoundTyped, SoundValue, SoundDropped, IsWrittenTarget, use_clean, drop_clean, named_sound, variable_sound, target_clean, number_target_sound, cell_target_sound, writable_sound, reading_sound, unary_sound, counting_sound, cast_sound, cast_void_sound, binary_sound, choice_sound, assignment_sound, comma_sound, Operand}
 use Rattle.resolving_core.proofs.Calls.{called_sound}
-
--- ---- no violation in front of none
-
-use_empty : (first : ℕ) (x : typed.Typed) (vs : Faults) → use_fault first x vs ≡ [] → vs ≡ []
-use_empty first (T.Value v) vs e = e
-use_empty first (T.Void a) vs e = absurd (none_left _ vs e)
-use_empty first (T.Text bytes) vs e = absurd (none_left _ vs e)
-use_empty first (T.Array a) vs e = absurd (none_left _ vs e)
-use_empty first T.Wrong vs e = e
-
-drop_empty : (first : ℕ) (x : typed.Typed) (vs : Faults) → drop_fault first x vs ≡ [] → vs ≡ []
-drop_empty first (T.Value v) vs e = e
-drop_empty first (T.Void a) vs e = e
-drop_empty first (T.Text bytes) vs e = absurd (none_left _ vs e)
-drop_empty first (T.Array a) vs e = absurd (none_left _ vs e)
-drop_empty first T.Wrong vs e = e
-
-argument_empty : (w : Want) (first : ℕ) (x : typed.Typed) (vs : Faults) → argument_fault w first x vs ≡ [] → vs ≡ []
-argument_empty (want.Number kind constant) first (T.Value v) vs e = e
-argument_empty (want.Number kind constant) first (T.Void a) vs e = absurd (none_left _ vs e)
-argument_empty (want.Number kind constant) first (T.Text bytes) vs e = absurd (none_left _ vs e)
-argument_empty (want.Number kind constant) first (T.Array a) vs e = absurd (none_left _ vs e)
-argument_empty (want.Number kind constant) first T.Wrong vs e = e
-argument_empty (want.Array kind constant external) first (T.Value v) vs e = absurd (none_left _ vs e)
-argument_empty (want.Array kind constant external) first (T.Void a) vs e = absurd (none_left _ vs e)
-argument_empty (want.Array kind constant external) first (T.Text bytes) vs e = absurd (none_left _ vs e)
-argument_empty (want.Array kind constant external) first (T.Array a) vs e =
-    (clean_if (not (same_kind kind a.kind)) first 22 vs (clean_if (a.constant && not constant) a.token 26 _ (clean_if external first 38 _ e).0).0).0
-argument_empty (want.Array kind constant external) first T.Wrong vs e = e
-argument_empty (want.Sized wide) first (T.Value v) vs e = (clean_if (not (same_truth wide (is_wide v.kind))) first 40 vs e).0
-argument_empty (want.Sized wide) first (T.Void a) vs e = absurd (none_left _ vs e)
-argument_empty (want.Sized wide) first (T.Text bytes) vs e = absurd (none_left _ vs e)
-argument_empty (want.Sized wide) first (T.Array a) vs e = absurd (none_left _ vs e)
-argument_empty (want.Sized wide) first T.Wrong vs e = e
-
-arguments_empty : (ws : List Want) (gs : List Given) (vs : Faults) → argument_faults ws gs vs ≡ [] → vs ≡ []
-arguments_empty [] gs vs e = e
-arguments_empty (w ∷ ws) [] vs e = e
-arguments_empty (w ∷ ws) (g ∷ gs) vs e = argument_empty w g.first g.typed vs (arguments_empty ws gs (argument_fault w g.first g.typed vs) e)
-
-wanted_empty : (at reason : ℕ) (ws : List Want) (gs : List Given) (vs : Faults) → wanted_faults at reason ws gs vs ≡ [] → vs ≡ []
-wanted_empty at reason ws gs vs e = by (length ws == length gs) e
-  where
-    by : (b : Bool) → cond b (argument_faults ws gs vs) (fault at reason (text_faults gs vs)) ≡ [] → vs ≡ []
-    by true e = arguments_empty ws gs vs e
-    by false e = absurd (none_left _ _ e)
-
-printing_empty : (at : ℕ) (o : Option (List Want)) (gs : List Given) (vs : Faults) → printing_faults at o gs vs ≡ [] → vs ≡ []
-printing_empty at None gs vs e = absurd (none_left _ _ e)
-printing_empty at (Some ws) gs vs e = wanted_empty at 40 ws gs vs e
-
-format_empty : (at : ℕ) (o : Option (List ℕ)) (gs : List Given) (vs : Faults) → format_faults at o gs vs ≡ [] → vs ≡ []
-format_empty at None gs vs e = absurd (none_left _ _ e)
-format_empty at (Some bytes) gs vs e = printing_empty at (wanted bytes) gs vs e
-
-given_empty : (at : ℕ) (o : Option Binding) (gs : List Given) (vs : Faults) → call_faults at o gs vs ≡ [] → vs ≡ []
-given_empty at None gs vs e = absurd (none_left _ _ e)
-given_empty at (Some (B.Function s)) gs vs e = wanted_empty at 23 s.wants gs vs e
-given_empty at (Some B.Printf) [] vs e = absurd (none_left _ _ e)
-given_empty at (Some B.Printf) (g ∷ gs) vs e = format_empty at (text_of g.typed) gs vs e
-given_empty at (Some (B.Constant v)) gs vs e = absurd (none_left _ _ e)
-given_empty at (Some (B.Global shape)) gs vs e = absurd (none_left _ _ e)
-given_empty at (Some (B.Local k shape)) gs vs e = absurd (none_left _ _ e)
 
 module _ (n : Names) (ss : List Scope) (env : Env) (knows : Knows n ss env) where
   -- ---- constants

@@ -6,3 +6,9 @@ pub mod Formats
 pub mod Calls
 pub mod Numbers
 pub mod Expressions
+pub mod Empty
+pub mod Parts
+pub mod Grown
+pub mod SectionTrees
+pub mod Walk
+pub mod Walked
