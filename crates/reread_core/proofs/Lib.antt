@@ -1,0 +1,2 @@
+pub mod ExpressionSources
+pub mod TheLaws

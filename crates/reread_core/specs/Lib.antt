@@ -1,0 +1,2 @@
+pub mod WrittenExpressions
+pub mod Laws
