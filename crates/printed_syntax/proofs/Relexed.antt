@@ -35,15 +35,15 @@ abbrev fits_text : ℕ → Bool
 fits_text b = is_good (character_in 34 b) is_text_byte
 
 -- the numbers below a bound
-abbrev below : ℕ → List ℕ
+abbrev pub below : ℕ → List ℕ
 below zero = []
 below (suc n) = n ∷ below n
 
-second_of_and : (x y : Bool) → (x && y) ≡ true → y ≡ true
+pub second_of_and : (x y : Bool) → (x && y) ≡ true → y ≡ true
 second_of_and true y h = h
 second_of_and false y h = cc
 
-all_below : (f : ℕ → Bool) (n : ℕ) → list_all f (below n) ≡ true → (b : ℕ) → b < n → f b ≡ true
+pub all_below : (f : ℕ → Bool) (n : ℕ) → list_all f (below n) ≡ true → (b : ℕ) → b < n → f b ≡ true
 all_below f zero h b k = absurd (omega (arith, k))
 all_below f (suc n) h b k = by_test (nat_lt b n) refl (all_below f n (second_of_and (f n) _ h) b)
   where

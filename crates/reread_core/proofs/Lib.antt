@@ -1,2 +1,6 @@
 pub mod ExpressionSources
+pub mod Mirrors
+pub mod Operands
+pub mod ExpressionWords
+pub mod Characters
 pub mod TheLaws

@@ -1,2 +1,3 @@
 pub mod WrittenExpressions
+pub mod Words
 pub mod Laws

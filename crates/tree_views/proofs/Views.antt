@@ -1,8 +1,8 @@
 -- The tree of an item by its form, and lists from one place on.
 use Rattle.std.proofs.Common.{◌≡◌, ℕ, ◌+◌, ◌<◌, ◌≤◌, List, [], ◌∷◌, ◌++◌, length, drop, get_or, Option, option_map, refl, sym, ap, ◌∙◌}
 use Rattle.std.proofs.lemmas.List.{at_drop_more, at_drop_all}
-use Rattle.c_tree.specs.declared.tree.Item.{Item, Item-F, Evaluate, Return, If, While, Do, For, Switch, Block, Local, Break, Continue, Goto, Mark, Arrival, out-Item, out-roll-Item}
-use Rattle.c_tree.specs.declared.tree.Item.TheVariants.{rolls-Evaluate, rolls-Return, rolls-If, rolls-While, rolls-Do, rolls-For, rolls-Switch, rolls-Block, rolls-Local, rolls-Break, rolls-Continue, rolls-Goto, rolls-Mark, rolls-Arrival}
+use Rattle.c_tree.specs.declared.tree.Item.{Item, Item-F, Evaluate, Return, If, While, Do, For, Switch, Block, Local, Break, Continue, Goto, Mark, Arm, Leap, Land, Arrival, Note, out-Item, out-roll-Item}
+use Rattle.c_tree.specs.declared.tree.Item.TheVariants.{rolls-Evaluate, rolls-Return, rolls-If, rolls-While, rolls-Do, rolls-For, rolls-Switch, rolls-Block, rolls-Local, rolls-Break, rolls-Continue, rolls-Goto, rolls-Mark, rolls-Arm, rolls-Leap, rolls-Land, rolls-Arrival, rolls-Note}
 use Rattle.c_tree.specs.declared.tree.Item.TheOpen as O
 use Rattle.c_tree.specs.declared.tree.Section as Real
 use Rattle.c_tree.specs.declared.tree.Test.{Test}
@@ -93,3 +93,15 @@ at-Mark l = ap tree_at (sym (rolls-Mark l)) ∙ ap layer_at (out-roll-Item (O.Ma
 
 pub at-Arrival : (e : Option Expression) → tree_at (Arrival e) ≡ Plain.Arrival (option_map expression_tree e)
 at-Arrival e = ap tree_at (sym (rolls-Arrival e)) ∙ ap layer_at (out-roll-Item (O.Arrival e))
+
+pub at-Arm : (l : ℕ) (e : Option Expression) → tree_at (Arm l e) ≡ Plain.Arm l (option_map expression_tree e)
+at-Arm l e = ap tree_at (sym (rolls-Arm l e)) ∙ ap layer_at (out-roll-Item (O.Arm l e))
+
+pub at-Leap : (l : ℕ) → tree_at (Leap l) ≡ Plain.Leap l
+at-Leap l = ap tree_at (sym (rolls-Leap l)) ∙ ap layer_at (out-roll-Item (O.Leap l))
+
+pub at-Land : (l : ℕ) → tree_at (Land l) ≡ Plain.Land l
+at-Land l = ap tree_at (sym (rolls-Land l)) ∙ ap layer_at (out-roll-Item (O.Land l))
+
+pub at-Note : (bs : List ℕ) → tree_at (Note bs) ≡ Plain.Note bs
+at-Note bs = ap tree_at (sym (rolls-Note bs)) ∙ ap layer_at (out-roll-Item (O.Note bs))
