@@ -8,7 +8,7 @@ use Rattle.c_tree.specs.Trees.{Tree, Forest, Evaluate, Return, If, While, Do, Fo
 use Rattle.c_resolved.specs.Within.{TestExpression}
 
 -- V holds of each expression of an item whose value is used, O of each whose value is dropped, C of each constant of a
--- case, and R of what is returned, apart from the items that stand in it
+-- case of a section, and R of what is returned, apart from the items that stand in it
 abbrev pub ItemHas : (V O C : ExpressionTree → Type 0) → (Option ExpressionTree → Type 0) → Tree → Type 0
 ItemHas V O C R (Evaluate e) = O e
 ItemHas V O C R (Return e) = R e
@@ -19,7 +19,6 @@ ItemHas V O C R (For first t u a) = IfSome t V × IfSome u O
 ItemHas V O C R (Switch s c) = V (selector_source s) × AllByRecursion C (all_cases c)
 ItemHas V O C R (Local x es) = IfSome es (AllByRecursion V)
 ItemHas V O C R (Arm l e) = IfSome e V
-ItemHas V O C R (Arrival e) = IfSome e C
 ItemHas V O C R _ = Unit {0}
 
 -- ---- facts from others
@@ -56,7 +55,7 @@ module _ (V O C V' O' C' : ExpressionTree → Type 0) (R R' : Option ExpressionT
   facts_map (Switch s d) h = (v (selector_source s) h.0, list_map C C' c (all_cases d) h.1)
   facts_map (Local x es) h = listed_map V V' v es h
   facts_map (Arm l e) h = some_map V V' v e h
-  facts_map (Arrival e) h = some_map C C' c e h
+  facts_map (Arrival e) h = tt
   facts_map (Block a) h = tt
   facts_map Break h = tt
   facts_map Continue h = tt

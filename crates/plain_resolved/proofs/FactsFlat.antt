@@ -70,9 +70,9 @@ module _ (V O C : ExpressionTree → Type 0) (R : Option ExpressionTree → Type
   if_breaks_has Jumps x y h k = k
   if_breaks_has Otherwise x y h k = k
 
-  arrival_has : (r : Arrivals) (e : Option ExpressionTree) → IfSome e C → AreH (arrival r e)
-  arrival_has NoArrival e h = (h, tt)
-  arrival_has (Arrives names) e h = (tt, tt)
+  arrival_has : (r : Arrivals) (e : Option ExpressionTree) → AreH (arrival r e)
+  arrival_has NoArrival e = (tt, tt)
+  arrival_has (Arrives names) e = (tt, tt)
 
   third_has : (u : Option ExpressionTree) → IfSome u O → AreH (third_items u)
   third_has None h = tt
@@ -195,7 +195,7 @@ module _ (V O C : ExpressionTree → Type 0) (R : Option ExpressionTree → Type
       item_has h b e r Continue o v n = exit_has e Continue tt
       item_has h b e r (Goto l) o v n = (tt, tt)
       item_has h b e r (Mark l) o v n = flag_has (p.live l) (p.source l)
-      item_has h b e r (Arrival x) o v n = arrival_has r x o.0
+      item_has h b e r (Arrival x) o v n = arrival_has r x
       item_has h b e r (Switch t d) o v n =
           let i = inside (Switch t d) h in
           let names = names_of p h (switch_kind t) d in

@@ -92,7 +92,7 @@ module _ (V O C : ExpressionTree → Type 0) (R : Option ExpressionTree → Type
     item_plain (Goto l) h = tt
     item_plain (Mark l) h = tt
     item_plain (Leap l) h = tt
-    item_plain (Arrival e) h = h.0
+    item_plain (Arrival e) h = tt
     item_plain (Note bs) h = tt
 
     pub facts_plain : (a : Forest) → Everywhere Guarded a → Everywhere H (plain_list slot a)
@@ -117,7 +117,7 @@ module _ (V O C : ExpressionTree → Type 0) (R : Option ExpressionTree → Type
   item_tidy (Arm l e) h = h
   item_tidy (Leap l) h = tt
   item_tidy (Land l) h = tt
-  item_tidy (Arrival e) h = h
+  item_tidy (Arrival e) h = tt
   item_tidy (Note bs) h = tt
 
   pub facts_tidy : (a : Forest) → Everywhere H a → Everywhere H (tidy a)

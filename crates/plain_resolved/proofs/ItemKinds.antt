@@ -11,6 +11,7 @@ use Rattle.c_resolved.specs.Within.{Each, Within, TestExpression, CaseExpression
 use Rattle.c_resolved.specs.Names.{Names}
 use Rattle.c_resolved.specs.Kinds.{IsOperand, HasValue, KindsAgree, WritesNoConst, ItemAgrees, ReturnFits, KeepsConsts}
 use Rattle.c_resolved.specs.Form.{HasSourceForm}
+use Rattle.whole_core.proofs.Unlabelled.{IsPlainItem}
 use Rattle.plain_resolved.proofs.Facts.{ItemHas}
 use Rattle.plain_resolved.proofs.MadeKinds.{Known, Value, Operand}
 
@@ -147,7 +148,7 @@ module _ (n : Names) (result : Option IntKind) where
       let w = h.0.1.0 in (((k.0, w.0), h.0.0.values), both_each K W (all_cases c) (cases_all K c k.1) (cases_all W c w.1))
   to_kinds f (Local x es) h = both_listed (Known n) HasValue es (both_listed K W es h.0.0.kinds h.0.1.0) h.0.0.values
   to_kinds f (Arm l e) h = absurd h.1
-  to_kinds f (Arrival e) h = both_some K W e h.0.0.kinds h.0.1.0
+  to_kinds f (Arrival e) h = tt
   to_kinds f (Block a) h = tt
   to_kinds f Break h = tt
   to_kinds f Continue h = tt
@@ -163,26 +164,27 @@ module _ (n : Names) (result : Option IntKind) where
   of_some : (o : Option ExpressionTree) → IfSome o (Value n) → (IfSome o K × IfSome o HasValue) × IfSome o W
   of_some o h = let k = first_some (Known n) HasValue o h in ((first_some K W o k, second_some (Known n) HasValue o h), second_some K W o k)
 
-  pub from_kinds : (x : Tree) → HasKinds x → Agrees x
-  from_kinds (Evaluate e) h = (record { kinds = h.0.0; values = h.1 }, (h.0.1, other_fits result (Evaluate e) tt))
-  from_kinds (Return e) h = let s = of_some e h.0 in (record { kinds = s.0.0; values = s.0.1 }, (s.1, h.1))
-  from_kinds (If t a b) h = let s = of_test t h in (record { kinds = s.0.0; values = s.0.1 }, (s.1, other_fits result (If t a b) tt))
-  from_kinds (While t a) h = let s = of_test t h in (record { kinds = s.0.0; values = s.0.1 }, (s.1, other_fits result (While t a) tt))
-  from_kinds (Do a t) h = let s = of_test t h in (record { kinds = s.0.0; values = s.0.1 }, (s.1, other_fits result (Do a t) tt))
-  from_kinds (For first t u a) h =
+  -- of an item that is no nested case label
+  pub from_kinds : (x : Tree) → HasKinds x → IsPlainItem x → Agrees x
+  from_kinds (Evaluate e) h i = (record { kinds = h.0.0; values = h.1 }, (h.0.1, other_fits result (Evaluate e) tt))
+  from_kinds (Return e) h i = let s = of_some e h.0 in (record { kinds = s.0.0; values = s.0.1 }, (s.1, h.1))
+  from_kinds (If t a b) h i = let s = of_test t h in (record { kinds = s.0.0; values = s.0.1 }, (s.1, other_fits result (If t a b) tt))
+  from_kinds (While t a) h i = let s = of_test t h in (record { kinds = s.0.0; values = s.0.1 }, (s.1, other_fits result (While t a) tt))
+  from_kinds (Do a t) h i = let s = of_test t h in (record { kinds = s.0.0; values = s.0.1 }, (s.1, other_fits result (Do a t) tt))
+  from_kinds (For first t u a) h i =
       let s = of_some t h.0 in
       let k = first_some (Known n) IsOperand u h.1 in (record { kinds = (s.0.0, first_some K W u k); values = (s.0.1, second_some (Known n) IsOperand u h.1) }, ((s.1, second_some K W u k), other_fits result (For first t u a) tt))
-  from_kinds (Switch s c) h =
+  from_kinds (Switch s c) h i =
       (record { kinds = (h.0.0.0, all_in_cases K c (firsts K W (all_cases c) h.1)); values = h.0.1 }, ((h.0.0.1, all_in_cases W c (seconds K W (all_cases c) h.1)), other_fits result (Switch s c) tt))
-  from_kinds (Local x es) h =
+  from_kinds (Local x es) h i =
       let k = firsts_listed (Known n) HasValue es h in (record { kinds = firsts_listed K W es k; values = seconds_listed (Known n) HasValue es h }, (seconds_listed K W es k, other_fits result (Local x es) tt))
-  from_kinds (Arm l e) h = let s = of_some e h in (record { kinds = s.0.0; values = tt }, (s.1, other_fits result (Arm l e) tt))
-  from_kinds (Arrival e) h = (record { kinds = first_some K W e h; values = tt }, (second_some K W e h, other_fits result (Arrival e) tt))
-  from_kinds (Block a) h = (record { kinds = tt; values = tt }, (tt, other_fits result (Block a) tt))
-  from_kinds Break h = (record { kinds = tt; values = tt }, (tt, other_fits result Break tt))
-  from_kinds Continue h = (record { kinds = tt; values = tt }, (tt, other_fits result Continue tt))
-  from_kinds (Goto l) h = (record { kinds = tt; values = tt }, (tt, other_fits result (Goto l) tt))
-  from_kinds (Mark l) h = (record { kinds = tt; values = tt }, (tt, other_fits result (Mark l) tt))
-  from_kinds (Leap l) h = (record { kinds = tt; values = tt }, (tt, other_fits result (Leap l) tt))
-  from_kinds (Land l) h = (record { kinds = tt; values = tt }, (tt, other_fits result (Land l) tt))
-  from_kinds (Note bs) h = (record { kinds = tt; values = tt }, (tt, other_fits result (Note bs) tt))
+  from_kinds (Arm l e) h i = let s = of_some e h in (record { kinds = s.0.0; values = tt }, (s.1, other_fits result (Arm l e) tt))
+  from_kinds (Arrival e) h i = absurd i
+  from_kinds (Block a) h i = (record { kinds = tt; values = tt }, (tt, other_fits result (Block a) tt))
+  from_kinds Break h i = (record { kinds = tt; values = tt }, (tt, other_fits result Break tt))
+  from_kinds Continue h i = (record { kinds = tt; values = tt }, (tt, other_fits result Continue tt))
+  from_kinds (Goto l) h i = (record { kinds = tt; values = tt }, (tt, other_fits result (Goto l) tt))
+  from_kinds (Mark l) h i = (record { kinds = tt; values = tt }, (tt, other_fits result (Mark l) tt))
+  from_kinds (Leap l) h i = (record { kinds = tt; values = tt }, (tt, other_fits result (Leap l) tt))
+  from_kinds (Land l) h i = (record { kinds = tt; values = tt }, (tt, other_fits result (Land l) tt))
+  from_kinds (Note bs) h i = (record { kinds = tt; values = tt }, (tt, other_fits result (Note bs) tt))

@@ -11,3 +11,8 @@ pub mod MadeKinds
 pub mod ItemKinds
 pub mod PlainSlots
 pub mod PlainKinds
+pub mod TidyForm
+pub mod PlainForms
+pub mod PlainCases
+pub mod PlainLengths
+pub mod PlainFunctions

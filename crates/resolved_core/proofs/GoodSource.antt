@@ -49,14 +49,14 @@ entered : (c : Sections) → AreSections c → AllEntered c
 entered NoSection h = tt
 entered (Section cases default a ends c) h = (h.0, entered c h.4)
 
-all_pairs : {A : Type 0} (xs : List A) → AllDiffer xs → AllPairs (λ m n. m ≢ n) xs
+pub all_pairs : {A : Type 0} (xs : List A) → AllDiffer xs → AllPairs (λ m n. m ≢ n) xs
 all_pairs [] h = λ i j d b k. absurd (omega (arith, b, k))
 all_pairs (x ∷ xs) h = AllPairs-cons (λ m n. m ≢ n) x xs (All-from_recursion (λ y. x ≢ y) xs (each_map (λ y. y ≢ x) (λ y. x ≢ y) (λ y d e. d (sym e)) xs h.0)) (all_pairs xs h.1)
 
-same_cases : (c : Sections) → is_scattered c ≡ false → cases_among (switch_labels c) ≡ all_cases c
+pub same_cases : (c : Sections) → is_scattered c ≡ false → cases_among (switch_labels c) ≡ all_cases c
 same_cases c e = sym (cases_same (switch_labels c)) ∙ ap P.cases_among (sym (labels_same c)) ∙ unscattered_cases c e
 
-same_defaults : (c : Sections) → is_scattered c ≡ false → defaults_among (switch_labels c) ≡ defaults c
+pub same_defaults : (c : Sections) → is_scattered c ≡ false → defaults_among (switch_labels c) ≡ defaults c
 same_defaults c e = sym (nones_same (switch_labels c)) ∙ ap nones (sym (labels_same c)) ∙ unscattered_defaults c e
 
 good_cases : (k : IntKind) (c : Sections) → is_scattered c ≡ false → AreLabels k (switch_labels c) → AreCases k c
@@ -74,7 +74,7 @@ if_there : {A : Type 0} (Q R : A → Type 0) → ((a : A) → Q a → R a) → (
 if_there Q R f None h = absurd h
 if_there Q R f (Some a) h = f a h
 
-kind_given : (Q : IntKind → Type 0) (o : Option IntKind) → IsSomeAnd (option_map promoted o) Q → IsSome o
+pub kind_given : (Q : IntKind → Type 0) (o : Option IntKind) → IsSomeAnd (option_map promoted o) Q → IsSome o
 kind_given Q None h = absurd h
 kind_given Q (Some k) h = refl
 

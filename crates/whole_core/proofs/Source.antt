@@ -86,7 +86,7 @@ item_few f (Local x (Some es)) h = few f.slots x es h
 item_few f x h = tt
 
 module _ (counts : FlatCounts) (p : Program) (r : IsResolvedWith counts p) where
-  source_function : (f : Function) → IsResolvedFunction counts p.tops f → IsSourceFunction f
+  pub source_function : (f : Function) → IsResolvedFunction counts p.tops f → IsSourceFunction f
   source_function f g = record {
     unflat = g.form.unflat;
     ranged = function_ranged counts p.tops f g;
