@@ -30,9 +30,9 @@ flat_cases : (p : Plan) (h : Here) (j : Bool) (b e : Aim) (d : Sections) → all
 flat_cases p h j b e NoSection = refl
 flat_cases p h j b e (Section cases default a ends d) = ap (λ es. cases ++ es) (flat_cases p (past a h) j b e d)
 
-module _ (V O C : ExpressionTree → Type 0) (R : Option ExpressionTree → Type 0) where
+module _ (V O C : ExpressionTree → Type 0) (R : Option ExpressionTree → Type 0) (N : List ℕ → Type 0) where
   abbrev H : Tree → Type 0
-  H x = ItemHas V O C R x
+  H x = ItemHas V O C R N x
 
   abbrev AreH : Forest → Type 0
   AreH a = Everywhere H a
@@ -151,8 +151,8 @@ module _ (V O C : ExpressionTree → Type 0) (R : Option ExpressionTree → Type
     loop_list : (a : Forest) (e : Aim) → AreH a → AreH (join a (mark_of e))
     loop_list a e h = everywhere_join H a (mark_of e) h (marks_have e)
 
-    abbrev N : ℕ
-    N = length s.new
+    abbrev Most : ℕ
+    Most = length s.new
 
     choose : (b : Bool) (x y : Forest) → (b ≡ true → AreH x) → (b ≡ false → AreH y) → AreH (cond b x y)
     choose true x y h k = h refl
@@ -162,16 +162,16 @@ module _ (V O C : ExpressionTree → Type 0) (R : Option ExpressionTree → Type
     scattered true X e h = h
     scattered false X e h = cc
 
-    below : (b : Bool) (v t : ℕ) → b ≡ true → v + (cond b 1 0 + t) ≤ N → v < N
+    below : (b : Bool) (v t : ℕ) → b ≡ true → v + (cond b 1 0 + t) ≤ Most → v < Most
     below true v t e h = omega (arith, h)
     below false v t e h = cc
 
     mutual
-      pub flat_has : (h : Here) (b e : Aim) (r : Arrivals) (a : Forest) → Everywhere F a → HaveVariables s h a → h.variable + total variables_of a ≤ N → AreH (flat p h b e r a)
+      pub flat_has : (h : Here) (b e : Aim) (r : Arrivals) (a : Forest) → Everywhere F a → HaveVariables s h a → h.variable + total variables_of a ≤ Most → AreH (flat p h b e r a)
       flat_has h b e r Nil o v n = tt
       flat_has h b e r (Then x xs) o v n = everywhere_join H (flat_item p h b e r x) (flat p (past_item x h) b e r xs) (item_has h b e r x o.0 v.0 (omega (arith, n))) (flat_has (past_item x h) b e r xs o.1 v.1 (omega (arith, n)))
 
-      item_has : (h : Here) (b e : Aim) (r : Arrivals) (x : Tree) → EverywhereOf F x → HasVariables s h x → h.variable + total_of variables_of x ≤ N → AreH (flat_item p h b e r x)
+      item_has : (h : Here) (b e : Aim) (r : Arrivals) (x : Tree) → EverywhereOf F x → HasVariables s h x → h.variable + total_of variables_of x ≤ Most → AreH (flat_item p h b e r x)
       item_has h b e r (If t x y) o v n = ((o.0.0, flat_has h b e r x o.1 v.0 (omega (arith, n)), flat_has (past x h) b e r y o.2 v.1 (omega (arith, n))), tt)
       item_has h b e r (While t a) o v n =
           let B = aim (holds_jump p.live a) (breaks a) (p.break_label h.construct) in
@@ -209,19 +209,19 @@ module _ (V O C : ExpressionTree → Type 0) (R : Option ExpressionTree → Type
           (λ q. (((o.0.0.0, subst (AllByRecursion C) (sym (flat_cases p i J B e d)) o.0.0.1), sections_have i J B e d o.1 v.1 (omega (arith, n))), marks_have B))
       item_has h b e r (Evaluate x) o v n = (o.0, tt)
       item_has h b e r (Return x) o v n = (o.0, tt)
-      item_has h b e r (Note bs) o v n = (tt, tt)
+      item_has h b e r (Note bs) o v n = (o.0, tt)
       item_has h b e r (Arm l x) o v n = (o.0, tt)
       item_has h b e r (Leap l) o v n = (tt, tt)
       item_has h b e r (Land l) o v n = (tt, tt)
 
-      last_has : (h : Here) (b e : Aim) (r : Arrivals) (a : Forest) → Everywhere F a → HaveVariables s h a → h.variable + total variables_of a ≤ N → AreH (flat_last p h b e r a)
+      last_has : (h : Here) (b e : Aim) (r : Arrivals) (a : Forest) → Everywhere F a → HaveVariables s h a → h.variable + total variables_of a ≤ Most → AreH (flat_last p h b e r a)
       last_has h b e r Nil o v n = tt
       last_has h b e r (Then x xs) o v n =
           cond_has (is_gone (ending p.live xs)) (flat_last_item p h b e r x) (join (flat_item p h b e r x) (flat_last p (past_item x h) b e r xs))
           (last_item_has h b e r x o.0 v.0 (omega (arith, n)))
           (everywhere_join H (flat_item p h b e r x) (flat_last p (past_item x h) b e r xs) (item_has h b e r x o.0 v.0 (omega (arith, n))) (last_has (past_item x h) b e r xs o.1 v.1 (omega (arith, n))))
 
-      last_item_has : (h : Here) (b e : Aim) (r : Arrivals) (x : Tree) → EverywhereOf F x → HasVariables s h x → h.variable + total_of variables_of x ≤ N → AreH (flat_last_item p h b e r x)
+      last_item_has : (h : Here) (b e : Aim) (r : Arrivals) (x : Tree) → EverywhereOf F x → HasVariables s h x → h.variable + total_of variables_of x ≤ Most → AreH (flat_last_item p h b e r x)
       last_item_has h b e r (Block a) o v n = last_has h b e r a o.1 v (omega (arith, n))
       last_item_has h b e r (If t x y) o v n = tt
       last_item_has h b e r (While t a) o v n = tt
@@ -241,14 +241,14 @@ module _ (V O C : ExpressionTree → Type 0) (R : Option ExpressionTree → Type
       last_item_has h b e r (Leap l) o v n = tt
       last_item_has h b e r (Land l) o v n = tt
 
-      sections_have : (h : Here) (j : Bool) (b e : Aim) (d : Sections) → EverywhereIn F d → HaveVariablesAmong s h d → h.variable + total_in variables_of d ≤ N → EverywhereIn H (flat_sections p h j b e d)
+      sections_have : (h : Here) (j : Bool) (b e : Aim) (d : Sections) → EverywhereIn F d → HaveVariablesAmong s h d → h.variable + total_in variables_of d ≤ Most → EverywhereIn H (flat_sections p h j b e d)
       sections_have h j b e NoSection o v n = tt
       sections_have h j b e (Section cases default a ends d) o v n = (
         if_breaks_has (ending p.live a) (flat_last p h b e NoArrival a) (flat p h b e NoArrival a) (last_has h b e NoArrival a o.0 v.0 (omega (arith, n))) (flat_has h b e NoArrival a o.0 v.0 (omega (arith, n))),
         sections_have (past a h) j b e d o.1 v.1 (omega (arith, n)),
       )
 
-      spread_has : (h : Here) (b e : Aim) (names : Names) (d : Sections) → EverywhereIn F d → HaveVariablesAmong s h d → h.variable + total_in variables_of d ≤ N → AreH (spread p h b e names d)
+      spread_has : (h : Here) (b e : Aim) (names : Names) (d : Sections) → EverywhereIn F d → HaveVariablesAmong s h d → h.variable + total_in variables_of d ≤ Most → AreH (spread p h b e names d)
       spread_has h b e names NoSection o v n = marks_have b
       spread_has h b e names (Section cases default a ends d) o v n =
           everywhere_join H (case_marks names cases default) (join (flat p h b e (Arrives names) a) (join (end_goto ends b) (spread p (past a h) b e names d))) (case_marks_have names cases default)

@@ -49,9 +49,9 @@ unlabelled_cases (Section cases default a ends c) = same_cases cases c (unlabell
 abbrev AnyLabel : ℕ → Type 0
 AnyLabel l = Unit {0}
 
-module _ (V O C : ExpressionTree → Type 0) (R : Option ExpressionTree → Type 0) (of_value : (e : ExpressionTree) → V e → O e) where
+module _ (V O C : ExpressionTree → Type 0) (R : Option ExpressionTree → Type 0) (N : List ℕ → Type 0) (of_value : (e : ExpressionTree) → V e → O e) where
   abbrev H : Tree → Type 0
-  H x = ItemHas V O C R x
+  H x = ItemHas V O C R N x
 
   abbrev Cases : Sections → Type 0
   Cases c = AllByRecursion C (all_cases c)

@@ -108,9 +108,9 @@ guards_known f h m =
 
 -- ---- facts
 
-module _ (V O C : ExpressionTree → Type 0) (R : Option ExpressionTree → Type 0) (of_value : (e : ExpressionTree) → V e → O e) where
+module _ (V O C : ExpressionTree → Type 0) (R : Option ExpressionTree → Type 0) (N : List ℕ → Type 0) (of_value : (e : ExpressionTree) → V e → O e) where
   abbrev H : Tree → Type 0
-  H x = ItemHas V O C R x
+  H x = ItemHas V O C R N x
 
   declarations_have : V (number Int (pos 0)) → (base end : ℕ) (a : Forest) → AreDeclarations base end a → Everywhere H a
   declarations_have z base end Nil none = tt
@@ -119,9 +119,9 @@ module _ (V O C : ExpressionTree → Type 0) (R : Option ExpressionTree → Type
 
   module _ (f h : Function) (m : IsMovedForm f h) (one : V (number Int (pos 1)))
       (selects : (t : SelectorTree) (v : ℕ) → V (selector_source t) → IsVariable (setting f m.flat_form) v (switch_kind t) → v < length m.flat_form.slots
-      → O (assign_number (switch_kind t) v (selector_source t)) × Tests V O C R constant (switch_kind t) v) where
+      → O (assign_number (switch_kind t) v (selector_source t)) × Tests V O C R N constant (switch_kind t) v) where
     abbrev pub Source : Tree → Type 0
-    Source x = F V O C R (setting f m.flat_form) (plan_of f) one selects x
+    Source x = F V O C R N (setting f m.flat_form) (plan_of f) one selects x
 
     pub facts_moved : Everywhere Source (body_of f) → Everywhere H (trees_of m.new)
     facts_moved k =
@@ -130,16 +130,16 @@ module _ (V O C : ExpressionTree → Type 0) (R : Option ExpressionTree → Type
         let more = w.more_slots in
         let variables = subst (HaveVariables (setting f m.flat_form) (first_here (length f.slots))) (sym there) w.variables in
         let bound : length f.slots + total variables_of (body_of f) ≤ length m.flat_form.slots = subst (λ a. length f.slots + total variables_of a ≤ length m.flat_form.slots) (sym there) (omega (arith, more)) in
-        let flat = flat_has V O C R (setting f m.flat_form) (plan_of f) one selects (first_here (length f.slots)) Stays Stays NoArrival (body_of f) k variables bound in
-        facts_reached V O C R of_value m.reaches (facts_derived V O C R of_value m.derives (facts_converted V O C R of_value m.body (subst (Everywhere H) (sym (flat_trees f h m)) flat)))
+        let flat = flat_has V O C R N (setting f m.flat_form) (plan_of f) one selects (first_here (length f.slots)) Stays Stays NoArrival (body_of f) k variables bound in
+        facts_reached V O C R N of_value m.reaches (facts_derived V O C R N of_value m.derives (facts_converted V O C R N of_value m.body (subst (Everywhere H) (sym (flat_trees f h m)) flat)))
 
-    pub facts_of_plain : GuardFacts V O C R (slot_of f h m) (Left f h m) → Everywhere Source (body_of f) → Everywhere H (body_of h)
+    pub facts_of_plain : GuardFacts V O C R N (slot_of f h m) (Left f h m) → Everywhere Source (body_of f) → Everywhere H (body_of h)
     facts_of_plain g k =
         let a = trees_of (declared (reached_of f h m) (labels_of f h m)) in
         let b = plain_list (slot_of f h m) (trees_of m.new) in
         let decls = declarations_have g.zero _ _ a (are_declared (reached_of f h m) (labels_of f h m)) in
-        let items = facts_plain V O C R (slot_of f h m) (Left f h m) g (trees_of m.new) (everywhere_both H (λ x. ArmLabels (Left f h m) x × PicksFit x) (trees_of m.new) (facts_moved k) (guards_known f h m)) in
-        subst (Everywhere H) (sym (plain_trees f h m)) (facts_tidy V O C R (join a b) (join_everywhere H a b decls items))
+        let items = facts_plain V O C R N (slot_of f h m) (Left f h m) g (trees_of m.new) (everywhere_both H (λ x. ArmLabels (Left f h m) x × PicksFit x) (trees_of m.new) (facts_moved k) (guards_known f h m)) in
+        subst (Everywhere H) (sym (plain_trees f h m)) (facts_tidy V O C R N (join a b) (join_everywhere H a b decls items))
 
   pub facts_of_unmoved : (f h : Function) (m : IsUnmovedForm f h) → Everywhere H (body_of f) → Everywhere H (body_of h)
-  facts_of_unmoved f h m k = subst (Everywhere H) (sym (left_trees f h m)) (facts_tidy V O C R (unlabelled (body_of f)) (facts_unlabelled V O C R of_value (body_of f) k))
+  facts_of_unmoved f h m k = subst (Everywhere H) (sym (left_trees f h m)) (facts_tidy V O C R N (unlabelled (body_of f)) (facts_unlabelled V O C R N of_value (body_of f) k))

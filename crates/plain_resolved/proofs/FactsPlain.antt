@@ -44,9 +44,9 @@ tidy_cases (Section cases default a ends c) = put_cases (not ends && last_break 
 
 -- ---- guards
 
-module _ (V O C : ExpressionTree → Type 0) (R : Option ExpressionTree → Type 0) where
+module _ (V O C : ExpressionTree → Type 0) (R : Option ExpressionTree → Type 0) (N : List ℕ → Type 0) where
   abbrev H : Tree → Type 0
-  H x = ItemHas V O C R x
+  H x = ItemHas V O C R N x
 
   -- what is asked of the expressions that the guards of these labels become
   pub record GuardFacts (slot : ℕ → ℕ) (Left : ℕ → Type 0) : Type 0 where
@@ -93,7 +93,7 @@ module _ (V O C : ExpressionTree → Type 0) (R : Option ExpressionTree → Type
     item_plain (Mark l) h = tt
     item_plain (Leap l) h = tt
     item_plain (Arrival e) h = tt
-    item_plain (Note bs) h = tt
+    item_plain (Note bs) h = h.0
 
     pub facts_plain : (a : Forest) → Everywhere Guarded a → Everywhere H (plain_list slot a)
     facts_plain a h = plain_everywhere slot Guarded H item_plain a h
@@ -118,7 +118,7 @@ module _ (V O C : ExpressionTree → Type 0) (R : Option ExpressionTree → Type
   item_tidy (Leap l) h = tt
   item_tidy (Land l) h = tt
   item_tidy (Arrival e) h = tt
-  item_tidy (Note bs) h = tt
+  item_tidy (Note bs) h = h
 
   pub facts_tidy : (a : Forest) → Everywhere H a → Everywhere H (tidy a)
   facts_tidy a h = tidy_everywhere H item_tidy a h

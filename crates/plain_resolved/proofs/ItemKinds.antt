@@ -12,7 +12,7 @@ use Rattle.c_resolved.specs.Names.{Names}
 use Rattle.c_resolved.specs.Kinds.{IsOperand, HasValue, KindsAgree, WritesNoConst, ItemAgrees, ReturnFits, KeepsConsts}
 use Rattle.c_resolved.specs.Form.{HasSourceForm}
 use Rattle.whole_core.proofs.Unlabelled.{IsPlainItem}
-use Rattle.plain_resolved.proofs.Facts.{ItemHas}
+use Rattle.plain_resolved.proofs.Facts.{AnyNote, ItemHas}
 use Rattle.plain_resolved.proofs.MadeKinds.{Known, Value, Operand}
 
 -- ---- cases
@@ -124,7 +124,7 @@ module _ (n : Names) (result : Option IntKind) where
   W e = Within (WritesNoConst n) e
 
   abbrev pub HasKinds : Tree → Type 0
-  HasKinds x = ItemHas (Value n) (Operand n) (Known n) (Returned n result) x
+  HasKinds x = ItemHas (Value n) (Operand n) (Known n) (Returned n result) AnyNote x
 
   -- the facts of an item of a source
   abbrev pub Agrees : Tree → Type 0

@@ -16,3 +16,8 @@ pub mod PlainForms
 pub mod PlainCases
 pub mod PlainLengths
 pub mod PlainFunctions
+pub mod ScopeLists
+pub mod SourceBound
+pub mod PlainBound
+pub mod UnmovedBound
+pub mod FileBound

@@ -43,10 +43,10 @@ abbrev first_or : Slot → List Slot → Slot
 first_or d [] = d
 first_or d (s ∷ ss) = s
 
-same_first : (n : ℕ) (s t : Slot) (ss ts : List Slot) → take (suc n) (t ∷ ts) ≡ take (suc n) (s ∷ ss) → t ≡ s
+pub same_first : (n : ℕ) (s t : Slot) (ss ts : List Slot) → take (suc n) (t ∷ ts) ≡ take (suc n) (s ∷ ss) → t ≡ s
 same_first n s t ss ts e = ap (first_or t) e
 
-same_rest : (n : ℕ) (s t : Slot) (ss ts : List Slot) → take (suc n) (t ∷ ts) ≡ take (suc n) (s ∷ ss) → take n ts ≡ take n ss
+pub same_rest : (n : ℕ) (s t : Slot) (ss ts : List Slot) → take (suc n) (t ∷ ts) ≡ take (suc n) (s ∷ ss) → take n ts ≡ take n ss
 same_rest n s t ss ts e = ap (drop 1) e
 
 -- the first n are the same, and none of the others is const

@@ -39,7 +39,7 @@ use Rattle.c_resolved.specs.Switches.{arrivals, arrivals_of, section_labels, swi
 use Rattle.c_resolved.specs.Limits.{FlatCounts}
 use Rattle.c_resolved.specs.Resolved.{IsResolvedFunction}
 use Rattle.resolved_core.proofs.GoodSource.{same_cases, same_defaults, kind_given}
-use Rattle.plain_resolved.proofs.Facts.{ItemHas}
+use Rattle.plain_resolved.proofs.Facts.{AnyNote, ItemHas}
 use Rattle.plain_resolved.proofs.FactsMoved.{labels_of, slot_of, reached_of, plain_trees, left_trees, Source, facts_moved}
 use Rattle.plain_resolved.proofs.FactsPlain.{tidy_cases}
 use Rattle.plain_resolved.proofs.ItemKinds.{each_front, each_back, each_join}
@@ -234,7 +234,7 @@ abbrev AnyReturned : Option ExpressionTree → Type 0
 AnyReturned e = Unit {0}
 
 abbrev HasConstants : Tree → Type 0
-HasConstants x = ItemHas Any Any IsConstantValue AnyReturned x
+HasConstants x = ItemHas Any Any IsConstantValue AnyReturned AnyNote x
 
 cases_append : (xs ys : List (Option ExpressionTree)) → cases_among (xs ++ ys) ≡ cases_among xs ++ cases_among ys
 cases_append [] ys = refl
@@ -377,7 +377,7 @@ declarations_cases base end (Then x a) (one_more (guarding y i j) r) = (tt, decl
 
 module _ (f h : Function) (m : IsMovedForm f h) (params : f.params ≤ length f.slots) where
   abbrev FromSource : Tree → Type 0
-  FromSource x = Source Any Any IsConstantValue AnyReturned (λ e i. tt) f h m tt (λ t v a w b. (tt, λ z. tt)) x
+  FromSource x = Source Any Any IsConstantValue AnyReturned AnyNote (λ e i. tt) f h m tt (λ t v a w b. (tt, λ z. tt)) x
 
   from_source : (x : Tree) → HasCases x → FromSource x
   from_source (Local x None) g = (any_list None, tt)
@@ -401,7 +401,7 @@ module _ (f h : Function) (m : IsMovedForm f h) (params : f.params ≤ length f.
   from_source (Note bs) g = (tt, tt)
 
   constants_moved : Everywhere HasCases (body_of f) → Everywhere HasConstants (trees_of m.new)
-  constants_moved k = facts_moved Any Any IsConstantValue AnyReturned (λ e i. tt) f h m tt (λ t v a w b. (tt, λ z. tt)) (everywhere_map HasCases FromSource from_source (body_of f) k)
+  constants_moved k = facts_moved Any Any IsConstantValue AnyReturned AnyNote (λ e i. tt) f h m tt (λ t v a w b. (tt, λ z. tt)) (everywhere_map HasCases FromSource from_source (body_of f) k)
 
   pub moved_cases : Everywhere IsPlainItem (body_before f h m params) → Everywhere HasCases (body_of f) → Everywhere HasCases (body_of h)
   moved_cases p k =

@@ -216,10 +216,10 @@ declarations_exit base end (Then x a) (one_more (variable y) r) = let i = declar
 declarations_exit base end (Then x a) (one_more (guarding y k j) r) = let i = declarations_exit base end a r in let b = i.0 in let c = i.1 in (omega (arith, b), omega (arith, c))
 
 module _ (f h : Function) (m : IsMovedForm f h) (params : f.params ≤ length f.slots) where
-  abbrev decls : Forest
+  abbrev pub decls : Forest
   decls = trees_of (declared (reached_of f h m) (labels_of f h m))
 
-  abbrev items : Forest
+  abbrev pub items : Forest
   items = plain_list (slot_of f h m) (trees_of m.new)
 
   -- what is tidied
@@ -233,7 +233,7 @@ module _ (f h : Function) (m : IsMovedForm f h) (params : f.params ≤ length f.
       (everywhere_both IsConverted (λ x. IsNoLeap x × (HasEntries x × IsPlainFor x)) (trees_of m.new) m.made.converted
       (everywhere_both IsNoLeap (λ x. HasEntries x × IsPlainFor x) (trees_of m.new) m.leapless (everywhere_both HasEntries IsPlainFor (trees_of m.new) m.made.entries m.made.loops))))
 
-  moved_length : length h.slots ≡ length m.flat_form.slots + length (labels_of f h m)
+  pub moved_length : length h.slots ≡ length m.flat_form.slots + length (labels_of f h m)
   moved_length =
       ap length (moved_slots f h m params)
       ∙ length-append m.flat_form.slots (map guard_slot (names_left m.new 0 m.names))
@@ -242,12 +242,17 @@ module _ (f h : Function) (m : IsMovedForm f h) (params : f.params ≤ length f.
   flat_params : m.flat_form.params ≤ length m.flat_form.slots
   flat_params = let w = m.is_flat in let e = w.more_slots in let p = w.params in omega (arith, e, params, p)
 
+  -- the declarations are those of all variables that are no parameters
+  pub declarations_gathered : gathered declared_slot decls ≡ numbers_from h.params (length h.slots - h.params)
+  declarations_gathered =
+      declared_gathered (reached_of f h m) (labels_of f h m) flat_params
+      ∙ (λ i. numbers_from (sym (moved_params f h m params ∙ m.is_flat.params) i) (sym moved_length i - sym (moved_params f h m params ∙ m.is_flat.params) i))
+
   moved_gathered : gathered declared_slot body_before ≡ numbers_from h.params (length h.slots - h.params)
   moved_gathered =
       gathered_join declared_slot decls items
-      ∙ ap₂ (λ k l. k ++ l) (declared_gathered (reached_of f h m) (labels_of f h m) flat_params) (undeclared h (slot_of f h m) (trees_of m.new) m.made.converted)
-      ∙ no_more (numbers_from m.flat_form.params (length m.flat_form.slots + length (labels_of f h m) - m.flat_form.params))
-      ∙ (λ i. numbers_from (sym (moved_params f h m params ∙ m.is_flat.params) i) (sym moved_length i - sym (moved_params f h m params ∙ m.is_flat.params) i))
+      ∙ ap₂ (λ k l. k ++ l) declarations_gathered (undeclared h (slot_of f h m) (trees_of m.new) m.made.converted)
+      ∙ no_more (numbers_from h.params (length h.slots - h.params))
     where
       no_more : (xs : List ℕ) → xs ++ [] ≡ xs
       no_more [] = refl
@@ -264,7 +269,7 @@ module _ (f h : Function) (m : IsMovedForm f h) (params : f.params ≤ length f.
       let q = continues_plain h (slot_of f h m) (trees_of m.new) in
       let e = m.made.bound in omega (arith, i, j, b, c, p, q, e)
 
-  moved_within : h.params ≤ length h.slots
+  pub moved_within : h.params ≤ length h.slots
   moved_within = let e = moved_length in let p = moved_params f h m params in let g = m.is_flat.params in let w = flat_params in omega (arith, e, p, g, w)
 
   pub moved_form : HasForm h

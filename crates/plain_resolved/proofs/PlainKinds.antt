@@ -37,7 +37,7 @@ use Rattle.c_resolved.specs.Kinds.{HasValue, ReturnFits, ItemAgrees, KeepsConsts
 use Rattle.c_resolved.specs.Limits.{FlatCounts}
 use Rattle.c_resolved.specs.Resolved.{IsInitialised, IsResolvedFunction, names_in}
 use Rattle.resolved_core.proofs.SourceGiven.{Declared, function_declared}
-use Rattle.plain_resolved.proofs.Facts.{facts_map, some_map}
+use Rattle.plain_resolved.proofs.Facts.{AnyNote, facts_map, some_map}
 use Rattle.plain_resolved.proofs.FactsFlat.{Tests}
 use Rattle.plain_resolved.proofs.FactsMoved.{slot_of, Left, Source, facts_of_plain, facts_of_unmoved}
 use Rattle.plain_resolved.proofs.FactsPlain.{GuardFacts}
@@ -78,7 +78,7 @@ pub kinds_map : (n k : Names) → KeepsNames n k → (result : Option IntKind) (
 kinds_map n k kept result x h =
     facts_map (Value n) (Operand n) (Known n) (Value k) (Operand k) (Known k) (Returned n result) (Returned k result)
     (λ e v. ((kinds_over n k kept e v.0.0, consts_over n k kept e v.0.1), v.1)) (λ e v. ((kinds_over n k kept e v.0.0, consts_over n k kept e v.0.1), v.1)) (λ e v. (kinds_over n k kept e v.0, consts_over n k kept e v.1))
-    (returned_over n k kept result) x h
+    (returned_over n k kept result) AnyNote AnyNote (λ bs i. i) x h
 
 -- ---- of a function of a resolved program
 
@@ -96,7 +96,7 @@ module _ (counts : FlatCounts) (ts : List Top) (f : Function) (r : IsResolvedFun
 
   -- without jumps
   pub unmoved_kinds : (h : Function) → IsUnmovedForm f h → (k : Names) → KeepsNames N k → Everywhere (HasKinds k f.result) (body_of h)
-  unmoved_kinds h m k kept = facts_of_unmoved (Value k) (Operand k) (Known k) (Returned k f.result) (value_operand k) f h m (source_kinds k kept)
+  unmoved_kinds h m k kept = facts_of_unmoved (Value k) (Operand k) (Known k) (Returned k f.result) AnyNote (value_operand k) f h m (source_kinds k kept)
 
   -- with jumps
   module _ (h : Function) (m : IsMovedForm f h) (k : Names) (slots : k.slots ≡ h.slots) (kept : KeepsNames N k) where
@@ -107,14 +107,14 @@ module _ (counts : FlatCounts) (ts : List Top) (f : Function) (r : IsResolvedFun
     one = number_known k Int (pos 1) (small_in 1 (omega arith))
 
     selects : (t : SelectorTree) (v : ℕ) → Value k (selector_source t) → IsVariable (setting f m.flat_form) v (switch_kind t) → v < length m.flat_form.slots
-        → Operand k (assign_number (switch_kind t) v (selector_source t)) × Tests (Value k) (Operand k) (Known k) (Returned k f.result) constant (switch_kind t) v
+        → Operand k (assign_number (switch_kind t) v (selector_source t)) × Tests (Value k) (Operand k) (Known k) (Returned k f.result) AnyNote constant (switch_kind t) v
     selects t v s w b =
         let kind = switch_kind t in
         let free = switch_free f h m params k slots v kind w b in
         (value_operand k _ (assign_known k v kind (selector_source t) free s), λ z. test_known k v kind z (promoted_twice (operand_kind (kind_of (selector_source t)))) free)
 
     abbrev FromSource : Tree → Type 0
-    FromSource x = Source (Value k) (Operand k) (Known k) (Returned k f.result) (value_operand k) f h m one selects x
+    FromSource x = Source (Value k) (Operand k) (Known k) (Returned k f.result) AnyNote (value_operand k) f h m one selects x
 
     local_has : (x : ℕ) (es : List ExpressionTree) → IsInitialised f.slots (Local x (Some es)) → f.params ≤ x → AllByRecursion (Value k) es → Everywhere (HasKinds k f.result) (initialised (plan_of f) x es)
     local_has x es i p v = at (slice_get f.slots x) refl i
@@ -170,7 +170,7 @@ module _ (counts : FlatCounts) (ts : List Top) (f : Function) (r : IsResolvedFun
         let start : IsPickable k (switch_kind s) (selector_source s) = record { value = v; own = j.0; same = j.1; promotes = sym (ap (λ o. promoted (operand_kind o)) j.1) } in
         (picked_known k (slot_of f h m) (Left f h m) (switch_kind s) (promoted_twice (operand_kind (kind_of (selector_source s)))) s free start l p).value
 
-    guards : GuardFacts (Value k) (Operand k) (Known k) (Returned k f.result) (slot_of f h m) (Left f h m)
+    guards : GuardFacts (Value k) (Operand k) (Known k) (Returned k f.result) AnyNote (slot_of f h m) (Left f h m)
     guards = record {
       on = λ l i. guard_known k (slot_of f h m l) (free l i);
       off = λ l i. off_known k (slot_of f h m l) (free l i);
@@ -184,4 +184,4 @@ module _ (counts : FlatCounts) (ts : List Top) (f : Function) (r : IsResolvedFun
     }
 
     pub moved_kinds : Everywhere (HasKinds k f.result) (body_of h)
-    moved_kinds = facts_of_plain (Value k) (Operand k) (Known k) (Returned k f.result) (value_operand k) f h m one selects guards source
+    moved_kinds = facts_of_plain (Value k) (Operand k) (Known k) (Returned k f.result) AnyNote (value_operand k) f h m one selects guards source

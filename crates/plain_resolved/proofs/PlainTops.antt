@@ -50,15 +50,21 @@ pub record IsUnmovedForm (f h : Function) : Type 0 where
   pub is_left : IsUnlabelledForm f left
   pub plain : h ≡ record left { body = Some (tidied is_left.new) }
 
-pub data PlainTop : Top → Top → Type 0 where
-  pt_moved : {f h : Function} → IsMovedForm f h → PlainTop (T.Function f) (T.Function h)
-  pt_unmoved : {f h : Function} → IsUnmovedForm f h → PlainTop (T.Function f) (T.Function h)
-  pt_declared : (f : Function) → f.body ≡ None → PlainTop (T.Function f) (T.Function f)
-  pt_other : (t : Top) → IsNoFunction t → PlainTop t t
+-- of each function with jumps a fact is known besides
+pub data PlainTop (Own : Function → Type 0) : Top → Top → Type 0 where
+  pt_moved : {f h : Function} → IsMovedForm f h → Own h → PlainTop Own (T.Function f) (T.Function h)
+  pt_unmoved : {f h : Function} → IsUnmovedForm f h → PlainTop Own (T.Function f) (T.Function h)
+  pt_declared : (f : Function) → f.body ≡ None → PlainTop Own (T.Function f) (T.Function f)
+  pt_other : (t : Top) → IsNoFunction t → PlainTop Own t t
 
-pub data PlainTops : List Top → List Top → Type 0 where
-  pt_none : PlainTops [] []
-  pt_more : {t u : Top} {ts us : List Top} → PlainTop t u → PlainTops ts us → PlainTops (t ∷ ts) (u ∷ us)
+pub data PlainTops (Own : Function → Type 0) : List Top → List Top → Type 0 where
+  pt_none : PlainTops Own [] []
+  pt_more : {t u : Top} {ts us : List Top} → PlainTop Own t u → PlainTops Own ts us → PlainTops Own (t ∷ ts) (u ∷ us)
+
+-- the fact of the plain form of each flat function
+abbrev pub IsOwnTop : (Function → Type 0) → (Function → List (List ℕ)) → Top → Type 0
+IsOwnTop Own names (T.Function g) = g.flat ≡ true → Own (plain_function (names g) g)
+IsOwnTop Own names _ = Unit {0}
 
 -- ---- the plain form of a function by its body
 
@@ -81,7 +87,7 @@ other_plain names (T.Note bytes) n = refl
 none_is_some : {A : Type 0} (o : Option A) (a : A) → o ≡ None → o ≡ Some a → ⊥
 none_is_some o a e i = let q : None ≡ Some a = sym e ∙ i in cc
 
-module _ (c : Code) (names : Function → List (List ℕ)) where
+module _ (Own : Function → Type 0) (c : Code) (names : Function → List (List ℕ)) where
   moved_form : (f g k : Function) (ms : List Made) → has_jumps (body_of f) ≡ true → IsFlatForm f g → IsMoved g k ms → IsReady c names k → IsMovedForm f (plain_function (names k) k)
   moved_form f g k ms jumps w m n = record {
     jumps = jumps;
@@ -107,16 +113,16 @@ module _ (c : Code) (names : Function → List (List ℕ)) where
   unmoved_form : (f g : Function) → has_jumps (body_of f) ≡ false → IsUnlabelledForm f g → IsUnmovedForm f (plain_function (names g) g)
   unmoved_form f g free w = record { free = free; left = g; is_left = w; plain = ap (plain_body (names g) g) w.new_body ∙ plain_unflat (names g) g w.new w.flat }
 
-  plain_of : {t u v : Top} {ms : List Made} → FlatTop t u → MovedTop u v ms → IsTopReady c names v → PlainTop t (plain_top names v)
-  plain_of (ft_flat {f = f} {g = g} jumps w) (mt_moved {g = k} {ms = ms} flat m) n = pt_moved (moved_form f g k ms jumps w m n)
-  plain_of (ft_flat jumps w) (mt_other t unflat) n = absurd (true≢false (sym w.flat ∙ unflat))
-  plain_of (ft_unlabelled free w) (mt_moved flat m) n = absurd (true≢false (sym flat ∙ w.flat))
-  plain_of (ft_unlabelled {f = f} {g = g} free w) (mt_other t unflat) n = pt_unmoved (unmoved_form f g free w)
-  plain_of (ft_declared f e) (mt_moved flat m) n = absurd (none_is_some f.body m.body e m.body_is)
-  plain_of (ft_declared f e) (mt_other t unflat) n = subst (λ k. PlainTop (T.Function f) (T.Function k)) (sym (no_body (names f) f e)) (pt_declared f e)
-  plain_of (ft_other t o) (mt_moved flat m) n = absurd o
-  plain_of (ft_other t o) (mt_other s unflat) n = subst (PlainTop t) (sym (other_plain names t o)) (pt_other t o)
+  plain_of : {t u v : Top} {ms : List Made} → FlatTop t u → MovedTop u v ms → IsTopReady c names v → IsOwnTop Own names v → PlainTop Own t (plain_top names v)
+  plain_of (ft_flat {f = f} {g = g} jumps w) (mt_moved {g = k} {ms = ms} flat m) n o = pt_moved (moved_form f g k ms jumps w m n) (o (ap (λ (j : Function). j.flat) m.result ∙ w.flat))
+  plain_of (ft_flat jumps w) (mt_other t unflat) n o = absurd (true≢false (sym w.flat ∙ unflat))
+  plain_of (ft_unlabelled free w) (mt_moved flat m) n o = absurd (true≢false (sym flat ∙ w.flat))
+  plain_of (ft_unlabelled {f = f} {g = g} free w) (mt_other t unflat) n o = pt_unmoved (unmoved_form f g free w)
+  plain_of (ft_declared f e) (mt_moved flat m) n o = absurd (none_is_some f.body m.body e m.body_is)
+  plain_of (ft_declared f e) (mt_other t unflat) n o = subst (λ k. PlainTop Own (T.Function f) (T.Function k)) (sym (no_body (names f) f e)) (pt_declared f e)
+  plain_of (ft_other t q) (mt_moved flat m) n o = absurd q
+  plain_of (ft_other t q) (mt_other s unflat) n o = subst (PlainTop Own t) (sym (other_plain names t q)) (pt_other t q)
 
-  pub plain_tops : {ts us vs : List Top} {ms : List Made} → FlatTops ts us → MovedTops us vs ms → AllByRecursion (IsTopReady c names) vs → PlainTops ts (map (plain_top names) vs)
-  plain_tops ft_none mt_none n = pt_none
-  plain_tops (ft_more w r) (mt_more m s) n = pt_more (plain_of w m n.0) (plain_tops r s n.1)
+  pub plain_tops : {ts us vs : List Top} {ms : List Made} → FlatTops ts us → MovedTops us vs ms → AllByRecursion (IsTopReady c names) vs → AllByRecursion (IsOwnTop Own names) vs → PlainTops Own ts (map (plain_top names) vs)
+  plain_tops ft_none mt_none n o = pt_none
+  plain_tops (ft_more w r) (mt_more m s) n o = pt_more (plain_of w m n.0 o.0) (plain_tops r s n.1 o.1)

@@ -86,9 +86,9 @@ module _ (f h : Function) (m : IsUnmovedForm f h) where
 
 -- ---- the file
 
-pub same_file : (counts : FlatCounts) (all : List Top) {ts us : List Top} → PlainTops ts us → Each (IsResolvedTop counts all) ts → SameFile ts us
-same_file counts all pt_none r = sf_none
-same_file counts all (pt_more (pt_moved {f = f} {h = h} m) s) r = sf_function (moved_declared f h m r.0.form.parameters) (same_file counts all s r.1)
-same_file counts all (pt_more (pt_unmoved {f = f} {h = h} m) s) r = sf_function (unmoved_declared f h m) (same_file counts all s r.1)
-same_file counts all (pt_more (pt_declared f e) s) r = sf_function (self_declared f) (same_file counts all s r.1)
-same_file counts all (pt_more (pt_other t n) s) r = sf_other t n (same_file counts all s r.1)
+pub same_file : (Own : Function → Type 0) (counts : FlatCounts) (all : List Top) {ts us : List Top} → PlainTops Own ts us → Each (IsResolvedTop counts all) ts → SameFile ts us
+same_file Own counts all pt_none r = sf_none
+same_file Own counts all (pt_more (pt_moved {f = f} {h = h} m o) s) r = sf_function (moved_declared f h m r.0.form.parameters) (same_file Own counts all s r.1)
+same_file Own counts all (pt_more (pt_unmoved {f = f} {h = h} m) s) r = sf_function (unmoved_declared f h m) (same_file Own counts all s r.1)
+same_file Own counts all (pt_more (pt_declared f e) s) r = sf_function (self_declared f) (same_file Own counts all s r.1)
+same_file Own counts all (pt_more (pt_other t n) s) r = sf_other t n (same_file Own counts all s r.1)
