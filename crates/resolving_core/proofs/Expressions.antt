@@ -62,22 +62,22 @@ module _ (n : Names) (ss : List Scope) (env : Env) (knows : Knows n ss env) wher
   -- ---- expressions
 
   -- an expression that was read without a violation
-  abbrev Clean : Term → Faults → Type 0
+  abbrev pub Clean : Term → Faults → Type 0
   Clean t vs = (vs ≡ []) × SoundTyped n ss (typed env t)
 
   abbrev CleanTarget : Term → Faults → Type 0
   CleanTarget t vs = (vs ≡ []) × IsSomeAnd (writable (target_of env t)) (IsWrittenTarget n ss)
 
-  abbrev Droppable : typed.Typed → Type 0
+  abbrev pub Droppable : typed.Typed → Type 0
   Droppable x = SoundTyped n ss x × IsSomeAnd (dropped x) (SoundDropped n ss)
 
   -- an operand whose value is used
-  used_clean : (t : Term) (vs : Faults) → used env t (faults env t vs) ≡ [] → (faults env t vs ≡ [] → Clean t vs) → (vs ≡ []) × IsSomeAnd (value_of (typed env t)) (SoundValue n ss)
+  pub used_clean : (t : Term) (vs : Faults) → used env t (faults env t vs) ≡ [] → (faults env t vs ≡ [] → Clean t vs) → (vs ≡ []) × IsSomeAnd (value_of (typed env t)) (SoundValue n ss)
   used_clean t vs e r =
       let c = r (use_empty (first_of t) (typed env t) (faults env t vs) e) in
       (c.0, (use_clean n ss (first_of t) (typed env t) (faults env t vs) e c.1).1)
 
-  unused_clean : (t : Term) (vs : Faults) → unused env t (faults env t vs) ≡ [] → (faults env t vs ≡ [] → Clean t vs) → (vs ≡ []) × Droppable (typed env t)
+  pub unused_clean : (t : Term) (vs : Faults) → unused env t (faults env t vs) ≡ [] → (faults env t vs ≡ [] → Clean t vs) → (vs ≡ []) × Droppable (typed env t)
   unused_clean t vs e r =
       let c = r (drop_empty (first_of t) (typed env t) (faults env t vs) e) in
       (c.0, (c.1, (drop_clean n ss (first_of t) (typed env t) (faults env t vs) e c.1).1))

@@ -12,3 +12,7 @@ pub mod Grown
 pub mod SectionTrees
 pub mod Walk
 pub mod Walked
+pub mod Bindings
+pub mod Uses
+pub mod Declared
+pub mod ItemKinds

@@ -3,18 +3,18 @@ use Rattle.std.proofs.Common.{ℕ, Bool, true, false, not, ◌||◌, List, [], �
 use Rattle.c_source.specs.Terms.{Term, first_of}
 use Rattle.c_source.specs.Items.{Declarator, Declaration, Label, Start, Item, Declares, States, Plain, From, Statement, If, IfElse, While, DoWhile, For, Switch, Body, Items, stated_first}
 use Rattle.c_source.specs.Items as items
-use Rattle.c_kinds.specs.Scopes.{Env, Faults, fault, fault_if}
+use Rattle.c_kinds.specs.Scopes.{Env, Faults, fault, fault_if, is_bound}
 use Rattle.c_kinds.specs.Typing.{typed}
 use Rattle.c_kinds.specs.Values.{value_of}
 use Rattle.c_statements.specs.declared.extents.Kinded.{Kinded}
 use Rattle.c_statements.specs.Cases.{switch_faults, body_entries}
-use Rattle.c_statements.specs.Context.{Context, Walk, env_at, enter, Around, in_loop, in_switch}
-use Rattle.c_statements.specs.Declarations.{declared, value_faults, local_faults, locals_faults}
+use Rattle.c_statements.specs.Context.{Context, Walk, env_in, env_at, enter, Around, in_loop, in_switch}
+use Rattle.c_statements.specs.Declarations.{declared, is_bad_array, size_faults, initial_faults, value_faults, local_faults, locals_faults}
 use Rattle.c_statements.specs.Labels.{has_case, label_faults, labels_faults}
 use Rattle.c_statements.specs.Statements.{declared_by, behind_start, behind_item, behind_plain, behind_body}
 use Rattle.c_statements.specs.Violations.{dropped_faults, optional_faults, declaration_faults, start_faults, is_null, item_faults, plain_faults, statement_faults, body_faults, list_faults, switch_body_faults, outside_faults, outside_fault}
 use Rattle.resolving_core.proofs.Lists.{none_left, clean_if, not_true}
-use Rattle.resolving_core.proofs.Empty.{Empties, value_empty, dropped_empty, start_empty, optional_empty, locals_empty, labels_empty, plain_empty, switch_empty, body_empty, list_empty, switch_body_empty, outside_empty}
+use Rattle.resolving_core.proofs.Empty.{Empties, value_empty, initial_empty, dropped_empty, start_empty, optional_empty, locals_empty, labels_empty, plain_empty, switch_empty, body_empty, list_empty, switch_body_empty, outside_empty}
 
 -- behind others, and alone
 pub parted : (k l : Faults → Faults) → Empties k → k (l []) ≡ [] → (l [] ≡ []) × (k [] ≡ [])
@@ -23,6 +23,25 @@ parted k l f e = let h = f (l []) e in (h, subst (λ vs. k vs ≡ []) h e)
 pub locals_parts : (word : ℕ → List ℕ) (k : Kinded) (d : Declarator) (ds : List Declarator) (w : Walk) → locals_faults word k (d ∷ ds) w [] ≡ []
     → (local_faults word k d w [] ≡ []) × (locals_faults word k ds (declared word k d w) [] ≡ [])
 locals_parts word k d ds w e = parted (locals_faults word k ds (declared word k d w)) (local_faults word k d w) (locals_empty word k ds (declared word k d w)) e
+
+-- of a declared name: its size, its array, its name and its initialisers
+pub record LocalParts (word : ℕ → List ℕ) (k : Kinded) (d : Declarator) (w : Walk) : Type 0 where
+  pub size : size_faults (env_in word w) d.size [] ≡ []
+  pub array : is_bad_array true (env_in word w) d ≡ false
+  pub new : is_bound (word d.name) w.scopes ≡ false
+  pub values : initial_faults (value_faults (env_in word (declared word k d w))) d.value [] ≡ []
+
+pub local_parts : (word : ℕ → List ℕ) (k : Kinded) (d : Declarator) (w : Walk) → local_faults word k d w [] ≡ [] → LocalParts word k d w
+local_parts word k d w e =
+    let env = env_in word w in
+    let inner = env_in word (declared word k d w) in
+    let x = size_faults env d.size [] in
+    let bad = is_bad_array true env d in
+    let twice = is_bound (word d.name) w.scopes in
+    let p = parted (initial_faults (value_faults inner) d.value) (λ vs. fault_if twice d.name 21 (fault_if bad d.name 35 (size_faults env d.size vs))) (initial_empty (value_faults inner) (value_empty inner) d.value) e in
+    let q = clean_if twice d.name 21 (fault_if bad d.name 35 x) p.0 in
+    let r = clean_if bad d.name 35 x q.0 in
+    record { size = r.0; array = r.1; new = q.1; values = p.1 }
 
 pub labels_parts : (env : Env) (switch : Bool) (l : Label) (ls : List Label) → labels_faults env switch (l ∷ ls) [] ≡ [] → (label_faults env switch l [] ≡ []) × (labels_faults env switch ls [] ≡ [])
 labels_parts env switch l ls e = parted (labels_faults env switch ls) (label_faults env switch l) (labels_empty env switch ls) e
