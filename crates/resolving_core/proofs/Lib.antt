@@ -16,3 +16,5 @@ pub mod Bindings
 pub mod Uses
 pub mod Declared
 pub mod ItemKinds
+pub mod Arrays
+pub mod ItemReturns
