@@ -18,3 +18,5 @@ pub mod Declared
 pub mod ItemKinds
 pub mod Arrays
 pub mod ItemReturns
+pub mod FileNames
+pub mod FileScope
