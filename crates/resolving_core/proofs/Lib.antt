@@ -20,3 +20,6 @@ pub mod Arrays
 pub mod ItemReturns
 pub mod FileNames
 pub mod FileScope
+pub mod FileParts
+pub mod FunctionTrees
+pub mod FileWalk
