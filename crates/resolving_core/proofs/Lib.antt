@@ -23,3 +23,6 @@ pub mod FileScope
 pub mod FileParts
 pub mod FunctionTrees
 pub mod FileWalk
+pub mod Bodies
+pub mod FilePlaces
+pub mod Functions

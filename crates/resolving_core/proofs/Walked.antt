@@ -77,7 +77,7 @@ module _ (ctx : Context) (final : List Slot) (I : List Scope → Type 0) (P : Tr
   note_list [] = hold_none P
   note_list (b ∷ bs) = hold_more P (item.Note b) (map item.Note bs) (hold_as P (item.Note b) (tree.Note b) (tree-Note b) (c.note b)) (note_list bs)
 
-  notes_hold : (a : Anchor) → Holds P (notes_at ctx a)
+  pub notes_hold : (a : Anchor) → Holds P (notes_at ctx a)
   notes_hold a = note_list (ctx.notes a)
 
   behind_notes : (a : Anchor) (xs : List item.Item) → Holds P xs → Holds P (notes_at ctx a ++ xs)

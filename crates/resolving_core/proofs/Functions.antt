@@ -1,0 +1,188 @@
+-- A function without a violation: its items, its slots, and what its parameters are bound to.
+use Rattle.std.proofs.Common.{ℕ, zero, suc, Bool, true, false, cond, not, List, [], ◌∷◌, ◌++◌, append_assoc, map, length, take, drop, Option, Some, None, is_some, ◌≡◌, refl, sym, ap, subst, ◌∙◌, true≢false, slice_get}
+use Rattle.std.specs.Prelude.{IfSome, IsSomeAnd}
+use Rattle.std.proofs.lemmas.List.{append-nil}
+use Rattle.c_tree.specs.declared.tree.Slot.{Slot}
+use Rattle.c_tree.specs.declared.tree.Item as item
+use Rattle.c_tree.specs.declared.tree.Function as tree
+use Rattle.c_tree.specs.declared.tree.Home.TheVariants as H
+use Rattle.c_tree.specs.declared.tree.Top.{Top}
+use Rattle.c_tree.specs.ExpressionTrees.{ExpressionTree}
+use Rattle.c_tree.specs.Trees.{Tree, trees_of}
+use Rattle.c_tree.specs.Everywhere.{Everywhere}
+use Rattle.c_tree.specs.InRange.{body_of}
+use Rattle.c_tree.proofs.WellMoved.{everywhere_map}
+use Rattle.c_source.specs.Items.{Body, Braces, Lone, Declarator}
+use Rattle.c_source.specs.Tops.{Parameter, Function}
+use Rattle.c_kinds.specs.declared.binding.Binding.TheVariants.{Local}
+use Rattle.c_kinds.specs.Scopes.{Scope, Faults, fault_if, is_bound, bind, bind_fault}
+use Rattle.c_statements.specs.declared.extents.Kinded.{Kinded}
+use Rattle.c_statements.specs.Context.{Anchor, AtEnd, Context, Walk, env_at, env_in, notes_at, no_construct}
+use Rattle.c_statements.specs.Declarations.{placeholder, is_array, size_faults, slot_of, local_faults}
+use Rattle.c_statements.specs.Functions.{FlatCounts, parameter_name, parameter_slot, parameter_shape, bind_parameter, bind_parameters, parameter_fault, parameters_faults, body_items, behind_body, body_faults, context, inside, defined, function_of}
+use Rattle.c_statements.specs.Statements.{list_items, item_items, behind_item, behind_items}
+use Rattle.c_resolved.specs.Files.{IsLength, IsParameterLength, AreLengths}
+use Rattle.c_resolved.specs.Kinds.{ItemAgrees, KeepsConsts, ReturnFits}
+use Rattle.c_resolved.specs.Names.{Names}
+use Rattle.c_resolved.specs.PrintableExpressions.{IsName}
+use Rattle.c_resolved.specs.Resolved.{names_in, HasLengths, IsInitialised}
+use Rattle.c_resolved.specs.Scopes as Scopes
+use Rattle.c_resolved.specs.Scopes.{AVariable}
+use Rattle.c_resolved.specs.Within.{Each}
+use Rattle.resolving_core.proofs.Arrays.{array_fine}
+use Rattle.resolving_core.proofs.Bindings.{names_same, knows_bound, knows_inside, look_up_tree}
+use Rattle.resolving_core.proofs.Declared.{slot_there}
+use Rattle.resolving_core.proofs.FileParts.{BodyParts, DefinedParts, parameters_clean, parameters_parts}
+use Rattle.resolving_core.proofs.FunctionTrees.{Behind, inside_slots, take_all, drop_all, body_grown, behind_parameters}
+use Rattle.resolving_core.proofs.Grown.{Grown}
+use Rattle.resolving_core.proofs.ItemKinds.{KnownAt, GoodItem, Good, kinds_closed}
+use Rattle.resolving_core.proofs.ItemReturns.{Anywhere, AnyConstant, returns_closed, initialised_closed}
+use Rattle.resolving_core.proofs.Known.{HasShape, IsKnown, Knows}
+use Rattle.resolving_core.proofs.Lists.{clean_if, is_some_and, each_map}
+use Rattle.resolving_core.proofs.Parts.{local_parts}
+use Rattle.resolving_core.proofs.Read.{IsReadTerm, IsReadDeclarator, IsReadBody, IsReadFunction}
+use Rattle.resolving_core.proofs.Values.{Sound}
+use Rattle.resolving_core.proofs.Walk.{Begins, Closed, Holds, hold_none, hold_both}
+use Rattle.resolving_core.proofs.Walked.{list_holds, item_holds, notes_hold}
+
+-- ---- parameters
+
+module _ (ctx : Context) (defines : Bool) (x : Parameter) (w : Walk) where
+  -- a parameter with a name is new in its scope
+  abbrev IsNewName : Option ℕ → Type 0
+  IsNewName None = Unit {0}
+  IsNewName (Some at) = is_bound (ctx.word at) w.scopes ≡ false
+
+  pub parameter_new : parameter_fault ctx defines x w [] ≡ [] → IsNewName x.name
+  parameter_new e = by x.name e
+    where
+      by : (o : Option ℕ) → ◌≡◌ {A = Faults} (elim o [ Some at ↦ bind_fault at (ctx.word at) w.scopes (size_faults (env_at ctx w) x.size []) | None ↦ fault_if defines x.first 43 (size_faults (env_at ctx w) x.size []) ]) [] → IsNewName o
+      by None e = tt
+      by (Some at) e = (clean_if (is_bound (ctx.word at) w.scopes) at 21 (size_faults (env_at ctx w) x.size []) e).1
+
+array_cells : (b : Bool) → is_some {T = ℕ} (cond b (Some 0) None) ≡ b
+array_cells true = refl
+array_cells false = refl
+
+pub parameter_is : (word : ℕ → List ℕ) (x : Parameter) → HasShape (parameter_shape word x) (parameter_slot word x)
+parameter_is word x = record { kind = refl; array = array_cells (is_array x.size); constant = refl }
+
+-- a parameter has its length
+pub parameter_lengths : (word : ℕ → List ℕ) (xs : List Parameter) → AreLengths IsParameterLength (map (parameter_slot word) xs)
+parameter_lengths word [] = tt
+parameter_lengths word (x ∷ xs) = (by (is_array x.size), parameter_lengths word xs)
+  where
+    by : (b : Bool) → IsParameterLength (cond b (Some 0) None)
+    by true = refl
+    by false = tt
+
+module _ (ctx : Context) (n : Names) where
+  parameter_known : (x : Parameter) (w : Walk) (at : ℕ) (ss : List Scopes.Scope) → x.name ≡ Some at → Begins (bind_parameter ctx.word x w).slots n.slots
+      → IsKnown n (Scopes.bind (ctx.word at) (AVariable (H.Slot (length w.slots))) ss) (ctx.word at) (Local (length w.slots) (parameter_shape ctx.word x))
+  parameter_known x w at ss e b =
+      let m = ctx.word at in
+      let k = length w.slots in
+      let s = parameter_slot ctx.word x in
+      (is_some_and _ (slice_get n.slots k) s (ap (λ l. slice_get l k) b.1 ∙ slot_there w.slots b.0 s) (ap (parameter_name ctx.word) e, parameter_is ctx.word x),
+       look_up_tree m m (AVariable (H.Slot k)) ss ∙ ap (λ t. cond t (Some (AVariable (H.Slot k))) (Scopes.look_up ss m)) (names_same m m refl))
+
+  -- what is known behind a parameter
+  behind_parameter : (defines : Bool) (x : Parameter) (w : Walk) → parameter_fault ctx defines x w [] ≡ [] → Begins (bind_parameter ctx.word x w).slots n.slots → KnownAt ctx n w.scopes → KnownAt ctx n (bind_parameter ctx.word x w).scopes
+  behind_parameter defines x w e b i = by x.name refl (parameter_new ctx defines x w e)
+    where
+      by : (o : Option ℕ) → x.name ≡ o → IsNewName ctx defines x w o
+          → KnownAt ctx n (elim o [ Some at ↦ bind (ctx.word at) (Local (length w.slots) (parameter_shape ctx.word x)) w.scopes | None ↦ w.scopes ])
+      by None e h = i
+      by (Some at) e h =
+          let m = ctx.word at in
+          (Scopes.bind m (AVariable (H.Slot (length w.slots))) i.0,
+           knows_bound n ctx.word m (Local (length w.slots) (parameter_shape ctx.word x)) (AVariable (H.Slot (length w.slots))) w.scopes i.0 h (parameter_known x w at i.0 e b) i.1)
+
+  bound_begins : (xs : List Parameter) (w : Walk) → Begins (bind_parameters ctx.word xs w).slots n.slots → Begins w.slots n.slots
+  bound_begins [] w b = b
+  bound_begins (x ∷ xs) w b =
+      let r = bound_begins xs (bind_parameter ctx.word x w) b in
+      (parameter_slot ctx.word x ∷ r.0, r.1 ∙ append_assoc w.slots (parameter_slot ctx.word x ∷ []) r.0)
+
+  pub parameters_known : (defines : Bool) (xs : List Parameter) (w : Walk) → parameters_faults ctx defines xs w [] ≡ [] → Begins (bind_parameters ctx.word xs w).slots n.slots → KnownAt ctx n w.scopes
+      → KnownAt ctx n (bind_parameters ctx.word xs w).scopes
+  parameters_known defines [] w e b i = i
+  parameters_known defines (x ∷ xs) w e b i =
+      let p = parameters_parts ctx defines x xs w e in
+      let v = bind_parameter ctx.word x w in
+      parameters_known defines xs v p.1 b (behind_parameter defines x w p.0 (bound_begins xs v b) i)
+
+-- ---- bodies
+
+module _ (ctx : Context) (final : List Slot) (I : List Scope → Type 0) (P : Tree → Type 0) (C : ExpressionTree → Type 0) (c : Closed ctx final I P C) where
+  -- a fact of each item of a body
+  pub body_holds : (b : Body) (w : Walk) → IsReadBody ctx.word b → body_faults ctx b w [] ≡ [] → I w.scopes → Begins (behind_body ctx b w).slots final → Holds P (body_items ctx b w)
+  body_holds (Braces first after xs) w r e i z =
+      hold_both P (list_items ctx xs w) (notes_at ctx (AtEnd first)) (list_holds ctx final I P C c no_construct xs w r e i z) (notes_hold ctx final I P C c (AtEnd first))
+  body_holds (Lone first after x) w r e i z =
+      hold_both P (item_items ctx x w) (notes_at ctx (AtEnd first)) (item_holds ctx final I P C c no_construct x w r e i z).0 (notes_hold ctx final I P C c (AtEnd first))
+
+-- ---- functions
+
+-- a slot of a declared variable has a length and a name
+pub record IsFine (s : Slot) : Type 0 where
+  pub length : IsLength s.cells
+  pub named : IsName s.name
+
+declared_fine : (ctx : Context) (k : Kinded) (d : Declarator) (w : Walk) → IsReadDeclarator ctx.word d → local_faults ctx.word k d w [] ≡ [] → IsFine (slot_of (env_in ctx.word w) k d)
+declared_fine ctx k d w r e =
+    let p = local_parts ctx.word k d w e in
+    record { length = (array_fine ctx.word (λ t. placeholder) true (env_in ctx.word w) d p.size r.value p.array).0; named = r.named }
+
+lengths_of : (ss : List Slot) → Each IsFine ss → AreLengths IsLength ss
+lengths_of [] h = tt
+lengths_of (s ∷ ss) h = (h.0.length, lengths_of ss h.1)
+
+module _ (flat : FlatCounts) (word : ℕ → List ℕ) (notes : Anchor → List (List ℕ)) (f : Function) (scopes : List Scope) (ts : List Top) where
+  -- what is proved of a function
+  pub record Resolves (t : tree.Function) : Type 0 where
+    pub kinds : Everywhere (ItemAgrees (names_in ts t)) (body_of t)
+    pub consts : Everywhere (KeepsConsts (names_in ts t)) (body_of t)
+    pub returns : Everywhere (ReturnFits t.result) (body_of t)
+    pub initialised : Everywhere (IsInitialised t.slots) (body_of t)
+    pub lengths : HasLengths t
+
+  -- what is known in its body, at any slots
+  abbrev pub KnownOutside : Type 0
+  KnownOutside = (slots : List Slot) → (ss : List Scopes.Scope) × Knows (record { tops = ts; slots = slots }) ss (record { word = word; scopes = scopes })
+
+  resolves_by : (o : Option Body) → IfSome o (IsReadBody word) → BodyParts flat word notes f o scopes → KnownOutside → Resolves (defined word notes f o scopes)
+  resolves_by None r p k =
+      let b = behind_parameters flat word notes f scopes None r p in
+      let slots = (inside word f scopes).slots in
+      record {
+        kinds = tt; consts = tt; returns = tt; initialised = tt;
+        lengths = record {
+          parameters = subst (AreLengths IsParameterLength) (sym (ap (take (length f.parameters)) b.whole ∙ take_all (parameter_slot word) f.parameters b.more)) (parameter_lengths word f.parameters);
+          others = subst (AreLengths IsLength) (sym (ap (drop (length f.parameters)) (inside_slots word f scopes ∙ sym (append-nil (map (parameter_slot word) f.parameters))) ∙ drop_all (parameter_slot word) f.parameters [])) tt;
+        };
+      }
+  resolves_by (Some b) r p k =
+      let ctx = context word notes f b in
+      let w = inside word f scopes in
+      let slots = (behind_body ctx b w).slots in
+      let n : Names = record { tops = ts; slots = slots } in
+      let g = body_grown ctx IsFine (declared_fine ctx) b w r p.body in
+      let q = g.whole ∙ ap (λ l. l ++ g.more) (inside_slots word f scopes) in
+      let all : Begins slots slots = ([], sym (append-nil slots)) in
+      let o = k slots in
+      let i = parameters_known ctx n true f.parameters (record { scopes = [] ∷ scopes; slots = [] }) p.parameters (g.more, g.whole) ([] ∷ o.0, knows_inside n word scopes o.0 o.1) in
+      let h = body_holds ctx slots (KnownAt ctx n) (GoodItem n) (Good n) (kinds_closed ctx n) b w r p.body i all in
+      record {
+        kinds = everywhere_map (GoodItem n) (ItemAgrees n) (λ x h. h.agrees) (trees_of (body_items ctx b w)) h;
+        consts = everywhere_map (GoodItem n) (KeepsConsts n) (λ x h. h.consts) (trees_of (body_items ctx b w)) h;
+        returns = body_holds ctx slots Anywhere (ReturnFits ctx.result) AnyConstant (returns_closed ctx slots) b w r p.body tt all;
+        initialised = body_holds ctx slots Anywhere (IsInitialised slots) AnyConstant (initialised_closed ctx slots) b w r p.body tt all;
+        lengths = record {
+          parameters = subst (AreLengths IsParameterLength) (sym (ap (take (length f.parameters)) q ∙ take_all (parameter_slot word) f.parameters g.more)) (parameter_lengths word f.parameters);
+          others = subst (AreLengths IsLength) (sym (ap (drop (length f.parameters)) q ∙ drop_all (parameter_slot word) f.parameters g.more)) (lengths_of g.more g.good);
+        };
+      }
+
+  pub resolves : IsReadFunction word f → BodyParts flat word notes f f.body scopes → KnownOutside → Resolves (function_of word notes f scopes)
+  resolves r p k = resolves_by f.body r.body p k
