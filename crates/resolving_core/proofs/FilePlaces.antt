@@ -40,7 +40,7 @@ notes_behind defined ss [] = refl
 notes_behind defined ss (b ∷ bs) = notes_behind defined ss bs
 
 module _ (file : File) where
-  abbrev defined : List ℕ → Bool
+  abbrev pub defined : List ℕ → Bool
   defined m = has_function file.bodies m
 
   -- what is bound by a place, behind these

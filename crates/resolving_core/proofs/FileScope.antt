@@ -50,7 +50,7 @@ wants_again defined (g ∷ gs) (s ∷ ss) (p ∷ ps) [] h e k = absurd k
 wants_again defined (g ∷ gs) (s ∷ ss) (p ∷ ps) (q ∷ qs) h e k =
     (want_again defined g s p q h.0 (and_left (same_want g s) (same_wants gs ss) e) k.0, wants_again defined gs ss ps qs h.1 (and_right (same_want g s) (same_wants gs ss) e) k.1)
 
-result_same : (a b : Option IntKind) → same_result a b ≡ true → a ≡ b
+pub result_same : (a b : Option IntKind) → same_result a b ≡ true → a ≡ b
 result_same (Some a) (Some b) e = ap Some (same_kind_is a b e)
 result_same None None e = refl
 result_same (Some a) None e = absurd (true≢false (sym e))

@@ -103,7 +103,7 @@ module _ (defined : List ℕ → Bool) where
   constant_good : (done : List Top) (fs : Scope) (rs : Scopes.Scope) (m : List ℕ) (v : ℤ) → is_some (found m fs) ≡ false → IsInRange Int v → Inv defined done fs rs → FileGood defined (done ++ []) m (B.Constant v)
   constant_good done fs rs m v e r i = (r, each_append _ done [] (i.fresh m e) tt)
 
-  one_constant : (done : List Top) (fs : Scope) (rs : Scopes.Scope) (m : List ℕ) (v : ℤ) → is_some (found m fs) ≡ false → IsInRange Int v → Inv defined done fs rs
+  pub one_constant : (done : List Top) (fs : Scope) (rs : Scopes.Scope) (m : List ℕ) (v : ℤ) → is_some (found m fs) ≡ false → IsInRange Int v → Inv defined done fs rs
       → Inv defined done (with_name m (B.Constant v) fs) ((m, AConstant v) ∷ rs)
   one_constant done fs rs m v e r i =
       subst (λ l. Inv defined l (with_name m (B.Constant v) fs) ((m, AConstant v) ∷ rs)) (append-nil done)
@@ -127,7 +127,7 @@ module _ (defined : List ℕ → Bool) where
   behind_tops ss [] = ss
   behind_tops ss (t ∷ ts) = behind_tops (behind_top ss t) ts
 
-  one_global : (done : List Top) (fs : Scope) (rs : Scopes.Scope) (static : Bool) (k : Kinded) (d : Declarator) (env : Env) → is_some (found (env.word d.name) fs) ≡ false → Inv defined done fs rs
+  pub one_global : (done : List Top) (fs : Scope) (rs : Scopes.Scope) (static : Bool) (k : Kinded) (d : Declarator) (env : Env) → is_some (found (env.word d.name) fs) ≡ false → Inv defined done fs rs
       → Inv defined (done ++ T.Global (global static k d env) ∷ []) (with_name (env.word d.name) (B.Global (shape_of k d)) fs) ((env.word d.name, AVariable (H.Global (env.word d.name))) ∷ rs)
   one_global done fs rs static k d env e i =
       let m = env.word d.name in

@@ -138,20 +138,20 @@ lengths_of : (ss : List Slot) → Each IsFine ss → AreLengths IsLength ss
 lengths_of [] h = tt
 lengths_of (s ∷ ss) h = (h.0.length, lengths_of ss h.1)
 
-module _ (flat : FlatCounts) (word : ℕ → List ℕ) (notes : Anchor → List (List ℕ)) (f : Function) (scopes : List Scope) (ts : List Top) where
-  -- what is proved of a function
-  pub record Resolves (t : tree.Function) : Type 0 where
-    pub kinds : Everywhere (ItemAgrees (names_in ts t)) (body_of t)
-    pub consts : Everywhere (KeepsConsts (names_in ts t)) (body_of t)
-    pub returns : Everywhere (ReturnFits t.result) (body_of t)
-    pub initialised : Everywhere (IsInitialised t.slots) (body_of t)
-    pub lengths : HasLengths t
+-- what is proved of a function
+pub record Resolves (ts : List Top) (t : tree.Function) : Type 0 where
+  pub kinds : Everywhere (ItemAgrees (names_in ts t)) (body_of t)
+  pub consts : Everywhere (KeepsConsts (names_in ts t)) (body_of t)
+  pub returns : Everywhere (ReturnFits t.result) (body_of t)
+  pub initialised : Everywhere (IsInitialised t.slots) (body_of t)
+  pub lengths : HasLengths t
 
+module _ (flat : FlatCounts) (word : ℕ → List ℕ) (notes : Anchor → List (List ℕ)) (f : Function) (scopes : List Scope) (ts : List Top) where
   -- what is known in its body, at any slots
   abbrev pub KnownOutside : Type 0
   KnownOutside = (slots : List Slot) → (ss : List Scopes.Scope) × Knows (record { tops = ts; slots = slots }) ss (record { word = word; scopes = scopes })
 
-  resolves_by : (o : Option Body) → IfSome o (IsReadBody word) → BodyParts flat word notes f o scopes → KnownOutside → Resolves (defined word notes f o scopes)
+  resolves_by : (o : Option Body) → IfSome o (IsReadBody word) → BodyParts flat word notes f o scopes → KnownOutside → Resolves ts (defined word notes f o scopes)
   resolves_by None r p k =
       let b = behind_parameters flat word notes f scopes None r p in
       let slots = (inside word f scopes).slots in
@@ -184,5 +184,5 @@ module _ (flat : FlatCounts) (word : ℕ → List ℕ) (notes : Anchor → List 
         };
       }
 
-  pub resolves : IsReadFunction word f → BodyParts flat word notes f f.body scopes → KnownOutside → Resolves (function_of word notes f scopes)
+  pub resolves : IsReadFunction word f → BodyParts flat word notes f f.body scopes → KnownOutside → Resolves ts (function_of word notes f scopes)
   resolves r p k = resolves_by f.body r.body p k

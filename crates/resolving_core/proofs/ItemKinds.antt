@@ -66,7 +66,7 @@ module _ (n : Names) where
     pub kinds : KindsAgree n x
     pub consts : Within (WritesNoConst n) x
 
-  good : (ss : List Scopes.Scope) (x : ExpressionTree) → Sound n ss x → Good x
+  pub good : (ss : List Scopes.Scope) (x : ExpressionTree) → Sound n ss x → Good x
   good ss x h = record { kinds = within_map (IsSound n ss) (KindAgrees n) (λ x h. h.0) x h; consts = within_map (IsSound n ss) (WritesNoConst n) (λ x h. h.1) x h }
 
   abbrev GoodValue : ExpressionTree → Type 0

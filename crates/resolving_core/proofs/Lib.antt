@@ -26,3 +26,4 @@ pub mod FileWalk
 pub mod Bodies
 pub mod FilePlaces
 pub mod Functions
+pub mod FileFacts
