@@ -1,5 +1,6 @@
 -- The functions that have a body in a file.
 use Rattle.std.proofs.Common.{ℕ, Bool, true, false, cond, ◌&&◌, ◌||◌, List, [], ◌∷◌, ◌++◌, map, Option, Some, None, is_some, ◌≡◌, refl, sym, ap, subst, ◌∙◌, true≢false, bytes_eq}
+use Rattle.std.specs.Prelude.{IfSome}
 use Rattle.std.specs.Option.{option_or}
 use Rattle.std.specs.BTreeSet.{insert_key}
 use Rattle.std.specs.declared.cmp.Ordering.{Ordering}
@@ -23,7 +24,7 @@ use Rattle.c_statements.specs.Declarations.{kinded}
 use Rattle.c_statements.specs.Functions.{function_of, defined}
 use Rattle.c_resolved.specs.Names.{first_function}
 use Rattle.resolving_core.proofs.Bindings.{same_names, names_same}
-use Rattle.resolving_core.proofs.FileNames.{function_append}
+use Rattle.resolving_core.proofs.FileNames.{function_append, NoF, NoG, Unnamed, first_named}
 use Rattle.resolving_core.proofs.FunctionTrees.{function_name}
 
 -- ---- sets of names
@@ -65,10 +66,10 @@ some_or : {A : Type 0} (o u : Option A) → is_some (option_or o u) ≡ (is_some
 some_or None u = refl
 some_or (Some a) u = refl
 
-body_append : (m : List ℕ) (a b : List Top) → has_body_in m (a ++ b) ≡ (has_body_in m a || has_body_in m b)
+pub body_append : (m : List ℕ) (a b : List Top) → has_body_in m (a ++ b) ≡ (has_body_in m a || has_body_in m b)
 body_append m a b = ap is_some (function_append (λ f. is_some f.body) m a b) ∙ some_or (first_function (λ f. is_some f.body) m a) (first_function (λ f. is_some f.body) m b)
 
-notes_bodiless : (m : List ℕ) (bs : List (List ℕ)) → has_body_in m (map T.Note bs) ≡ false
+pub notes_bodiless : (m : List ℕ) (bs : List (List ℕ)) → has_body_in m (map T.Note bs) ≡ false
 notes_bodiless m [] = refl
 notes_bodiless m (b ∷ bs) = notes_bodiless m bs
 
@@ -76,7 +77,7 @@ globals_bodiless : (m : List ℕ) (static : Bool) (k : Kinded) (ds : List Declar
 globals_bodiless m static k [] env = refl
 globals_bodiless m static k (d ∷ ds) env = globals_bodiless m static k ds (global_declared k d env)
 
-body_there : (word : ℕ → List ℕ) (notes : Anchor → List (List ℕ)) (f : Function) (scopes : List Scope) (o : Option Body) → is_some (defined word notes f o scopes).body ≡ is_some o
+pub body_there : (word : ℕ → List ℕ) (notes : Anchor → List (List ℕ)) (f : Function) (scopes : List Scope) (o : Option Body) → is_some (defined word notes f o scopes).body ≡ is_some o
 body_there word notes f scopes None = refl
 body_there word notes f scopes (Some b) = refl
 
@@ -96,11 +97,11 @@ one_function m f = by (bytes_eq f.name m && is_some f.body) ∙ ap (λ b. b && i
     by true = refl
     by false = refl
 
-abbrev form_body : (ℕ → List ℕ) → List ℕ → Form → Bool
+abbrev pub form_body : (ℕ → List ℕ) → List ℕ → Form → Bool
 form_body word m (Defines f) = bytes_eq m (word f.name) && has_body f
 form_body word m _ = false
 
-form_bodies : (file : File) (m : List ℕ) (first : ℕ) (form : Form) (s : State) → has_body_in m (form_tops file first form s) ≡ form_body file.word m form
+pub form_bodies : (file : File) (m : List ℕ) (first : ℕ) (form : Form) (s : State) → has_body_in m (form_tops file first form s) ≡ form_body file.word m form
 form_bodies file m first Line s = refl
 form_bodies file m first (Enum es) s = refl
 form_bodies file m first (Globals static d) s = globals_bodiless m static (kinded file.word d) d.names (env_of file s)
@@ -129,3 +130,11 @@ file_bodies file m (tops.From first after form ∷ xs) s =
     ∙ (ap (λ b. (b || has_body_in m new) || has_body_in m rest) (notes_bodiless m (file.notes (Before first)))
     ∙ (ap (λ b. b || has_body_in m rest) (form_bodies file m first form s)
     ∙ (ap (λ b. form_body file.word m form || b) (file_bodies file m xs (behind_form file form s)) ∙ sym (listed_body file.word m first after form xs)))))
+
+-- what has no name has no body
+pub no_body : (m : List ℕ) (ts : List Top) → Unnamed m ts → has_body_in m ts ≡ false
+no_body m ts h = none (first_function (λ f. is_some f.body) m ts) (first_named NoF NoG (λ f. is_some f.body) m ts h)
+  where
+    none : (o : Option tree.Function) → IfSome o (λ f. ⊥ × (is_some f.body ≡ true)) → is_some o ≡ false
+    none None k = refl
+    none (Some f) k = absurd k.0

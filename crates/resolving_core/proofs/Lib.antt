@@ -27,3 +27,4 @@ pub mod Bodies
 pub mod FilePlaces
 pub mod Functions
 pub mod FileFacts
+pub mod Declarations
