@@ -3,6 +3,9 @@
 //! The operands of an expression are the expressions before it, those of a statement its expressions
 //! and its lists, each begun by `{`. What else a word says stands behind colons. A word that says
 //! nothing stops the test as refused memory does.
+//!
+//! A test or a selector that is made from guards stands in place of the expression, and its statement
+//! says `made`: `if:made`.
 
 use c_tree::{
     BinaryOp, EnumItem, Expression, Function, GlobalVariable, Home, Item, Node, Place, Program,
@@ -124,6 +127,8 @@ fn bytes_of(alloc: Global, text: &str) -> Result<Bytes, Memory> {
 struct Builder {
     alloc: Global,
     expressions: Vec<Expression>,
+    tests: Vec<Test>,
+    selectors: Vec<Selector>,
     lists: Vec<List<Item>>,
     sections: Vec<Section>,
     slots: List<Slot>,
@@ -144,6 +149,8 @@ impl Builder {
         Builder {
             alloc,
             expressions: Vec::new(alloc),
+            tests: Vec::new(alloc),
+            selectors: Vec::new(alloc),
             lists: Vec::new(alloc),
             sections: Vec::new(alloc),
             slots: List::new(alloc),
@@ -198,9 +205,50 @@ impl Builder {
         self.lists.pop().ok_or(Memory)
     }
 
-    fn test(&mut self) -> Result<Test, Memory> {
+    /// The test before, which is an expression unless the word says that it is made.
+    fn test(&mut self, word: Word<'_>) -> Result<Test, Memory> {
+        if word.first == "made" {
+            return self.made_test();
+        }
         let test = self.pop()?;
         Ok(Test::Source(test))
+    }
+
+    fn made_test(&mut self) -> Result<Test, Memory> {
+        self.tests.pop().ok_or(Memory)
+    }
+
+    fn inner_test(&mut self) -> Result<Boxed<Test>, Memory> {
+        let test = self.made_test()?;
+        Boxed::new(self.alloc, test)
+    }
+
+    fn push_test(&mut self, test: Test) -> Result<(), Memory> {
+        self.tests.push(test)?;
+        Ok(())
+    }
+
+    /// The selector before, which is an expression unless the word says that it is made.
+    fn selector(&mut self, word: Word<'_>) -> Result<Selector, Memory> {
+        if word.second == "made" {
+            return self.made_selector();
+        }
+        let selector = self.pop()?;
+        Ok(Selector::Source(selector))
+    }
+
+    fn made_selector(&mut self) -> Result<Selector, Memory> {
+        self.selectors.pop().ok_or(Memory)
+    }
+
+    fn inner_selector(&mut self) -> Result<Boxed<Selector>, Memory> {
+        let selector = self.made_selector()?;
+        Boxed::new(self.alloc, selector)
+    }
+
+    fn push_selector(&mut self, selector: Selector) -> Result<(), Memory> {
+        self.selectors.push(selector)?;
+        Ok(())
     }
 
     fn atom(&mut self, word: Word<'_>) -> Result<(), Memory> {
@@ -341,22 +389,22 @@ impl Builder {
         match word.operator {
             "if" => {
                 let then = self.list()?;
-                let test = self.test()?;
+                let test = self.test(word)?;
                 self.item(Item::If(test, then, List::new(self.alloc)))
             }
             "else" => {
                 let otherwise = self.list()?;
                 let then = self.list()?;
-                let test = self.test()?;
+                let test = self.test(word)?;
                 self.item(Item::If(test, then, otherwise))
             }
             "while" => {
                 let body = self.list()?;
-                let test = self.test()?;
+                let test = self.test(word)?;
                 self.item(Item::While(test, body))
             }
             "do" => {
-                let test = self.test()?;
+                let test = self.test(word)?;
                 let body = self.list()?;
                 self.item(Item::Do(body, test))
             }
@@ -401,7 +449,7 @@ impl Builder {
         Ok(())
     }
 
-    /// `switch:3`, with its selector before its three sections.
+    /// `switch:3`, with its selector before its three sections; `switch:3:made` where it is made.
     fn switch(&mut self, word: Word<'_>) -> Result<(), Memory> {
         let count = number_of(word.first)? as usize;
         if self.sections.len() < count {
@@ -409,8 +457,8 @@ impl Builder {
         }
         let at = self.sections.len() - count;
         let sections = List::from_vec(self.sections.split_off(at)?);
-        let selector = self.pop()?;
-        self.item(Item::Switch(Selector::Source(selector), sections))
+        let selector = self.selector(word)?;
+        self.item(Item::Switch(selector, sections))
     }
 
     fn declaration(&mut self, word: Word<'_>) -> Result<(), Memory> {
@@ -437,11 +485,64 @@ impl Builder {
                 let items = List::from_vec(self.constants.take(self.alloc));
                 self.tops.push(Top::Enum(items))
             }
-            "function" | "static_function" => {
+            "function" | "static_function" | "flat_function" => {
                 let body = self.list()?;
                 self.function(word, Some(body))
             }
             "prototype" | "static_prototype" => self.function(word, None),
+            _ => self.jump(word),
+        }
+    }
+
+    /// What the rewriting puts into a body: `arm:label`, `arm:label:given` with its condition before,
+    /// `land:label`, and the tests and selectors that are made.
+    fn jump(&mut self, word: Word<'_>) -> Result<(), Memory> {
+        match word.operator {
+            "arm" => {
+                let given = if word.second == "given" {
+                    Some(self.pop()?)
+                } else {
+                    None
+                };
+                self.item(Item::Arm(number_of(word.first)?, given))
+            }
+            "leap" => self.item(Item::Leap(number_of(word.first)?)),
+            "land" => self.item(Item::Land(number_of(word.first)?)),
+            _ => self.guard_test(word),
+        }
+    }
+
+    fn guard_test(&mut self, word: Word<'_>) -> Result<(), Memory> {
+        match word.operator {
+            "holds" => {
+                let test = self.pop()?;
+                self.push_test(Test::Source(test))
+            }
+            "on" => self.push_test(Test::On(number_of(word.first)?)),
+            "off" => self.push_test(Test::Off(number_of(word.first)?)),
+            "and_off" => {
+                let rest = self.inner_test()?;
+                self.push_test(Test::AndOff(number_of(word.first)?, rest))
+            }
+            "or_on" => {
+                let rest = self.inner_test()?;
+                self.push_test(Test::OrOn(number_of(word.first)?, rest))
+            }
+            _ => self.guard_selector(word),
+        }
+    }
+
+    fn guard_selector(&mut self, word: Word<'_>) -> Result<(), Memory> {
+        match word.operator {
+            "selects" => {
+                let selector = self.pop()?;
+                self.push_selector(Selector::Source(selector))
+            }
+            "pick" => {
+                let number = word.second.parse::<i128>().map_err(|_| Memory)?;
+                let rest = self.inner_selector()?;
+                self.push_selector(Selector::Pick(number_of(word.first)?, number, rest))
+            }
             _ => Err(Memory),
         }
     }
@@ -487,7 +588,7 @@ impl Builder {
         }))
     }
 
-    /// `function:name:kind:parameters` takes the variables and labels made before.
+    /// `function:name:kind:parameters`, or `flat_function`, takes the variables and labels made before.
     fn function(&mut self, word: Word<'_>, body: Option<List<Item>>) -> Result<(), Memory> {
         let name = name_of(self.alloc, word.first)?;
         let slots = List::from_vec(self.slots.take(self.alloc));
@@ -500,7 +601,7 @@ impl Builder {
             slots,
             labels,
             body,
-            flat: false,
+            flat: word.operator == "flat_function",
         }))
     }
 }
