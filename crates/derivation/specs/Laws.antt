@@ -12,6 +12,7 @@ use Rattle.derivation.specs.Leaps.{leaps}
 use Rattle.derivation.specs.Nesting.{nesting}
 use Rattle.derivation.specs.Next.{Point, IsJoined, MovesBy, Goes}
 use Rattle.derivation.specs.declared.kept.Kept.{Kept}
+use Rattle.derivation.specs.Counts.{join_count}
 use Rattle.derivation.specs.Derivations.{Eliminates, Derives}
 
 -- a Leap of the label stands at the point
@@ -50,6 +51,8 @@ pub record CountLaws : Type 0 where
   -- from its choice to its join they are at most the level of the Leap, that of its Land, and three
   pub bounded : (l : ℕ) (p : Point) (land : Path) (ms : List Kept) (new : List Item) → IsWellMade (trees_of p.body) → Eliminates l p ms new → item_at p.body land.steps land.item ≡ Some (Land l)
       → length ms ≤ length p.at.steps + length land.steps + 3
+  -- and in a derivation of a body there is one join for each Leap
+  pub joins : (body : List Item) (ms : List Kept) (new : List Item) → IsWellMade (trees_of body) → Derives body ms new → join_count ms ≡ leaps (trees_of body)
 
 -- how deep the lists of a body come to stand in one another
 pub record NestingLaws : Type 0 where

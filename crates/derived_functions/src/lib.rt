@@ -1,5 +1,12 @@
 //! What the derivation of a function and of a program is: conversion, the moves of all Leaps, and the
 //! simplifications, with one list of moves.
 //!
-//! The definitions stand in specs/Moved.
+//! The definitions stand in specs/Moved. The function here runs no code: its contract is a law of them.
 #![tactic(auto)]
+
+ghost use Rattle.derived_functions.specs.Laws.{MovedLaws};
+
+/// In the derivation of a program each jump is joined once.
+pub fn moved_laws()
+    ensures { MovedLaws }
+{}

@@ -3,7 +3,9 @@
 #![tactic(auto)]
 
 mod all_tops;
+mod counting;
 mod one_function;
 
 pub use all_tops::move_program;
+pub use counting::join_count;
 pub use one_function::move_function;
