@@ -176,3 +176,15 @@ into_default_made a b c ea eb ec = simp (ea, eb, ec, trees-more, trees-none, sec
   exits = search rules;
   tests = search rules;
 })
+
+abbrev pub to_the_next : List Item
+to_the_next = Arm 0 None ∷ Leap 0 ∷ Land 0 ∷ []
+
+pub to_the_next_made : IsWellMade (trees_of to_the_next)
+to_the_next_made = simp (trees-more, trees-none, tree-Arm, tree-Leap, tree-Land) (search rules)
+
+abbrev pub two_labels : List Item
+two_labels = While (Source (variable 0)) (Evaluate (variable 1) ∷ If (Source (variable 2)) (Arm 0 (Some (variable 3)) ∷ Leap 0 ∷ Arm 1 None ∷ Leap 1 ∷ []) [] ∷ Evaluate (variable 4) ∷ []) ∷ Land 0 ∷ Evaluate (variable 5) ∷ Land 1 ∷ Return (Some (variable 6)) ∷ []
+
+pub two_labels_made : IsWellMade (trees_of two_labels)
+two_labels_made = simp (trees-more, trees-none, tree-Evaluate, tree-Arm, tree-Leap, tree-If, tree-While, tree-Land, tree-Return, test-Source) (search rules)

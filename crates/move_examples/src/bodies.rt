@@ -250,3 +250,34 @@ pub fn back_into_loop(alloc: Global) -> Result<List<Item>, Memory>
         ],
     )
 }
+
+/// To a label right behind the jump.
+pub fn to_the_next(alloc: Global) -> Result<List<Item>, Memory>
+    ensures { IfOk result (λ b. IsWellMade (trees_of b)) }
+{
+    list(alloc, [Item::Arm(0, None), Item::Leap(0), Item::Land(0)])
+}
+
+/// Two labels out of one loop, from one `if`.
+pub fn two_labels(alloc: Global) -> Result<List<Item>, Memory>
+    ensures { IfOk result (λ b. IsWellMade (trees_of b)) }
+{
+    let then = list(
+        alloc,
+        [arm(0, 3), Item::Leap(0), Item::Arm(1, None), Item::Leap(1)],
+    )?;
+    let body = list(
+        alloc,
+        [evaluate(1), choose(2, then, List::new(alloc)), evaluate(4)],
+    )?;
+    list(
+        alloc,
+        [
+            repeat(0, body),
+            Item::Land(0),
+            evaluate(5),
+            Item::Land(1),
+            answer(6),
+        ],
+    )
+}
