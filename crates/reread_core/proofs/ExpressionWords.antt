@@ -106,7 +106,7 @@ abbrev pub list_end : ℕ → Arguments → ℕ
 list_end at NoArgument = at
 list_end at (Argument x xs) = more_end (ending 2 at x) xs
 
-argument_end_is : (at : ℕ) (x : ExpressionTree) → argument_end at (argument_of x (derivation_of x)) ≡ ending 2 at x
+pub argument_end_is : (at : ℕ) (x : ExpressionTree) → argument_end at (argument_of x (derivation_of x)) ≡ ending 2 at x
 argument_end_is at (Typed kind (t.Text bytes)) = refl
 argument_end_is at (Typed kind n) = (assigned at (Typed kind n)).end_is
 
@@ -131,7 +131,7 @@ module _ (slots : List Slot) (tokens : List Spelling) (the_word : ℕ → List �
   abbrev Walks : ℕ → List Piece → Type 0 → ℕ → Type 0
   Walks at ps S end = S × Stands tokens end ps
 
-  as_end : (m n : ℕ) (ps : List Piece) → m ≡ n → Stands tokens n ps → Stands tokens m ps
+  pub as_end : (m n : ℕ) (ps : List Piece) → m ≡ n → Stands tokens n ps → Stands tokens m ps
   as_end m n ps e s = subst (λ k. Stands tokens k ps) (sym e) s
 
   pub word_here : (at : ℕ) (w : List ℕ) (ps : List Piece) → Stands tokens at (word w ps) → (the_word at ≡ w) × Stands tokens (at + 1) ps
@@ -246,11 +246,13 @@ module _ (slots : List Slot) (tokens : List Spelling) (the_word : ℕ → List �
         let v = spelled b 1 (y + 1) ((spaced (codes ":") ⨾ tree_text slots c 3) qs) (omega arith) (m.1) in
         let z = ending 1 (y + 1) b in
         let o = mark_here z (codes ":") ((space ⨾ tree_text slots c 3) qs) (v.1) in
-        let r = spelled c 3 (z + 1) qs (omega arith) (o.1) in
-        ((u.0, v.0, r.0), as_end _ _ qs
-        (ap (λ e. conditional_end (expression_end (e + 1) (derivation_of b) + 1) (as_conditional (derivation_of c))) (bound 4 i a (omega arith)).end_is
-        ∙ ap (λ e. conditional_end (e + 1) (as_conditional (derivation_of c))) (opened (y + 1) b).end_is
-        ∙ (chosen (z + 1) c).end_is) (r.1))) s
+        let r = spelled c 3 (z + 1) qs (omega arith) (o.1) in (
+          (u.0, v.0, r.0),
+          as_end _ _ qs
+              (ap (λ e. conditional_end (expression_end (e + 1) (derivation_of b) + 1) (as_conditional (derivation_of c))) (bound 4 i a (omega arith)).end_is
+              ∙ ap (λ e. conditional_end (e + 1) (as_conditional (derivation_of c))) (opened (y + 1) b).end_is
+              ∙ (chosen (z + 1) c).end_is) (r.1),
+        )) s
     node_spelled (t.Assign p a) kind need at ps h s =
         let x = Typed kind (t.Assign p a) in
         in_brackets (nat_lt 2 need) at ps (place_tree_text slots p ⨾ spaced (codes "=") ⨾ tree_text slots a 2) (λ i. The i x) (derivation_of x)
@@ -284,11 +286,13 @@ module _ (slots : List Slot) (tokens : List Spelling) (the_word : ℕ → List �
         (λ i qs k. let u = spelled a 1 i ((comma ⨾ tree_text slots b 2) qs) (omega arith) k in
         let y = ending 1 i a in
         let m = mark_here y (codes ",") ((space ⨾ tree_text slots b 2) qs) (u.1) in
-        let r = spelled b 2 (y + 1) qs (omega arith) (m.1) in
-        ((u.0, r.0), as_end _ _ qs
-        (followed_end (derivation_of a) i (as_assignment (derivation_of b))
-        ∙ ap (λ e. assignment_end (e + 1) (as_assignment (derivation_of b))) (opened i a).end_is
-        ∙ (assigned (y + 1) b).end_is) (r.1))) s
+        let r = spelled b 2 (y + 1) qs (omega arith) (m.1) in (
+          (u.0, r.0),
+          as_end _ _ qs
+              (followed_end (derivation_of a) i (as_assignment (derivation_of b))
+              ∙ ap (λ e. assignment_end (e + 1) (as_assignment (derivation_of b))) (opened i a).end_is
+              ∙ (assigned (y + 1) b).end_is) (r.1),
+        )) s
     node_spelled (t.Call name xs) kind need at ps h s =
         let x = Typed kind (t.Call name xs) in
         let w = word_here at name ((punctuator (codes "(") ⨾ listed (operands (argument_texts slots xs)) ⨾ punctuator (codes ")")) ps) s in

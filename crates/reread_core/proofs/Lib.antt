@@ -3,4 +3,10 @@ pub mod Mirrors
 pub mod Operands
 pub mod ExpressionWords
 pub mod Characters
+pub mod Marks
+pub mod Formats
+pub mod Readings
+pub mod ArgumentsRead
+pub mod ExpressionsRead
+pub mod FullExpressions
 pub mod TheLaws

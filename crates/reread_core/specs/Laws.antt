@@ -1,13 +1,64 @@
--- The laws of this crate.
+-- The laws of this crate: what is printed of a resolved program reads back as it was.
 use Rattle.std.specs.Prelude.{◌≡◌, ℕ, List}
-use Rattle.c_grammar.specs.Expressions.{Expression, Assignment, Conditional}
-use Rattle.c_grammar.specs.ExpressionSyntax.{expression_node, assignment_node, conditional_node}
-use Rattle.c_source.specs.Terms.{At}
+use Rattle.c_tree.specs.declared.tree.Expression.{Expression, out-Expression}
+use Rattle.c_tree.specs.ExpressionTrees.{ExpressionTree, expression_tree}
+use Rattle.c_tree.specs.TextPieces.{Piece}
+use Rattle.c_tree.specs.TextExpressions.{expression_text}
+use Rattle.c_grammar.specs.declared.syntax.Syntax.{Syntax}
+use Rattle.c_grammar.specs.Expressions.{Assignment, Conditional}
+use Rattle.c_grammar.specs.Expressions as g
+use Rattle.c_grammar.specs.ExpressionSyntax.{expression_node, assignment_node, conditional_node, expression_end, assignment_end, conditional_end}
+use Rattle.c_source.specs.Terms.{Term, At}
 use Rattle.c_source.specs.Parts.{term_of}
+use Rattle.c_kinds.specs.Scopes.{Env, Faults}
+use Rattle.c_kinds.specs.Values.{of_result}
+use Rattle.c_kinds.specs.Typing.{typed, faults}
+use Rattle.c_resolved.specs.Names.{Names}
+use Rattle.c_resolved.specs.Kinds.{IsOperand, KindsAgree, WritesNoConst}
+use Rattle.c_resolved.specs.Scopes.{Scope, IsBound}
+use Rattle.c_resolved.specs.Within.{Within}
+use Rattle.c_resolved.specs.PrintableExpressions.{Prints}
+use Rattle.printed_syntax.specs.Reread.{Spelling}
+use Rattle.printed_syntax.specs.Standing.{Stands}
+use Rattle.printed_syntax.specs.ExpressionDerivations.{derivation_of}
+use Rattle.printed_syntax.specs.StatementDerivations.{assignment_of, conditional_of}
 use Rattle.reread_core.specs.WrittenExpressions.{expression_form, assignment_form, conditional_form}
+use Rattle.reread_core.specs.Words.{AreWords}
+use Rattle.reread_core.specs.Bindings.{ScopesAgree}
+
+-- ---- expressions
+
+-- a place of a text where an expression may stand: the names of the program, their scopes there, and the words of the tokens
+pub record IsPlace (n : Names) (ss : List Scope) (env : Env) (tokens : List Spelling) : Type 0 where
+  pub words : AreWords env.word tokens
+  pub scopes : ScopesAgree n ss env.scopes
+
+-- an expression of a resolved program at such a place, which prints
+pub record IsExpressionOf (n : Names) (ss : List Scope) (x : ExpressionTree) : Type 0 where
+  pub kinds : KindsAgree n x
+  pub bound : IsBound n.slots ss x
+  pub consts : Within (WritesNoConst n) x
+  pub operand : IsOperand x
+  pub prints : Prints n.slots x
+
+-- a source tree is read as an expression, without a violation, and these pieces stand behind it
+pub record ReadsAs (env : Env) (tokens : List Spelling) (term : Term) (end : ℕ) (ps : List Piece) (e : Expression) : Type 0 where
+  pub typed_as : typed env term ≡ of_result (out-Expression e).kind (out-Expression e).node
+  pub clear : (vs : Faults) → faults env term vs ≡ vs
+  pub behind : Stands tokens end ps
+
+-- the printed text of an expression, where the grammar needs a level, and the syntax and the end of its derivation there
+abbrev pub ReadsBackAt : ℕ → (ℕ → ExpressionTree → Syntax) → (ℕ → ExpressionTree → ℕ) → Type 0
+ReadsBackAt need syntax end =
+    (n : Names) (ss : List Scope) (env : Env) (tokens : List Spelling) → IsPlace n ss env tokens → (e : Expression) (at : ℕ) (ps : List Piece) → IsExpressionOf n ss (expression_tree e)
+    → Stands tokens at (expression_text n.slots e need ps) → ReadsAs env tokens (term_of env.word (syntax at (expression_tree e))) (end at (expression_tree e)) ps e
 
 pub record RereadLaws : Type 0 where
   -- what the syntax of a derivation writes
-  pub expression : (word : ℕ → List ℕ) (at : ℕ) (e : Expression) → term_of word (expression_node at e) ≡ At at (expression_form at e)
+  pub expression : (word : ℕ → List ℕ) (at : ℕ) (e : g.Expression) → term_of word (expression_node at e) ≡ At at (expression_form at e)
   pub assignment : (word : ℕ → List ℕ) (at : ℕ) (a : Assignment) → term_of word (assignment_node at a) ≡ At at (assignment_form at a)
   pub conditional : (word : ℕ → List ℕ) (at : ℕ) (d : Conditional) → term_of word (conditional_node at d) ≡ At at (conditional_form at d)
+  -- the printed text of an expression reads back as the expression: by itself, where an assignment is needed, and where a constant is
+  pub expressions : ReadsBackAt 1 (λ at x. expression_node at (derivation_of x)) (λ at x. expression_end at (derivation_of x))
+  pub assignments : ReadsBackAt 2 (λ at x. assignment_node at (assignment_of x)) (λ at x. assignment_end at (assignment_of x))
+  pub conditionals : ReadsBackAt 3 (λ at x. conditional_node at (conditional_of x)) (λ at x. conditional_end at (conditional_of x))

@@ -1,3 +1,4 @@
 pub mod WrittenExpressions
 pub mod Words
+pub mod Bindings
 pub mod Laws
