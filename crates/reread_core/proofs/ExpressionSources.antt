@@ -54,7 +54,7 @@ term_is word x rule first form w = λ i. At (w.begins i) (w.formed i)
 
 -- ---- more than one assignment, and calls
 
-not_one : (n : ℕ) → (suc (suc n) == 1) ≡ false
+pub not_one : (n : ℕ) → (suc (suc n) == 1) ≡ false
 not_one n = ne_eqb (suc (suc n)) 1 (λ e. omega (arith, e))
 
 not_two : (n : ℕ) → (suc (suc (suc n)) == 2) ≡ false
@@ -121,7 +121,7 @@ module _ (word : ℕ → List ℕ) where
   texts_write at (MoreTexts n) = rw (token_rule word at) (ap s.Texts (texts_firsts at (MoreTexts n)))
 
   mutual
-    parts_write : (at : ℕ) (e : Expression) → of_expression (map q (expression_parts at e)) ≡ expression_form at e
+    pub parts_write : (at : ℕ) (e : Expression) → of_expression (map q (expression_parts at e)) ≡ expression_form at e
     parts_write at (One a) = (assignment_writes at a).formed
     parts_write at (More a e) =
         let x = assignment_end at a in

@@ -9,4 +9,6 @@ pub mod Readings
 pub mod ArgumentsRead
 pub mod ExpressionsRead
 pub mod FullExpressions
+pub mod DeclarationSources
+pub mod StatementSources
 pub mod TheLaws

@@ -1,16 +1,18 @@
 -- The laws together.
-use Rattle.std.proofs.Common.{ℕ, List}
+use Rattle.std.proofs.Common.{ℕ, List, ap}
 use Rattle.c_tree.specs.ExpressionTrees.{expression_tree}
 use Rattle.c_grammar.specs.declared.syntax.Production.TheVariants as p
 use Rattle.c_grammar.specs.Expressions.{Expression, Assignment, Conditional}
 use Rattle.c_grammar.specs.ExpressionSyntax.{expression_node, assignment_node, conditional_node}
 use Rattle.c_source.specs.Terms.{At}
-use Rattle.c_source.specs.Parts.{term_of}
+use Rattle.c_source.specs.Parts.{term_of, declaration_in}
 use Rattle.printed_syntax.specs.ExpressionDerivations.{derivation_of}
 use Rattle.printed_syntax.specs.StatementDerivations.{assignment_of, conditional_of}
 use Rattle.reread_core.specs.Laws.{RereadLaws}
 use Rattle.reread_core.specs.WrittenExpressions.{expression_form, assignment_form, conditional_form}
 use Rattle.reread_core.proofs.ExpressionSources.{term_is, expression_writes, assignment_writes, conditional_writes}
+use Rattle.reread_core.proofs.DeclarationSources.{local_known}
+use Rattle.reread_core.proofs.StatementSources.{block_writes}
 use Rattle.reread_core.proofs.FullExpressions.{open_full, assigned_full, chosen_full, reads_whole, stands_tree}
 
 pub reread_laws : RereadLaws
@@ -18,6 +20,8 @@ reread_laws = record {
   expression = λ word at e. term_is word (expression_node at e) p.Expression at (expression_form at e) (expression_writes word at e);
   assignment = λ word at a. term_is word (assignment_node at a) p.Assignment at (assignment_form at a) (assignment_writes word at a);
   conditional = λ word at d. term_is word (conditional_node at d) p.Conditional at (conditional_form at d) (conditional_writes word at d);
+  declaration = λ word at x. ap declaration_in ((local_known word at x).holds);
+  block = block_writes;
   expressions = λ n ss env tokens h e at ps g s.
       let x = expression_tree e in
       let d = derivation_of x in

@@ -1,5 +1,5 @@
 -- The laws of this crate: what is printed of a resolved program reads back as it was.
-use Rattle.std.specs.Prelude.{◌≡◌, ℕ, List}
+use Rattle.std.specs.Prelude.{◌≡◌, ◌+◌, ℕ, List, Some}
 use Rattle.c_tree.specs.declared.tree.Expression.{Expression, out-Expression}
 use Rattle.c_tree.specs.ExpressionTrees.{ExpressionTree, expression_tree}
 use Rattle.c_tree.specs.TextPieces.{Piece}
@@ -9,7 +9,10 @@ use Rattle.c_grammar.specs.Expressions.{Assignment, Conditional}
 use Rattle.c_grammar.specs.Expressions as g
 use Rattle.c_grammar.specs.ExpressionSyntax.{expression_node, assignment_node, conditional_node, expression_end, assignment_end, conditional_end}
 use Rattle.c_source.specs.Terms.{Term, At}
-use Rattle.c_source.specs.Parts.{term_of}
+use Rattle.c_grammar.specs.Statements.{Local, Items, Braces}
+use Rattle.c_grammar.specs.StatementSyntax.{local_node, block_node, items_end}
+use Rattle.c_source.specs.Items as s
+use Rattle.c_source.specs.Parts.{part_of, term_of, declaration_in, block_in}
 use Rattle.c_kinds.specs.Scopes.{Env, Faults}
 use Rattle.c_kinds.specs.Values.{of_result}
 use Rattle.c_kinds.specs.Typing.{typed, faults}
@@ -23,6 +26,8 @@ use Rattle.printed_syntax.specs.Standing.{Stands}
 use Rattle.printed_syntax.specs.ExpressionDerivations.{derivation_of}
 use Rattle.printed_syntax.specs.StatementDerivations.{assignment_of, conditional_of}
 use Rattle.reread_core.specs.WrittenExpressions.{expression_form, assignment_form, conditional_form}
+use Rattle.reread_core.specs.WrittenStatements.{written_declaration, written_items}
+use Rattle.reread_core.specs.Keywords.{ItemsHaveKeywords}
 use Rattle.reread_core.specs.Words.{AreWords}
 use Rattle.reread_core.specs.Bindings.{ScopesAgree}
 
@@ -58,6 +63,9 @@ pub record RereadLaws : Type 0 where
   pub expression : (word : ℕ → List ℕ) (at : ℕ) (e : g.Expression) → term_of word (expression_node at e) ≡ At at (expression_form at e)
   pub assignment : (word : ℕ → List ℕ) (at : ℕ) (a : Assignment) → term_of word (assignment_node at a) ≡ At at (assignment_form at a)
   pub conditional : (word : ℕ → List ℕ) (at : ℕ) (d : Conditional) → term_of word (conditional_node at d) ≡ At at (conditional_form at d)
+  pub declaration : (word : ℕ → List ℕ) (at : ℕ) (x : Local) → declaration_in (part_of word (local_node at x)).content ≡ written_declaration at x
+  -- a block's, where the words are keywords as its derivation has them
+  pub block : (word : ℕ → List ℕ) (at : ℕ) (xs : Items) → ItemsHaveKeywords word (at + 1) xs → block_in (part_of word (block_node at (Braces xs))) ≡ Some (s.Braces at (items_end (at + 1) xs + 1) (written_items (at + 1) xs))
   -- the printed text of an expression reads back as the expression: by itself, where an assignment is needed, and where a constant is
   pub expressions : ReadsBackAt 1 (λ at x. expression_node at (derivation_of x)) (λ at x. expression_end at (derivation_of x))
   pub assignments : ReadsBackAt 2 (λ at x. assignment_node at (assignment_of x)) (λ at x. assignment_end at (assignment_of x))

@@ -1,4 +1,6 @@
 pub mod WrittenExpressions
 pub mod Words
 pub mod Bindings
+pub mod WrittenStatements
+pub mod Keywords
 pub mod Laws
