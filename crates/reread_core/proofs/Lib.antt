@@ -11,4 +11,5 @@ pub mod ExpressionsRead
 pub mod FullExpressions
 pub mod DeclarationSources
 pub mod StatementSources
+pub mod ItemMirrors
 pub mod TheLaws
