@@ -70,7 +70,7 @@ number_read (Some K.Long) (negsuc n) h = absurd h
 number_read (Some K.ULong) (negsuc n) h = absurd h
 number_read None z h = absurd h
 
-number_typed : (kind : Option IntKind) (z : ℤ) (w : List ℕ) → w ≡ number_text kind z → IsConstant kind z → constant w ≡ of_result kind (node.Number z)
+pub number_typed : (kind : Option IntKind) (z : ℤ) (w : List ℕ) → w ≡ number_text kind z → IsConstant kind z → constant w ≡ of_result kind (node.Number z)
 number_typed kind z w e h =
     let i = number_is kind z h in
     ap constant e ∙ ap (λ b. cond b (character_constant (character (number_text kind z))) (number (integer_of (number_text kind z)))) (run_is_number (number_text kind z) (i.0))

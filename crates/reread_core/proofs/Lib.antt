@@ -12,4 +12,7 @@ pub mod FullExpressions
 pub mod DeclarationSources
 pub mod StatementSources
 pub mod ItemMirrors
+pub mod Entries
+pub mod SameScopes
+pub mod DeclarationsRead
 pub mod TheLaws

@@ -13,6 +13,7 @@ use Rattle.c_tree.specs.declared.tree.Node.TheVariants.{rolls-Number, rolls-Char
 use Rattle.c_tree.specs.declared.tree.Node.TheOpen as N
 use Rattle.c_tree.specs.ExpressionTrees.{ExpressionTree, PlaceTree, NodeTree, Typed, Arguments, NoArgument, Argument, arguments, node_layer, place_layer, expression_layer, expression_tree, node_tree, place_tree}
 use Rattle.c_tree.specs.ExpressionTrees as t
+use Rattle.c_tree.proofs.ExpressionLaws.{place-Var, place-Cell, node-Number, node-Character, node-EnumName, node-Text, node-Array, node-Read, node-Unary, node-Cast, node-Binary, node-Conditional, node-Assign, node-Update, node-Count, node-Comma, node-Call}
 use Rattle.c_tree.specs.TextPieces.{Text}
 use Rattle.c_tree.specs.TextExpressions.{Leveled, Kinded, node_step, place_step, expression_step, expression_text, node_text, place_text}
 
@@ -198,3 +199,42 @@ whole e = (mirrors [] e).0
 -- and has its text
 pub text_of_tree : (slots : List Slot) (e : Expression) → expression_text slots e ≡ tree_text slots (expression_tree e)
 text_of_tree slots e = (mirrors slots e).1
+
+-- ---- the plain tree of that expression
+
+mutual
+  pub again : (x : ExpressionTree) → expression_tree (expression_in x) ≡ x
+  again (Typed kind n) = expression_rolls [] (record { kind = kind; node = node_in n }) ∙ ap (Typed kind) (node_again n)
+
+  node_again : (n : NodeTree) → node_tree (node_in n) ≡ n
+  node_again (t.Number n) = node-Number n
+  node_again (t.Character b) = node-Character b
+  node_again (t.EnumName name n) = node-EnumName name n
+  node_again (t.Text bytes) = node-Text bytes
+  node_again (t.Array home) = node-Array home
+  node_again (t.Read p) = node-Read (place_in p) ∙ ap t.Read (place_again p)
+  node_again (t.Unary op a) = node-Unary op (expression_in a) ∙ ap (t.Unary op) (again a)
+  node_again (t.Cast a) = node-Cast (expression_in a) ∙ ap t.Cast (again a)
+  node_again (t.Binary op a b) = node-Binary op (expression_in a) (expression_in b) ∙ (λ i. t.Binary op (again a i) (again b i))
+  node_again (t.Conditional a b c) = node-Conditional (expression_in a) (expression_in b) (expression_in c) ∙ (λ i. t.Conditional (again a i) (again b i) (again c i))
+  node_again (t.Assign p a) = node-Assign (place_in p) (expression_in a) ∙ (λ i. t.Assign (place_again p i) (again a i))
+  node_again (t.Update op p a) = node-Update op (place_in p) (expression_in a) ∙ (λ i. t.Update op (place_again p i) (again a i))
+  node_again (t.Count p up after) = node-Count (place_in p) up after ∙ (λ i. t.Count (place_again p i) up after)
+  node_again (t.Comma a b) = node-Comma (expression_in a) (expression_in b) ∙ (λ i. t.Comma (again a i) (again b i))
+  node_again (t.Call name xs) = node-Call name (arguments_in xs) ∙ ap (t.Call name) (arguments_again xs)
+
+  place_again : (p : PlaceTree) → place_tree (place_in p) ≡ p
+  place_again (t.Var home) = place-Var home
+  place_again (t.Cell home a) = place-Cell home (expression_in a) ∙ ap (t.Cell home) (again a)
+
+  arguments_again : (xs : Arguments) → arguments (map expression_tree (arguments_in xs)) ≡ xs
+  arguments_again NoArgument = refl
+  arguments_again (Argument x xs) = λ i. Argument (again x i) (arguments_again xs i)
+
+-- and its text
+pub text_in : (slots : List Slot) (x : ExpressionTree) → expression_text slots (expression_in x) ≡ tree_text slots x
+text_in slots x = text_of_tree slots (expression_in x) ∙ ap (tree_text slots) (again x)
+
+pub texts_in : (slots : List Slot) (xs : List ExpressionTree) → map (expression_text slots) (map expression_in xs) ≡ map (tree_text slots) xs
+texts_in slots [] = refl
+texts_in slots (x ∷ xs) = λ i. text_in slots x i ∷ texts_in slots xs i
