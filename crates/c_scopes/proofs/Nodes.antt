@@ -58,3 +58,5 @@ pub tops-next : (word : ℕ → List ℕ) (xs : List Syntax) (i : ℕ) (d : Synt
 tops-next word xs i d h = rw (add-one, drop-cons xs i d) refl
 
 pub ruleset tops = (tops-next, append_assoc)
+
+pub ruleset listed = (append_assoc)

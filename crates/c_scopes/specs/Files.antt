@@ -1,7 +1,8 @@
 -- What stands at file scope (ISO/IEC 9899:2011, 6.9): what it is, the names that it declares, and the violations.
-use Rattle.std.specs.Prelude.{ℕ, negsuc, List, [], ◌∷◌, ◌++◌, map, Some}
+use Rattle.std.specs.Prelude.{ℕ, negsuc, Bool, List, [], ◌∷◌, ◌++◌, map, Some}
 use Rattle.c_tree.specs.declared.tree.Top.{Top}
 use Rattle.c_tree.specs.declared.tree.Top.TheVariants as top
+use Rattle.c_source.specs.Items.{Declaration}
 use Rattle.c_source.specs.Tops.{Function, Form, Line, Enum, Globals, Defines, Unread}
 use Rattle.c_source.specs.Tops as tops
 use Rattle.c_kinds.specs.Scopes.{Scope, Env, Faults, known_scope}
@@ -42,30 +43,52 @@ function_declared file f s = record { scopes = (function_bound file.bodies f (en
 abbrev pub notes_tops : File → Anchor → List Top
 notes_tops file anchor = map top.Note (file.notes anchor)
 
+-- ---- what a declaration, an enum, a function or a directive is, and what stands behind it
+
+abbrev pub declaration_tops : Bool → Declaration → Env → List Top
+declaration_tops static d env = globals static (kinded env.word d) d.names env
+
+abbrev pub behind_declaration : Declaration → Env → Env
+behind_declaration d env = behind_globals (kinded env.word d) d.names env
+
+abbrev pub declaration_faults : Declaration → Env → Faults → Faults
+declaration_faults d env vs = globals_faults (kinded env.word d) d.names env vs
+
 abbrev pub form_tops : File → ℕ → Form → State → List Top
 form_tops file first Line s = top.Include (file.word first) ∷ []
 form_tops file first (Enum es) s = top.Enum (enum_items es (Some (negsuc 0)) (env_of file s)) ∷ []
-form_tops file first (Globals static d) s = globals static (kinded file.word d) d.names (env_of file s)
+form_tops file first (Globals static d) s = declaration_tops static d (env_of file s)
 form_tops file first (Defines f) s = top.Function (function_of file.word file.notes f (function_declared file f s).scopes) ∷ []
 form_tops file first Unread s = []
 
 abbrev pub behind_form : File → Form → State → State
 behind_form file (Enum es) s = with_names (behind_enum es (Some (negsuc 0)) (env_of file s)) s
-behind_form file (Globals static d) s = with_names (behind_globals (kinded file.word d) d.names (env_of file s)) s
+behind_form file (Globals static d) s = with_names (behind_declaration d (env_of file s)) s
 behind_form file (Defines f) s = function_declared file f s
 behind_form file _ s = s
 
 abbrev pub form_faults : File → Form → State → Faults → Faults
 form_faults file (Enum es) s vs = enum_faults es (Some (negsuc 0)) (env_of file s) vs
-form_faults file (Globals static d) s vs = globals_faults (kinded file.word d) d.names (env_of file s) vs
+form_faults file (Globals static d) s vs = declaration_faults d (env_of file s) vs
 form_faults file (Defines f) s vs =
     function_faults file.flat file.word file.notes f (function_declared file f s).scopes (function_name_faults file.bodies s.bodies f (env_of file s) vs)
 form_faults file _ s vs = vs
 
+abbrev pub top_tops : File → tops.Top → State → List Top
+top_tops file (tops.From first after form) s = notes_tops file (Before first) ++ form_tops file first form s
+
+abbrev pub behind_top : File → tops.Top → State → State
+behind_top file (tops.From first after form) s = behind_form file form s
+
+abbrev pub top_faults : File → tops.Top → State → Faults → Faults
+top_faults file (tops.From first after form) s vs = form_faults file form s vs
+
+-- ---- a file
+
 abbrev pub tops_of : File → List tops.Top → State → List Top
 tops_of file [] s = notes_tops file Last
-tops_of file (tops.From first after form ∷ xs) s = notes_tops file (Before first) ++ form_tops file first form s ++ tops_of file xs (behind_form file form s)
+tops_of file (x ∷ xs) s = top_tops file x s ++ tops_of file xs (behind_top file x s)
 
 abbrev pub file_faults : File → List tops.Top → State → Faults → Faults
 file_faults file [] s vs = vs
-file_faults file (tops.From first after form ∷ xs) s vs = file_faults file xs (behind_form file form s) (form_faults file form s vs)
+file_faults file (x ∷ xs) s vs = file_faults file xs (behind_top file x s) (top_faults file x s vs)

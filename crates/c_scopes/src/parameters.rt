@@ -57,6 +57,7 @@ fn parameter_slot(alloc: Global, words: &Words, p: ParameterLayer) -> Result<Slo
 }
 
 /// Gives a parameter the next slot, and binds its name, if it has one.
+#[tactic(auto, unfolding(c_bodies::specs::Views::walk_of))]
 fn bind_parameter(alloc: Global, state: &mut State, p: ParameterLayer) -> Result<(), Memory>
     ensures words { OnOk result (state.new.known.words ≡ state.old.known.words) }
     ensures walk { OnOk result (walk_of state.new ≡ spec.bind_parameter (words_of state.old.known.words) (parameter_form (words_of state.old.known.words) p.entry) (walk_of state.old)) }
@@ -95,6 +96,7 @@ fn report_parameter(
 }
 
 /// Declares a parameter, of a function with a body or without one.
+#[tactic(auto, unfolding(c_bodies::specs::Views::walk_of))]
 fn read_parameter(
     alloc: Global,
     state: &mut State,
@@ -110,6 +112,7 @@ fn read_parameter(
 }
 
 /// Declares the parameter that a node writes, if it writes one.
+#[tactic(auto, unfolding(c_bodies::specs::Views::walk_of))]
 fn read_node(alloc: Global, state: &mut State, defines: bool, x: &Syntax) -> Result<(), Memory>
     ensures words { OnOk result (state.new.known.words ≡ state.old.known.words) }
     ensures walk { OnOk result (walk_of state.new ≡ views.bind_optional (words_of state.old.known.words) (parameter_of (words_of state.old.known.words) x.now) (walk_of state.old)) }
@@ -122,7 +125,7 @@ fn read_node(alloc: Global, state: &mut State, defines: bool, x: &Syntax) -> Res
 }
 
 /// Declares the parameters among these nodes, of a function with a body or without one.
-#[tactic(auto, using(crate::proofs::ParameterLists::next))]
+#[tactic(auto, using(crate::proofs::ParameterLists::next), unfolding(c_bodies::specs::Views::walk_of))]
 pub fn read_parameters(
     alloc: Global,
     state: &mut State,

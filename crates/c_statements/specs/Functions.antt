@@ -1,5 +1,5 @@
 -- Functions (ISO/IEC 9899:2011, 6.9.1): what their definition gives, and its violations.
-use Rattle.std.specs.Prelude.{ℕ, Bool, true, false, cond, List, [], ◌∷◌, ◌++◌, map, length, Option, Some, None, option_map}
+use Rattle.std.specs.Prelude.{ℕ, Bool, true, false, cond, List, [], ◌∷◌, ◌++◌, map, length, Option, Some, None, option_map, is_some}
 use Rattle.c_types.specs.declared.kinds.IntKind.{IntKind}
 use Rattle.c_tree.specs.declared.tree.Slot.{Slot}
 use Rattle.c_tree.specs.declared.tree.Function as tree
@@ -96,15 +96,24 @@ abbrev pub function : (ℕ → List ℕ) → Function → List Slot → List (Li
 function word f slots labels body =
     record { name = word f.name; result = result_kind word f; file_only = f.static; params = length f.parameters; slots = slots; labels = labels; body = body; flat = false }
 
-abbrev pub defined : (ℕ → List ℕ) → (Anchor → List (List ℕ)) → Function → Option Body → List Scope → tree.Function
-defined word notes f None scopes = function word f (inside word f scopes).slots [] None
-defined word notes f (Some b) scopes =
-    let ctx = context word notes f b in
-    let w = inside word f scopes in
-    function word f (behind_body ctx b w).slots (distinct (map word (body_labels b []))) (Some (body_items ctx b w))
+-- what the body gives, if there is one, behind the parameters
+
+abbrev pub labels_within : (ℕ → List ℕ) → Option Body → List (List ℕ)
+labels_within word None = []
+labels_within word (Some b) = distinct (map word (body_labels b []))
+
+abbrev pub items_within : (ℕ → List ℕ) → (Anchor → List (List ℕ)) → Function → Option Body → Walk → Option (List item.Item)
+items_within word notes f None w = None
+items_within word notes f (Some b) w = Some (body_items (context word notes f b) b w)
+
+abbrev pub behind_within : (ℕ → List ℕ) → (Anchor → List (List ℕ)) → Function → Option Body → Walk → Walk
+behind_within word notes f None w = w
+behind_within word notes f (Some b) w = behind_body (context word notes f b) b w
 
 abbrev pub function_of : (ℕ → List ℕ) → (Anchor → List (List ℕ)) → Function → List Scope → tree.Function
-function_of word notes f scopes = defined word notes f f.body scopes
+function_of word notes f scopes =
+    let w = inside word f scopes in
+    function word f (behind_within word notes f f.body w).slots (labels_within word f.body) (items_within word notes f f.body w)
 
 -- ---- violations in a function
 
@@ -119,15 +128,15 @@ measures word f b flat = record { depth = body_depth b; counted = f.counted; jum
 abbrev pub tangle_fault : FlatCounts → (ℕ → List ℕ) → Function → Body → List item.Item → Faults → Faults
 tangle_fault flat word f b items vs = elim (flat items) [ Some n ↦ fault_if (is_tangled (measures word f b n)) f.name 39 vs | None ↦ vs ]
 
-abbrev pub defined_faults : FlatCounts → (ℕ → List ℕ) → (Anchor → List (List ℕ)) → Function → Option Body → List Scope → Faults → Faults
-defined_faults flat word notes f None scopes vs = parameters_faults word false f.parameters (entered scopes) vs
-defined_faults flat word notes f (Some b) scopes vs =
+-- in the body, if there is one
+abbrev pub faults_within : FlatCounts → (ℕ → List ℕ) → (Anchor → List (List ℕ)) → Function → Option Body → Walk → Faults → Faults
+faults_within flat word notes f None w vs = vs
+faults_within flat word notes f (Some b) w vs =
     let ctx = context word notes f b in
-    let w = inside word f scopes in
     tangle_fault flat word f b (body_items ctx b w)
     (body_faults ctx b w
-    (twice_faults word (body_labels b [])
-    (parameters_faults word true f.parameters (entered scopes) vs)))
+    (twice_faults word (body_labels b []) vs))
 
 abbrev pub function_faults : FlatCounts → (ℕ → List ℕ) → (Anchor → List (List ℕ)) → Function → List Scope → Faults → Faults
-function_faults flat word notes f scopes vs = defined_faults flat word notes f f.body scopes vs
+function_faults flat word notes f scopes vs =
+    faults_within flat word notes f f.body (inside word f scopes) (parameters_faults word (is_some f.body) f.parameters (entered scopes) vs)

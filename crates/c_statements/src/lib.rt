@@ -28,7 +28,7 @@ pub use initialisers::{initial, or_placeholder, value};
 pub use label_list::{FunctionLabels, function_labels};
 pub use label_numbers::LabelNumbers;
 pub use labels::{body_labels, list_labels};
-pub use locals::{add_declaration, is_array};
+pub use locals::{add_declaration, is_array, kind_in, kinded};
 pub use longest::{body_longest, list_longest};
 pub use measures::Measures;
 pub use nodes::{greater, is_token};

@@ -131,7 +131,7 @@ fn add_locals<'a>(
 }
 
 /// The kind of a type, which is `int` where no words are there.
-fn kind_in(words: &Words, node: Option<&Syntax>) -> IntKind
+pub fn kind_in(words: &Words, node: Option<&Syntax>) -> IntKind
     ensures { result ≡ the_kind (words_of words.now) (type_words (words_of words.now) node.entry) }
 {
     match node {
@@ -140,7 +140,7 @@ fn kind_in(words: &Words, node: Option<&Syntax>) -> IntKind
     }
 }
 
-fn kinded(words: &Words, d: DeclarationLayer) -> Kinded
+pub fn kinded(words: &Words, d: DeclarationLayer) -> Kinded
     ensures { result ≡ spec.kinded (words_of words.now) (declaration_form (words_of words.now) d.entry) }
 {
     Kinded {

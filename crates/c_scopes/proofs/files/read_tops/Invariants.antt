@@ -1,0 +1,15 @@
+use Rattle.std.proofs.Common.{◌≡◌, ◌++◌, drop}
+use Rattle.c_source.specs.Views.{words_of}
+use Rattle.c_scopes.specs.Files.{tops_of, file_faults}
+use Rattle.c_scopes.specs.FileViews.{file_of, state_of}
+use Rattle.c_scopes.specs.NodeViews.{tops_in}
+use Rattle.c_scopes.proofs.files.read_tops.Given as goal
+
+abbrev pub invariant-loop-x : goal.invariant-loop-x
+invariant-loop-x g l =
+    let file = file_of (g.C.FlatCounter.flat l.counter) l.file in
+    let word = words_of l.file.outside.words in
+    record {
+      tops : l.out ++ tops_of file (tops_in word (drop l.x-index l.nodes)) (state_of l.state l.before) ≡ tops_of file (tops_in word l.nodes) (state_of l.initial.state l.initial.before);
+      faults : file_faults file (tops_in word (drop l.x-index l.nodes)) (state_of l.state l.before) l.state.faults ≡ file_faults file (tops_in word l.nodes) (state_of l.initial.state l.initial.before) l.initial.state.faults;
+    }
