@@ -1,5 +1,5 @@
 -- The places of comments. That of a comment is decided by the token that follows it.
-use Rattle.std.specs.Prelude.{ℕ, suc, Bool, true, false, cond, nat_le, nat_lt, List, [], ◌∷◌, map, filter, slice_range, Option, Some, None}
+use Rattle.std.specs.Prelude.{ℕ, suc, Bool, true, false, cond, not, ◌&&◌, ◌||◌, nat_le, nat_lt, List, [], ◌∷◌, map, filter, slice_range, Option, Some, None}
 use Rattle.c_lexer.specs.declared.token.Token.{Token}
 use Rattle.c_lexer.specs.declared.token.Span.{Span}
 use Rattle.c_source.specs.Items.{Label, Named, Case, Default, Item, Declares, States, Plain, From, Statement, If, IfElse, While, DoWhile, For, Switch, Block, Body, Braces, Lone, Items, NoItem, Then, label_first, first_label}
@@ -36,21 +36,30 @@ abbrev pub section_label_place : List Label → Label → Anchor
 section_label_place all (Named at after) = Before at
 section_label_place all _ = case_place (first_label all) all
 
--- token t in the labels of a statement, each an element, or where it stands behind them
-abbrev pub labels_place : List Label → Anchor → ℕ → Anchor
-labels_place [] behind t = behind
-labels_place (l ∷ ls) behind t = elim (nat_lt t (label_after l)) [ true ↦ Before (label_first l) | false ↦ labels_place ls behind t ]
+-- the place of token t, if it stands in the labels of a statement, each of which is an element
+abbrev pub labels_place : List Label → ℕ → Option Anchor
+labels_place [] t = None
+labels_place (l ∷ ls) t = elim (nat_lt t (label_after l)) [ true ↦ Some (Before (label_first l)) | false ↦ labels_place ls t ]
 
 -- the same of a statement that begins a section: all its labels, and those that are left
-abbrev pub section_place : List Label → List Label → Anchor → ℕ → Anchor
-section_place all [] behind t = behind
-section_place all (l ∷ ls) behind t = elim (nat_lt t (label_after l)) [ true ↦ section_label_place all l | false ↦ section_place all ls behind t ]
+abbrev pub section_place : List Label → List Label → ℕ → Option Anchor
+section_place all [] t = None
+section_place all (l ∷ ls) t = elim (nat_lt t (label_after l)) [ true ↦ Some (section_label_place all l) | false ↦ section_place all ls t ]
+
+abbrev pub or_behind : Option Anchor → Anchor → Anchor
+or_behind (Some place) behind = place
+or_behind None behind = behind
+
+-- an item that begins a section where it stands in a switch body
+abbrev pub begins_section : Item → Bool
+begins_section (Declares first after d) = false
+begins_section (States ls p) = has_case ls
 
 abbrev mutual
   -- the place of token t, which stands in the element
   pub item_place : Item → ℕ → Anchor
   item_place (Declares first after d) t = Before first
-  item_place (States ls p) t = labels_place ls (plain_place p t) t
+  item_place (States ls p) t = or_behind (labels_place ls t) (plain_place p t)
 
   pub plain_place : Plain → ℕ → Anchor
   plain_place (From first after s) t = elim (nat_le t first) [ true ↦ Before first | false ↦ statement_place first s t ]
@@ -79,31 +88,22 @@ abbrev mutual
 
   -- The `}` of a switch is the end of its last section; without sections the place is before the switch.
   pub switch_place : ℕ → Body → ℕ → Anchor
-  switch_place switch (Braces first after xs) t = elim (nat_le t first) [ true ↦ Before switch | false ↦ outside_place switch first xs t ]
-  switch_place switch (Lone first after x) t = elim (nat_lt t first) [ true ↦ Before switch | false ↦ lone_place switch x t ]
+  switch_place switch (Braces first after xs) t = elim (nat_le t first) [ true ↦ Before switch | false ↦ members_place false switch first xs t ]
+  switch_place switch (Lone first after x) t = elim (nat_lt t first) [ true ↦ Before switch | false ↦ member_place false switch x t ]
 
-  -- in front of the first section, where a null statement is no element
-  pub outside_place : ℕ → ℕ → Items → ℕ → Anchor
-  outside_place switch first NoItem t = Before switch
-  outside_place switch first (Then (Declares from after d) xs) t = elim (nat_lt t after) [ true ↦ Before from | false ↦ outside_place switch first xs t ]
-  outside_place switch first (Then (States ls p) xs) t =
-      elim (nat_lt t (plain_after p)) [
-        | true ↦ elim (has_case ls) [ true ↦ section_place ls ls (plain_place p t) t | false ↦ elim (is_null ls p) [ true ↦ Before switch | false ↦ labels_place ls (plain_place p t) t ] ]
-        | false ↦ elim (has_case ls) [ true ↦ sections_place (AtEnd first) xs t | false ↦ outside_place switch first xs t ]
-      ]
+  -- the items of a switch body, and whether one before them begins a section
+  pub members_place : Bool → ℕ → ℕ → Items → ℕ → Anchor
+  members_place begun switch first NoItem t = cond begun (AtEnd first) (Before switch)
+  members_place begun switch first (Then x xs) t =
+      elim (nat_lt t (item_after x)) [ true ↦ member_place begun switch x t | false ↦ members_place (begun || begins_section x) switch first xs t ]
 
-  pub lone_place : ℕ → Item → ℕ → Anchor
-  lone_place switch (Declares from after d) t = Before from
-  lone_place switch (States ls p) t = elim (has_case ls) [ true ↦ section_place ls ls (plain_place p t) t | false ↦ elim (is_null ls p) [ true ↦ Before switch | false ↦ labels_place ls (plain_place p t) t ] ]
-
-  -- from the first section on
-  pub sections_place : Anchor → Items → ℕ → Anchor
-  sections_place end NoItem t = end
-  sections_place end (Then (Declares from after d) xs) t = elim (nat_lt t after) [ true ↦ Before from | false ↦ sections_place end xs t ]
-  sections_place end (Then (States ls p) xs) t =
-      elim (nat_lt t (plain_after p)) [
-        | true ↦ elim (has_case ls) [ true ↦ section_place ls ls (plain_place p t) t | false ↦ labels_place ls (plain_place p t) t ]
-        | false ↦ sections_place end xs t
+  -- in front of the first section a null statement is no element
+  pub member_place : Bool → ℕ → Item → ℕ → Anchor
+  member_place begun switch (Declares first after d) t = Before first
+  member_place begun switch (States ls p) t =
+      elim (has_case ls) [
+        | true ↦ or_behind (section_place ls ls t) (plain_place p t)
+        | false ↦ elim (not begun && is_null ls p) [ true ↦ Before switch | false ↦ or_behind (labels_place ls t) (plain_place p t) ]
       ]
 
 -- ---- files
@@ -129,14 +129,17 @@ place_in (x ∷ xs) t = elim (nat_lt t (top_after x)) [ true ↦ top_place x t |
 
 -- ---- comments
 
--- the number of the token that follows a comment, which is the first that begins behind it
-abbrev pub next_token : List Token → Span → ℕ
-next_token [] c = 0
-next_token (t ∷ ts) c = cond (nat_lt t.start c.start) (suc (next_token ts c)) 0
+-- the number of the token that follows a comment at this offset: the first that begins behind it
+abbrev pub next_token : List Token → ℕ → ℕ
+next_token [] start = 0
+next_token (t ∷ ts) start = cond (nat_lt t.start start) (suc (next_token ts start)) 0
 
 abbrev pub comment_bytes : List ℕ → Span → List ℕ
 comment_bytes text c = slice_range text c.start c.end
 
+abbrev pub comment_place : List Token → List Top → Span → Anchor
+comment_place tokens file c = place_in file (next_token tokens c.start)
+
 -- the comments of a place, in order
 abbrev pub notes_of : List ℕ → List Token → List Span → List Top → Anchor → List (List ℕ)
-notes_of text tokens comments file anchor = map (comment_bytes text) (filter (λ c. same_place (place_in file (next_token tokens c)) anchor) comments)
+notes_of text tokens comments file anchor = map (comment_bytes text) (filter (λ c. same_place (comment_place tokens file c) anchor) comments)

@@ -11,6 +11,7 @@ mod flat_counter;
 mod function_names;
 mod functions;
 mod globals;
+mod labels;
 mod outermost;
 mod parameters;
 mod signatures;
