@@ -1,1 +1,5 @@
+pub mod Endings
+pub mod FirstTokens
+pub mod PassedOn
+pub mod Scopes
 pub mod Walks

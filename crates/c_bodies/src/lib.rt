@@ -2,7 +2,14 @@
 //! violations.
 #![tactic(auto)]
 
+mod elements;
+mod items;
+mod labels;
 mod notes;
+mod passing;
+mod reading;
+mod sections;
+mod simple;
 mod state;
 mod values;
 

@@ -3,8 +3,8 @@
 ghost use Rattle.std.specs.Prelude.{◌≡◌, ◌++◌, option_map, IfOk, OnOk};
 ghost use Rattle.c_bodies.specs.Views as views;
 ghost use Rattle.c_kinds.specs.Constants.{constant_of};
-ghost use Rattle.c_kinds.specs.Typing.{typed, constant_faults};
-ghost use Rattle.c_kinds.specs.Values.{value_of};
+ghost use Rattle.c_kinds.specs.Typing.{typed, constant_faults, faults as the_faults};
+ghost use Rattle.c_kinds.specs.Values.{value_of as the_value};
 ghost use Rattle.c_source.specs.ItemViews.{declaration_of};
 ghost use Rattle.c_source.specs.Parts.{term_of};
 ghost use Rattle.c_source.specs.Views.{words_of};
@@ -12,9 +12,11 @@ ghost use Rattle.c_statements.specs.Declarations as declarations;
 ghost use Rattle.c_statements.specs.Statements as spec;
 ghost use Rattle.c_statements.specs.Violations as violations;
 
-use crate::state::{FunctionContext, State};
+use crate::state::{FunctionContext, State, report_at};
 use c_grammar::Syntax;
-use c_kinds::{Valued, constant_expression, dropped_value, expression_of, used_value};
+use c_kinds::{
+    Valued, constant_expression, dropped_value, expression_of, typed_of, used_value, value_of,
+};
 use c_statements::{add_declaration, or_placeholder, value};
 use c_tree::{Expression, Item, Node};
 use c_types::{IntKind, List, Memory};
@@ -105,7 +107,7 @@ pub fn selector<'n, 'a>(
     x: &Syntax,
 ) -> Result<Selected, Memory>
     ensures value { IfOk result (λ s. s.expression ≡ declarations.value_at (views.env ctx.now state.old) (term_of (words_of ctx.now.words) x.now)) }
-    ensures kind { IfOk result (λ s. s.kind ≡ option_map (λ v. v.kind) (value_of (typed (views.env ctx.now state.old) (term_of (words_of ctx.now.words) x.now)))) }
+    ensures kind { IfOk result (λ s. s.kind ≡ option_map (λ v. v.kind) (the_value (typed (views.env ctx.now state.old) (term_of (words_of ctx.now.words) x.now)))) }
     ensures walk { OnOk result (views.walk_of state.new ≡ views.walk_of state.old) }
     ensures cases { OnOk result (state.new.cases ≡ state.old.cases) }
     ensures faults { OnOk result (state.new.faults ≡ declarations.value_faults (views.env ctx.now state.old) (term_of (words_of ctx.now.words) x.now) state.old.faults) }
@@ -142,4 +144,84 @@ pub fn add_variables<'n, 'a>(
         x,
         out,
     )
+}
+
+/// An expression where no value is wanted.
+#[tactic(auto, unfolding(crate::specs::Views::walk_of))]
+fn unwanted<'n, 'a>(
+    alloc: Global,
+    ctx: &FunctionContext<'n, 'a>,
+    state: &mut State<'a>,
+    x: &Syntax,
+) -> Result<Expression, Memory>
+    ensures value { IfOk result (λ e. e ≡ declarations.value_at (views.env ctx.now state.old) (term_of (words_of ctx.now.words) x.now)) }
+    ensures walk { OnOk result (views.walk_of state.new ≡ views.walk_of state.old) }
+    ensures cases { OnOk result (state.new.cases ≡ state.old.cases) }
+    ensures faults { OnOk result (state.new.faults ≡ the_faults (views.env ctx.now state.old) (term_of (words_of ctx.now.words) x.now) state.old.faults) }
+{
+    state.known.words = ctx.words;
+    let value = value_of(typed_of(alloc, &state.known, &mut state.faults, x)?);
+    Ok(or_placeholder(value))
+}
+
+/// The value of a `return`, by its first token, which a void function has none of.
+pub fn returned<'n, 'a>(
+    alloc: Global,
+    ctx: &FunctionContext<'n, 'a>,
+    state: &mut State<'a>,
+    first: u32,
+    x: &Syntax,
+) -> Result<Expression, Memory>
+    ensures value { IfOk result (λ e. e ≡ declarations.value_at (views.env ctx.now state.old) (term_of (words_of ctx.now.words) x.now)) }
+    ensures walk { OnOk result (views.walk_of state.new ≡ views.walk_of state.old) }
+    ensures cases { OnOk result (state.new.cases ≡ state.old.cases) }
+    ensures faults { OnOk result (state.new.faults ≡ violations.return_faults ctx.now.result (views.env ctx.now state.old) first (Some (term_of (words_of ctx.now.words) x.now)) state.old.faults) }
+{
+    if ctx.result.is_some() {
+        return used(alloc, ctx, state, x);
+    }
+    let e = unwanted(alloc, ctx, state, x)?;
+    match report_at(state, true, first, 25) {
+        Ok(()) => Ok(e),
+        Err(m) => {
+            drop(e);
+            Err(m)
+        }
+    }
+}
+
+/// The test of a `for`, if it has one.
+pub fn optional_used<'n, 'a>(
+    alloc: Global,
+    ctx: &FunctionContext<'n, 'a>,
+    state: &mut State<'a>,
+    x: Option<&Syntax>,
+) -> Result<Option<Expression>, Memory>
+    ensures value { IfOk result (λ e. e ≡ option_map (declarations.value_at (views.env ctx.now state.old)) (option_map (λ y. term_of (words_of ctx.now.words) y.now) x.entry)) }
+    ensures walk { OnOk result (views.walk_of state.new ≡ views.walk_of state.old) }
+    ensures cases { OnOk result (state.new.cases ≡ state.old.cases) }
+    ensures faults { OnOk result (state.new.faults ≡ violations.optional_faults (declarations.value_faults (views.env ctx.now state.old)) (option_map (λ y. term_of (words_of ctx.now.words) y.now) x.entry) state.old.faults) }
+{
+    match x {
+        Some(x) => Ok(Some(used(alloc, ctx, state, x)?)),
+        None => Ok(None),
+    }
+}
+
+/// The third part of a `for`, if it has one.
+pub fn optional_dropped<'n, 'a>(
+    alloc: Global,
+    ctx: &FunctionContext<'n, 'a>,
+    state: &mut State<'a>,
+    x: Option<&Syntax>,
+) -> Result<Option<Expression>, Memory>
+    ensures value { IfOk result (λ e. e ≡ option_map (spec.dropped_at (views.env ctx.now state.old)) (option_map (λ y. term_of (words_of ctx.now.words) y.now) x.entry)) }
+    ensures walk { OnOk result (views.walk_of state.new ≡ views.walk_of state.old) }
+    ensures cases { OnOk result (state.new.cases ≡ state.old.cases) }
+    ensures faults { OnOk result (state.new.faults ≡ violations.optional_faults (violations.dropped_faults (views.env ctx.now state.old)) (option_map (λ y. term_of (words_of ctx.now.words) y.now) x.entry) state.old.faults) }
+{
+    match x {
+        Some(x) => Ok(Some(dropped(alloc, ctx, state, x)?)),
+        None => Ok(None),
+    }
 }

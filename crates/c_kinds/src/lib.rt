@@ -20,4 +20,4 @@ pub use names::{Known, name_of};
 pub use scopes::{Scope, Scopes};
 pub use typed::{ArrayName, Fault, Given, Target, Typed, Valued, Variable};
 pub use typing::{constant_expression, dropped_value, typed_of, used_value};
-pub use values::{expression, expression_of};
+pub use values::{expression, expression_of, value_of};

@@ -58,6 +58,16 @@ pub names_at : (word : ℕ → List ℕ) (xs : List Syntax) (i : ℕ) (d : Synta
     → named_in (labels_of word (drop i xs)) rest ≡ name_in (label_of word (get_or xs i d)) (named_in (labels_of word (drop (i + 1) xs)) rest)
 names_at word xs i d rest h = rw (add-one, drop-cons xs i d) (one-name (label_of word (get_or xs i d)) (labels_of word (drop (suc i) xs)) rest)
 
+pub labels-none : (word : ℕ → List ℕ) (xs : List Syntax) (i : ℕ) (d : Syntax) → i < length xs → label_of word (get_or xs i d) ≡ None
+    → labels_of word (drop i xs) ≡ labels_of word (drop (i + 1) xs)
+labels-none word xs i d h e =
+    rw (add-one, drop-cons xs i d) (ap (λ o. elim o [ Some l ↦ l ∷ labels_of word (drop (suc i) xs) | None ↦ labels_of word (drop (suc i) xs) ]) e)
+
+pub labels-some : (word : ℕ → List ℕ) (xs : List Syntax) (i : ℕ) (d : Syntax) (y : Label) → i < length xs → label_of word (get_or xs i d) ≡ Some y
+    → labels_of word (drop i xs) ≡ y ∷ labels_of word (drop (i + 1) xs)
+labels-some word xs i d y h e =
+    rw (add-one, drop-cons xs i d) (ap (λ o. elim o [ Some l ↦ l ∷ labels_of word (drop (suc i) xs) | None ↦ labels_of word (drop (suc i) xs) ]) e)
+
 one-length : (word : ℕ → List ℕ) (o : Option Label) (ls : List Label) → longest_label word (elim o [ Some l ↦ l ∷ ls | None ↦ ls ]) ≡ max (length_in word o) (longest_label word ls)
 one-length word (Some l) ls = refl
 one-length word None ls = omega arith

@@ -1,10 +1,11 @@
 -- The case and default labels that belong to a switch, nested ones among them.
-use Rattle.std.specs.Prelude.{ℤ, Bool, true, false, List, [], ◌∷◌, ◌++◌, Option, Some, None}
+use Rattle.std.specs.Prelude.{ℕ, ℤ, Bool, true, false, List, [], ◌∷◌, ◌++◌, Option, Some, None}
 use Rattle.std.specs.BTreeSet.{insert_key}
 use Rattle.std.specs.List.{list_any}
 use Rattle.std.specs.Ordering.{eq_by_cmp, int_cmp}
 use Rattle.c_types.specs.declared.kinds.IntKind.{IntKind}
 use Rattle.c_types.specs.Numbers.{promoted, converted}
+use Rattle.c_tree.specs.declared.tree.Expression.{Expression}
 use Rattle.c_source.specs.Items.{Label, Named, Case, Default, Item, Declares, States, Plain, From, Statement, If, IfElse, While, DoWhile, For, Block, Body, Braces, Lone, Items, NoItem, Then}
 use Rattle.c_statements.specs.declared.entries.Entry.{Entry}
 use Rattle.c_statements.specs.declared.entries.Entry.TheVariants.{Value, Other}
@@ -15,10 +16,14 @@ use Rattle.c_statements.specs.Context.{Context, Walk, env_at, enter}
 use Rattle.c_statements.specs.Statements.{behind_start, behind_item, behind_body}
 
 -- behind those that were found before; a case without a value has a violation of its own
+abbrev pub case_entry : ℕ → Option (Expression × ℤ) → List Entry → List Entry
+case_entry at (Some c) found = found ++ Value at c.1 ∷ []
+case_entry at None found = found
+
 abbrev pub label_entry : Env → Label → List Entry → List Entry
 label_entry env (Named at after) found = found
 label_entry env (Default at after) found = found ++ Other at ∷ []
-label_entry env (Case at after t) found = elim (constant_of (typed env t)) [ Some c ↦ found ++ Value at c.1 ∷ [] | None ↦ found ]
+label_entry env (Case at after t) found = case_entry at (constant_of (typed env t)) found
 
 abbrev pub label_entries : Env → List Label → List Entry → List Entry
 label_entries env [] found = found

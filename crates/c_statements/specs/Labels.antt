@@ -107,21 +107,30 @@ abbrev pub labels_items : Context → Env → List Label → List item.Item
 labels_items ctx env [] = []
 labels_items ctx env (l ∷ ls) = label_items ctx env l ++ labels_items ctx env ls
 
--- of a section
+-- of a section: its named labels stand in its list, its cases and its default at its head
+abbrev pub label_marks : Context → Label → List item.Item
+label_marks ctx (Named at after) = mark ctx at
+label_marks ctx _ = []
+
+abbrev pub label_cases : Env → Label → List Expression
+label_cases env (Case at after t) = constant_at env t ∷ []
+label_cases env _ = []
+
+abbrev pub is_default : Label → Bool
+is_default (Default at after) = true
+is_default _ = false
+
 abbrev pub section_marks : Context → List Label → List item.Item
 section_marks ctx [] = []
-section_marks ctx (Named at after ∷ ls) = mark ctx at ++ section_marks ctx ls
-section_marks ctx (_ ∷ ls) = section_marks ctx ls
+section_marks ctx (l ∷ ls) = label_marks ctx l ++ section_marks ctx ls
 
 abbrev pub section_cases : Env → List Label → List Expression
 section_cases env [] = []
-section_cases env (Case at after t ∷ ls) = constant_at env t ∷ section_cases env ls
-section_cases env (_ ∷ ls) = section_cases env ls
+section_cases env (l ∷ ls) = label_cases env l ++ section_cases env ls
 
 abbrev pub has_default : List Label → Bool
 has_default [] = false
-has_default (Default at after ∷ ls) = true
-has_default (_ ∷ ls) = has_default ls
+has_default (l ∷ ls) = is_default l || has_default ls
 
 -- ---- violations: a case or default label outside of a switch
 

@@ -1,0 +1,47 @@
+-- One item of a switch's body: the sections that are closed before it and read behind it, and its violations.
+use Rattle.std.specs.Prelude.{ℕ, Bool, true, false, cond, not, ◌&&◌, List, [], ◌∷◌, Option, Some, None}
+use Rattle.c_bodies.specs.declared.reading.Reading as declared
+use Rattle.c_kinds.specs.Scopes.{Faults, fault_if}
+use Rattle.c_source.specs.Items.{Label, label_first, Item, Declares, States, Items, item_first}
+use Rattle.c_statements.specs.Context.{Context, Walk, Around, env_at}
+use Rattle.c_statements.specs.Labels.{has_case}
+use Rattle.c_statements.specs.Sections.{Reading, extended, closed}
+use Rattle.c_statements.specs.Statements.{begun, plain_items, item_items}
+use Rattle.c_statements.specs.Violations.{is_null, item_faults, list_faults, outside_faults}
+use Rattle.c_tree.specs.declared.tree.Section.{Section}
+
+-- the first token of the first label
+abbrev pub first_of : List Label → Option ℕ
+first_of [] = None
+first_of (l ∷ ls) = Some (label_first l)
+
+-- whether it begins a section
+abbrev pub begins : Item → Bool
+begins (Declares first after d) = false
+begins (States ls p) = has_case ls
+
+-- what is read of a section; nothing in front of the first, where no item stands there
+abbrev pub reading_of : declared.Reading → Option Reading
+reading_of r = cond r.begun (Some (record { cases = r.cases; default = r.default; list = r.list })) (extended None r.list)
+
+abbrev pub closed_before : Option Reading → Item → List Section
+closed_before r x = cond (begins x) (closed r) []
+
+abbrev pub reading_behind : Context → Option Reading → Item → Walk → Option Reading
+reading_behind ctx r (Declares first after d) w = extended r (item_items ctx (Declares first after d) w)
+reading_behind ctx r (States ls p) w = cond (has_case ls) (begun ctx (env_at ctx w) ls (plain_items ctx p w)) (extended r (item_items ctx (States ls p) w))
+
+-- whether it is an element where it stands in front of the first section
+abbrev pub is_element : Item → Bool
+is_element (Declares first after d) = true
+is_element (States ls p) = not (is_null ls p)
+
+abbrev pub is_outside : Bool → Item → Bool
+is_outside begun x = not begun && not (begins x) && is_element x
+
+-- of an item, where a section was begun or not
+abbrev pub section_item_faults : Context → Around → Bool → Item → Walk → Faults → Faults
+section_item_faults ctx around begun x w vs = fault_if (is_outside begun x) (item_first x) 29 (item_faults ctx around x w vs)
+
+abbrev pub section_faults : Context → Around → Bool → Items → Walk → Faults → Faults
+section_faults ctx around begun xs w vs = cond begun (list_faults ctx around xs w vs) (outside_faults ctx around xs w vs)

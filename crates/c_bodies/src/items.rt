@@ -1,0 +1,67 @@
+//! Items put behind others.
+
+ghost use Rattle.std.specs.Prelude.{◌≡◌, ◌++◌, ◌∷◌, [], OnOk};
+ghost use Rattle.c_tree.specs.declared.tree.Item as item;
+ghost use Rattle.c_tree.specs.declared.tree.Selector as selector;
+ghost use Rattle.c_tree.specs.declared.tree.Test as test;
+
+use c_tree::{Expression, Item, Section, Selector, Test};
+use c_types::{List, Memory};
+
+pub fn push_if(
+    out: &mut List<Item>,
+    e: Expression,
+    then: List<Item>,
+    other: List<Item>,
+) -> Result<(), Memory>
+    ensures { OnOk result (out.new ≡ out.old ++ item.If (test.Source e) then other ∷ []) }
+{
+    out.push(Item::If(Test::Source(e), then, other))
+}
+
+pub fn push_while(out: &mut List<Item>, e: Expression, body: List<Item>) -> Result<(), Memory>
+    ensures { OnOk result (out.new ≡ out.old ++ item.While (test.Source e) body ∷ []) }
+{
+    out.push(Item::While(Test::Source(e), body))
+}
+
+pub fn push_do(out: &mut List<Item>, body: List<Item>, e: Expression) -> Result<(), Memory>
+    ensures { OnOk result (out.new ≡ out.old ++ item.Do body (test.Source e) ∷ []) }
+{
+    out.push(Item::Do(body, Test::Source(e)))
+}
+
+pub fn push_for(
+    out: &mut List<Item>,
+    start: List<Item>,
+    heads: Heads,
+    body: List<Item>,
+) -> Result<(), Memory>
+    ensures { OnOk result (out.new ≡ out.old ++ item.For start heads.test heads.third body ∷ []) }
+{
+    let Heads { test, third } = heads;
+    out.push(Item::For(start, test, third, body))
+}
+
+pub fn push_switch(
+    out: &mut List<Item>,
+    e: Expression,
+    sections: List<Section>,
+) -> Result<(), Memory>
+    ensures { OnOk result (out.new ≡ out.old ++ item.Switch (selector.Source e) sections ∷ []) }
+{
+    out.push(Item::Switch(Selector::Source(e), sections))
+}
+
+pub fn push_block(out: &mut List<Item>, body: List<Item>) -> Result<(), Memory>
+    ensures { OnOk result (out.new ≡ out.old ++ item.Block body ∷ []) }
+{
+    out.push(Item::Block(body))
+}
+
+/// The test and the third part of a `for`, where they are written.
+#[derive(Drop)]
+pub struct Heads {
+    pub test: Option<Expression>,
+    pub third: Option<Expression>,
+}
