@@ -7,7 +7,7 @@ use Rattle.c_types.specs.declared.kinds.IntKind.{IntKind}
 use Rattle.c_types.specs.declared.kinds.IntKind.TheVariants.{Int}
 use Rattle.c_types.specs.Numbers.{converted}
 use Rattle.c_tree.specs.Constants.{constant_value}
-use Rattle.c_tree.specs.Cases.{selector_source, all_cases, case_number}
+use Rattle.c_tree.specs.Cases.{selector_source, all_cases}
 use Rattle.c_tree.specs.Exits.{breaks, continues}
 use Rattle.c_tree.specs.ExpressionTrees.{ExpressionTree}
 use Rattle.c_tree.specs.Numerals.{number}
@@ -22,7 +22,6 @@ use Rattle.loose_core.specs.Loose.{Setting, Arrivals, NoArrival, Arrives}
 use Rattle.flat_core.specs.Parts.{is_scattered, holds_jump, kept_breaks, variables_of, Here, past, past_item, inside, Ending, Gone, Breaks, Jumps, Otherwise, ending, is_gone}
 use Rattle.flat_core.specs.FlatForm.{Plan, names_of, scatter_aim, otherwise_label, end_goto, aim, exit, is_jumpy_switch, initialised, mark_if, arrival, dissolved, if_breaks, flat_for, flat, flat_item, flat_last, flat_last_item, flat_sections, spread}
 use Rattle.flat_core.specs.Source.{IsVariable, IfTrue, HaveVariables, HasVariables, HaveVariablesAmong}
-use Rattle.c_resolved.specs.Within.{TestExpression}
 use Rattle.plain_resolved.proofs.Facts.{ItemHas}
 
 -- a switch that stays keeps its cases

@@ -3,11 +3,9 @@ use Rattle.std.proofs.Common.{ℕ, Bool, List, ◌++◌, Option, ◌≡◌, refl
 use Rattle.std.specs.List.{AllByRecursion}
 use Rattle.c_tree.specs.declared.tree.Item.{Item}
 use Rattle.c_tree.specs.Cases.{selector_source, all_cases}
-use Rattle.c_tree.specs.Changed.{Changed}
-use Rattle.c_tree.specs.Conversions.{convert, convert_sections}
+use Rattle.c_tree.specs.Conversions.{convert_sections}
 use Rattle.c_tree.specs.Everywhere.{Everywhere}
 use Rattle.c_tree.specs.ExpressionTrees.{ExpressionTree}
-use Rattle.c_tree.specs.Moves.{Moved}
 use Rattle.c_tree.specs.Trees.{Tree, Forest, Sections, NoSection, Section, trees_of}
 use Rattle.c_tree.proofs.KeptLemmas.{IsKept, changed_kept}
 use Rattle.conversion_core.proofs.ConvertedTrees.{converted_trees}
@@ -18,9 +16,8 @@ use Rattle.flat_core.specs.Unlabelled.{unlabelled, unlabelled_among}
 use Rattle.guard_simplify.specs.declared.choice.Choice.{Choice}
 use Rattle.guard_simplify.specs.Application.{Reaches}
 use Rattle.guard_vars.specs.Conversion.{converted_list}
-use Rattle.simpler_core.specs.Simplifications.{Simplified}
 use Rattle.simpler_core.proofs.Kept.{IsOfLabels, shorter_kept, round_kept, selector_kept, IsStable, simplified_kept}
-use Rattle.unread_guards.specs.Drops.{dropped, dropped_sections}
+use Rattle.unread_guards.specs.Drops.{dropped_sections}
 use Rattle.unread_guards.proofs.DroppedItems.{Becomes, becomes}
 use Rattle.c_resolved.specs.Within.{TestExpression}
 use Rattle.whole_core.proofs.BodiesKept.{derived_kept, reached_kept}

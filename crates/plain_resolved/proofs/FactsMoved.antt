@@ -1,31 +1,29 @@
 -- Facts of the expressions of a source body come to its plain form.
-use Rattle.std.proofs.Common.{◌≡◌, ℕ, ℤ, ◌<◌, ◌≤◌, ◌+◌, pos, true, List, length, map, Option, Some, None, option_map, IsSome, refl, sym, ap, subst, ◌∙◌, arith}
+use Rattle.std.proofs.Common.{◌≡◌, ℕ, ◌<◌, ◌≤◌, ◌+◌, pos, true, List, length, Option, Some, None, option_map, IsSome, sym, ap, subst, ◌∙◌, arith}
 use Rattle.std.specs.Prelude.{IfSome}
 use Rattle.c_types.specs.declared.kinds.IntKind.{IntKind}
 use Rattle.c_types.specs.declared.kinds.IntKind.TheVariants.{Int}
 use Rattle.c_types.specs.Numbers.{promoted}
-use Rattle.c_tree.specs.declared.tree.Item.{Item}
 use Rattle.c_tree.specs.declared.tree.Function.{Function}
-use Rattle.c_tree.specs.Cases.{selector_source, selector_kind, ArePicks}
+use Rattle.c_tree.specs.Cases.{selector_source, ArePicks}
 use Rattle.c_tree.specs.Constants.{kind_of}
 use Rattle.c_tree.specs.ExpressionTrees.{ExpressionTree}
 use Rattle.c_tree.specs.Numerals.{number, constant}
 use Rattle.c_tree.specs.TestTrees.{SelectorTree}
-use Rattle.c_tree.specs.Trees.{Tree, Forest, Nil, Then, Sections, Evaluate, Return, If, While, Do, For, Switch, Block, Local, Break, Continue, Goto, Mark, Arm, Leap, Land, Arrival, Note, join, trees_of}
+use Rattle.c_tree.specs.Trees.{Tree, Forest, Nil, Then, Evaluate, Return, If, While, Do, For, Switch, Block, Local, Break, Continue, Goto, Mark, Arm, Leap, Land, Arrival, Note, join, trees_of}
 use Rattle.c_tree.specs.Everywhere.{total, Everywhere}
 use Rattle.c_tree.specs.InRange.{body_of}
-use Rattle.c_tree.specs.Labels.{ItemLabels}
 use Rattle.c_tree.specs.WellMade.{HasSelectorKind, HasPicks}
 use Rattle.c_tree.proofs.WellMoved.{everywhere_map, everywhere_both}
 use Rattle.jump_meaning.specs.Operations.{operand_kind}
 use Rattle.jump_meaning.specs.Step.{switch_kind}
-use Rattle.loose_core.specs.Pieces.{Stays, assign_number, is_number}
+use Rattle.loose_core.specs.Pieces.{Stays, assign_number}
 use Rattle.loose_core.specs.Loose.{NoArrival}
 use Rattle.flat_core.specs.Parts.{variables_of}
-use Rattle.flat_core.specs.FlatForm.{flat, flat_body, first_here}
+use Rattle.flat_core.specs.FlatForm.{flat_body, first_here}
 use Rattle.flat_core.specs.Source.{IsVariable, HaveVariables}
 use Rattle.flat_core.specs.Unlabelled.{unlabelled}
-use Rattle.plain_core.specs.Plain.{tidied, labels_left, names_left, slot_among, guarded_body, declared}
+use Rattle.plain_core.specs.Plain.{labels_left, slot_among, declared}
 use Rattle.plain_core.specs.GuardSlots.{plain_list}
 use Rattle.plain_core.specs.Tidied.{tidy}
 use Rattle.plain_core.specs.Slotted.{ArmLabels, PicksFit, AreDeclarations, none, one_more, variable, guarding}

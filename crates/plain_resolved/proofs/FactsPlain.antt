@@ -1,6 +1,6 @@
 -- A body in which guards are variables, and sections have their plain form, has facts of its expressions, where the body
 -- has them and the expressions that guards become have them.
-use Rattle.std.proofs.Common.{ℕ, ℤ, pos, Bool, true, false, not, ◌&&◌, cond, List, [], ◌∷◌, ◌++◌, Option, Some, None, ◌≡◌, refl, sym, ap, subst, ◌∙◌, append_assoc}
+use Rattle.std.proofs.Common.{ℕ, pos, Bool, true, false, not, ◌&&◌, cond, List, ◌++◌, Option, Some, None, ◌≡◌, refl, sym, ap, subst, ◌∙◌, append_assoc}
 use Rattle.std.specs.Prelude.{IfSome}
 use Rattle.std.specs.List.{AllByRecursion}
 use Rattle.c_types.specs.declared.kinds.IntKind.TheVariants.{Int}

@@ -1,6 +1,5 @@
 -- The names of the plain form of a resolved program are bound.
-use Rattle.std.proofs.Common.{◌≡◌, ◌≢◌, ℕ, ◌<◌, ◌≤◌, Bool, true, false, true≢false, cond, ◌||◌, List, [], ◌∷◌, length, map, take, Option, Some, None, refl, sym, ap, subst, ◌∙◌, bytes_eq, codes}
-use Rattle.std.specs.Prelude.{IfSome}
+use Rattle.std.proofs.Common.{◌≡◌, ◌≢◌, ℕ, ◌<◌, ◌≤◌, Bool, true, false, true≢false, cond, ◌||◌, List, [], ◌∷◌, length, map, take, Option, Some, None, refl, sym, ap, subst, ◌∙◌, bytes_eq}
 use Rattle.std.specs.List.{list_any}
 use Rattle.std.specs.Option.{option_or, option_map_or}
 use Rattle.std.proofs.lemmas.Slice.Eq.{bytes_eq-Decides}
@@ -11,18 +10,13 @@ use Rattle.c_tree.specs.declared.tree.Item.{Item}
 use Rattle.c_tree.specs.declared.tree.Top.{Top}
 use Rattle.c_tree.specs.declared.tree.Top.TheVariants as T
 use Rattle.c_tree.specs.declared.tree.Program.{Program}
-use Rattle.c_tree.specs.declared.tree.Slot.{Slot}
 use Rattle.c_tree.specs.Slots.{ItemSlots}
-use Rattle.c_tree.specs.Trees.{Tree, Forest, Nil, Evaluate, Return, If, While, Do, For, Switch, Block, Local, Break, Continue, Goto, Mark, Arm, Leap, Land, Arrival, Note, trees_of}
+use Rattle.c_tree.specs.Trees.{Tree, Nil, Evaluate, Return, If, While, Do, For, Switch, Block, Local, Break, Continue, Goto, Mark, Arm, Leap, Land, Arrival, Note, trees_of}
 use Rattle.c_tree.specs.Everywhere.{Everywhere}
 use Rattle.c_tree.specs.InRange.{body_of}
 use Rattle.c_tree.proofs.WellMoved.{everywhere_map, everywhere_both}
-use Rattle.flat_core.specs.Unlabelled.{unlabelled}
-use Rattle.plain_core.specs.Tidied.{tidy}
-use Rattle.whole_core.specs.Rewritten.{IsNoFunction}
 use Rattle.c_resolved.specs.Within.{Each}
-use Rattle.c_resolved.specs.Form.{declared_slot}
-use Rattle.c_resolved.specs.Scopes.{Meaning, AConstant, AVariable, AFunction, Scope, found, look_up, bind, inside, AreBound, with_parameters, AreNewParameters, BodyIsBound, bind_constants, behind_top, IsFunctionName, FunctionIsBound, TopIsBound, TopsAreBound, at_start}
+use Rattle.c_resolved.specs.Scopes.{Meaning, AConstant, AFunction, Scope, found, look_up, bind, inside, AreBound, with_parameters, AreNewParameters, BodyIsBound, bind_constants, behind_top, IsFunctionName, FunctionIsBound, TopIsBound, TopsAreBound, at_start}
 use Rattle.c_resolved.specs.Limits.{FlatCounts}
 use Rattle.c_resolved.specs.Resolved.{IsResolvedFunction, IsResolvedTop}
 use Rattle.resolved_core.proofs.Ranged.{function_ranged}
@@ -33,7 +27,7 @@ use Rattle.plain_resolved.proofs.PlainBound.{moved_bound}
 use Rattle.plain_resolved.proofs.PlainTops.{IsMovedForm, IsUnmovedForm, PlainTop, pt_moved, pt_unmoved, pt_declared, pt_other, PlainTops, pt_none, pt_more}
 use Rattle.plain_resolved.proofs.SameFile.{SameDeclaration}
 use Rattle.plain_resolved.proofs.SameTops.{moved_declared, unmoved_declared, unmoved_slots}
-use Rattle.plain_resolved.proofs.ScopeLists.{slot_in, IsNoSlot, other_name, parameters_take, new_take}
+use Rattle.plain_resolved.proofs.ScopeLists.{slot_in, IsNoSlot, other_name, new_take}
 use Rattle.plain_resolved.proofs.SourceBound.{DeclaresIn}
 use Rattle.plain_resolved.proofs.UnmovedBound.{bound_unmoved}
 

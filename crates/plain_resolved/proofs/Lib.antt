@@ -21,3 +21,9 @@ pub mod SourceBound
 pub mod PlainBound
 pub mod UnmovedBound
 pub mod FileBound
+pub mod PrintsOver
+pub mod PlainSpelled
+pub mod MovedSpelled
+pub mod UnmovedSpelled
+pub mod FileSpelled
+pub mod Resolved

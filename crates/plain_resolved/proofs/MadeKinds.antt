@@ -1,21 +1,20 @@
 -- Kinds agree in the expressions that the rewriting makes.
-use Rattle.std.proofs.Common.{◌≡◌, ℕ, suc, ◌+◌, ◌-◌, ◌<◌, ◌≤◌, ℤ, pos, negsuc, int_le, Bool, true, false, cond, List, [], ◌∷◌, length, Option, Some, None, IsSome, slice_get, option_map, refl, sym, ap, subst, ◌∙◌, arith}
-use Rattle.std.specs.Prelude.{IfSome, IsSomeAnd}
+use Rattle.std.proofs.Common.{◌≡◌, ℕ, suc, ℤ, pos, negsuc, int_le, Bool, true, false, cond, Option, Some, None, IsSome, slice_get, refl, sym, ap, subst, ◌∙◌, arith}
+use Rattle.std.specs.Prelude.{IsSomeAnd}
 use Rattle.std.proofs.lemmas.Int.{ints}
 use Rattle.c_types.specs.declared.kinds.IntKind.{IntKind}
 use Rattle.c_types.specs.declared.kinds.IntKind.TheVariants.{Char, UChar, Int, UInt, Long, ULong}
-use Rattle.c_types.specs.declared.kinds.ArithOp.TheVariants.{Sub}
 use Rattle.c_types.specs.Numbers.{promoted, usual_kind, converted, least, greatest, IsInRange}
 use Rattle.c_types.proofs.Residues.{converted-in_range}
 use Rattle.c_tree.specs.declared.tree.Slot.{Slot}
 use Rattle.c_tree.specs.declared.tree.Home.TheVariants as Home
-use Rattle.c_tree.specs.declared.tree.UnaryOp.TheVariants.{Minus, Not}
-use Rattle.c_tree.specs.declared.tree.BinaryOp.TheVariants.{Arith, Equal, Unequal, AndThen, OrElse}
+use Rattle.c_tree.specs.declared.tree.UnaryOp.TheVariants.{Minus}
+use Rattle.c_tree.specs.declared.tree.BinaryOp.TheVariants.{Equal, Unequal, AndThen, OrElse}
 use Rattle.c_tree.specs.Constants.{kind_of, HasKind}
-use Rattle.c_tree.specs.ExpressionTrees.{ExpressionTree, Typed, Var, Cell, Number, Read, Unary, Binary, Conditional, Assign}
+use Rattle.c_tree.specs.ExpressionTrees.{ExpressionTree, Typed, Var, Read, Unary, Binary}
 use Rattle.c_tree.specs.Numerals.{number, least_constant, constant}
 use Rattle.c_tree.proofs.NumeralLaws.{constant_pos}
-use Rattle.loose_core.specs.Pieces.{assign_number, assign_cell, zero_tree, is_number}
+use Rattle.loose_core.specs.Pieces.{assign_number, assign_cell, is_number}
 use Rattle.plain_core.specs.GuardSlots.{guard, guard_off, is_truth, unequal_zero, truth, picked}
 use Rattle.c_tree.specs.TestTrees.{SelectorTree, Selects, Pick}
 use Rattle.c_tree.specs.Cases.{selector_source, ArePicks}

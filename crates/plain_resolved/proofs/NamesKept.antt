@@ -1,6 +1,6 @@
 -- Expressions whose kinds agree and that assign no const variable, where the names stand for variables of the same kinds
 -- and for the same functions.
-use Rattle.std.proofs.Common.{ℕ, zero, suc, Bool, false, List, [], ◌∷◌, ◌++◌, Option, Some, None, IsSome, ◌⊎◌, inl, inr, slice_get, take, drop, ◌≡◌, refl, sym, ap, subst, ◌∙◌}
+use Rattle.std.proofs.Common.{ℕ, zero, suc, Bool, false, List, [], ◌∷◌, ◌++◌, Option, Some, None, IsSome, inl, inr, slice_get, take, drop, ◌≡◌, refl, sym, ap, subst, ◌∙◌}
 use Rattle.std.specs.Prelude.{IsSomeAnd}
 use Rattle.c_types.specs.declared.kinds.IntKind.{IntKind}
 use Rattle.c_tree.specs.declared.tree.Slot.{Slot}
@@ -10,7 +10,7 @@ use Rattle.c_tree.specs.ExpressionTrees.{ExpressionTree, PlaceTree, Arguments, T
 use Rattle.loose_core.specs.Loose.{ExtendSlots}
 use Rattle.c_resolved.specs.Within.{Each, Within}
 use Rattle.c_resolved.specs.Names.{Names, Callee, Plain, Printf, Unknown, variable, home_of, callee}
-use Rattle.c_resolved.specs.Kinds.{IsOperand, HasValue, IsNumber, IsArray, PlaceAgrees, KeepsConst, IsArrayFor, FitsCells, ArgumentFits, ArgumentsFit, CallFits, KindAgrees, KindsAgree, IsWritable, WritesNoConst}
+use Rattle.c_resolved.specs.Kinds.{HasValue, IsNumber, IsArray, PlaceAgrees, KeepsConst, IsArrayFor, FitsCells, ArgumentsFit, CallFits, KindAgrees, KindsAgree, IsWritable, WritesNoConst}
 use Rattle.resolved_core.proofs.OneScope.{within_map}
 
 -- ---- variables

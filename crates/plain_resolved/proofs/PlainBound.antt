@@ -1,10 +1,9 @@
 -- The names of a function of the plain form are bound.
-use Rattle.std.proofs.Common.{◌≡◌, ◌≢◌, ℕ, zero, suc, ◌+◌, ◌-◌, ◌<◌, ◌≤◌, ℤ, pos, int_le, neg_ℤ, Bool, true, false, cond, List, [], ◌∷◌, ◌++◌, length, map, take, drop, Option, Some, None, slice_get, refl, sym, ap, subst, ◌∙◌, arith}
+use Rattle.std.proofs.Common.{◌≡◌, ◌≢◌, ℕ, zero, suc, ◌-◌, ◌<◌, ◌≤◌, ℤ, pos, int_le, neg_ℤ, Bool, true, false, cond, List, [], ◌∷◌, length, map, take, drop, Option, Some, None, refl, sym, ap, subst, ◌∙◌, arith}
 use Rattle.std.specs.Prelude.{IfSome}
 use Rattle.std.specs.Option.{option_or}
 use Rattle.std.specs.List.{AllByRecursion}
 use Rattle.c_types.specs.declared.kinds.IntKind.{IntKind}
-use Rattle.c_types.specs.declared.kinds.IntKind.TheVariants.{Int}
 use Rattle.c_types.specs.Numbers.{least, converted}
 use Rattle.c_types.specs.Words.{is_known}
 use Rattle.c_tree.specs.declared.tree.Slot.{Slot}
@@ -12,36 +11,32 @@ use Rattle.c_tree.specs.declared.tree.Function.{Function}
 use Rattle.c_tree.specs.declared.tree.Top.{Top}
 use Rattle.c_tree.specs.declared.tree.Home.TheVariants as Home
 use Rattle.c_tree.specs.declared.tree.UnaryOp.TheVariants.{Minus}
-use Rattle.c_tree.specs.Cases.{selector_source, all_cases, ArePicks}
+use Rattle.c_tree.specs.Cases.{selector_source}
 use Rattle.c_tree.specs.ExpressionTrees.{ExpressionTree, Typed, Unary}
 use Rattle.c_tree.specs.Labels.{SelectorLabels}
 use Rattle.c_tree.specs.Numerals.{number, least_constant, constant}
-use Rattle.c_tree.specs.Slots.{ItemSlots}
 use Rattle.c_tree.specs.TestTrees.{SelectorTree, Selects, Pick}
 use Rattle.c_tree.specs.TextExpressions.{slot_name}
-use Rattle.c_tree.specs.Trees.{Tree, Forest, Nil, Then, Evaluate, Return, If, While, Do, For, Switch, Block, Local, Break, Continue, Goto, Mark, Arm, Leap, Land, Arrival, Note, join, trees_of}
+use Rattle.c_tree.specs.Trees.{Tree, Evaluate, Return, If, While, Do, For, Switch, Block, Local, Break, Continue, Goto, Mark, Arm, Leap, Land, Arrival, Note, trees_of}
 use Rattle.c_tree.specs.Everywhere.{Everywhere}
-use Rattle.c_tree.specs.InRange.{body_of, IsInRange}
+use Rattle.c_tree.specs.InRange.{body_of}
 use Rattle.c_tree.specs.WellMade.{IsConverted}
 use Rattle.c_tree.proofs.KeptLemmas.{everywhere_back}
 use Rattle.c_tree.proofs.WellMoved.{everywhere_map, everywhere_both}
-use Rattle.jump_meaning.specs.Code.{entry_or}
-use Rattle.jump_meaning.specs.World.{no_slot}
 use Rattle.jump_meaning.specs.Step.{switch_kind}
-use Rattle.loose_core.specs.Pieces.{assign_number, assign_cell, assigned_cells, is_number}
-use Rattle.flat_core.specs.FlatForm.{assigned, initialised}
+use Rattle.loose_core.specs.Pieces.{assign_number, assigned_cells}
+use Rattle.flat_core.specs.FlatForm.{assigned}
 use Rattle.flat_core.specs.Source.{IsVariable}
-use Rattle.plain_core.specs.GuardSlots.{is_truth, unequal_zero, truth, picked, plain_selector, plain_list, plain_item}
-use Rattle.plain_core.specs.Plain.{declared}
-use Rattle.plain_core.specs.Tidied.{tidy, tidy_item}
+use Rattle.plain_core.specs.GuardSlots.{is_truth, unequal_zero, truth, picked, plain_item}
+use Rattle.plain_core.specs.Tidied.{tidy}
 use Rattle.plain_core.proofs.LeftLabels.{slot_below, slot_within}
 use Rattle.plain_core.proofs.PlainFunctions.{are_declared, tidy_declared}
 use Rattle.plain_core.proofs.PlainRange.{tidy_everywhere, plain_everywhere}
-use Rattle.whole_core.specs.Rewritten.{plan_of, setting}
+use Rattle.whole_core.specs.Rewritten.{setting}
 use Rattle.whole_core.proofs.Unlabelled.{IsPlainItem}
-use Rattle.c_resolved.specs.Within.{Each, AllDiffer, TestExpression}
-use Rattle.c_resolved.specs.Form.{gathered, declared_slot, numbers_from}
-use Rattle.c_resolved.specs.Scopes.{Meaning, AVariable, Scope, found, look_up, inside, behind_all, IsBound, AreBound, with_parameters}
+use Rattle.c_resolved.specs.Within.{Each, AllDiffer}
+use Rattle.c_resolved.specs.Form.{numbers_from}
+use Rattle.c_resolved.specs.Scopes.{Meaning, AVariable, Scope, found, look_up, inside, IsBound, AreBound, with_parameters}
 use Rattle.resolved_core.specs.Laws.{BindsNothing}
 use Rattle.resolved_core.proofs.OneScope.{one_scope}
 use Rattle.resolved_core.proofs.Ranged.{each_map}
@@ -55,7 +50,7 @@ use Rattle.plain_resolved.proofs.PlainForms.{decls, items, moved_length, moved_w
 use Rattle.plain_resolved.proofs.PlainLengths.{OfLocals, locals_tidy}
 use Rattle.plain_resolved.proofs.PlainTops.{IsMovedForm}
 use Rattle.plain_resolved.proofs.SameTops.{moved_declared, moved_params}
-use Rattle.plain_resolved.proofs.ScopeLists.{slot_in, IsNoSlot, none_some, parameter_scope, parameters_bound, parameters_take, found_beside, FromParameters, parameter, before, parameters_found, declared_scope, declarations_bind, found_undeclared, found_declared, declarations_bound, bound_join, names_from}
+use Rattle.plain_resolved.proofs.ScopeLists.{IsNoSlot, none_some, parameter_scope, parameters_bound, parameters_take, found_beside, FromParameters, parameter, before, parameters_found, declared_scope, declarations_bind, found_undeclared, found_declared, declarations_bound, bound_join, names_from}
 use Rattle.plain_resolved.proofs.SourceBound.{DeclaresIn, slot_some, not_slot, source_seen}
 use Rattle.plain_resolved.proofs.TidyForm.{plain_of, tidy_plain}
 
@@ -73,7 +68,7 @@ each_both : {X : Type 0} (P Q : X → Type 0) (xs : List X) → Each P xs → Ea
 each_both P Q [] h i = tt
 each_both P Q (x ∷ xs) h i = ((h.0, i.0), each_both P Q xs h.1 i.1)
 
-first_name : (k n : ℕ) (ss ts : List Slot) → take n ts ≡ take n ss → k < n → slot_name ts k ≡ slot_name ss k
+pub first_name : (k n : ℕ) (ss ts : List Slot) → take n ts ≡ take n ss → k < n → slot_name ts k ≡ slot_name ss k
 first_name k zero ss ts e b = absurd (omega (arith, b))
 first_name k (suc n) [] [] e b = refl
 first_name k (suc n) [] (t ∷ ts) e b = cc

@@ -1,17 +1,15 @@
 -- The cases of the switches of the plain form.
-use Rattle.std.proofs.Common.{◌≡◌, ◌≢◌, ℕ, zero, suc, ◌+◌, ◌<◌, ◌≤◌, ℤ, Bool, true, false, List, [], ◌∷◌, ◌++◌, map, length, Option, Some, None, option_map, IsSome, All, AllPairs, refl, sym, ap, subst, ◌∙◌, arith, append_assoc}
+use Rattle.std.proofs.Common.{◌≡◌, ◌≢◌, ℕ, zero, suc, ◌+◌, ◌<◌, ◌≤◌, Bool, true, false, List, [], ◌∷◌, ◌++◌, map, length, Option, Some, None, option_map, IsSome, AllPairs, refl, sym, ap, subst, ◌∙◌, arith, append_assoc}
 use Rattle.std.specs.Prelude.{IfSome, IsSomeAnd}
 use Rattle.std.specs.List.{AllByRecursion}
 use Rattle.std.proofs.lemmas.List.Elements.{recursion_from_All}
 use Rattle.c_types.specs.declared.kinds.IntKind.{IntKind}
 use Rattle.c_types.specs.Numbers.{promoted}
 use Rattle.c_tree.specs.declared.tree.Function.{Function}
-use Rattle.c_tree.specs.declared.tree.Top.{Top}
 use Rattle.c_tree.specs.ExpressionTrees.{ExpressionTree}
 use Rattle.c_tree.specs.TestTrees.{TestTree, Source as SourceTest, On, Off, AndOff, OrOn, SelectorTree, Selects, Pick}
 use Rattle.c_tree.specs.Cases.{selector_source, selector_kind, all_cases, defaults, case_number, AreCases}
 use Rattle.c_tree.specs.Constants.{kind_of}
-use Rattle.c_tree.specs.Numerals.{constant}
 use Rattle.c_tree.specs.Trees.{Tree, Forest, Nil, Then, Sections, NoSection, Section, Evaluate, Return, If, While, Do, For, Switch, Block, Local, Break, Continue, Goto, Mark, Arm, Leap, Land, Arrival, Note, join, trees_of}
 use Rattle.c_tree.specs.Everywhere.{Everywhere, EverywhereOf, EverywhereIn}
 use Rattle.c_tree.specs.InRange.{body_of}
@@ -22,7 +20,7 @@ use Rattle.jump_meaning.specs.Operations.{operand_kind}
 use Rattle.jump_meaning.specs.Step.{switch_kind}
 use Rattle.loose_core.specs.Pieces.{assigned_cells}
 use Rattle.flat_core.specs.Parts.{is_scattered}
-use Rattle.flat_core.specs.FlatForm.{assigned, initialised}
+use Rattle.flat_core.specs.FlatForm.{assigned}
 use Rattle.flat_core.specs.Unlabelled.{unlabelled, unlabelled_item, unlabelled_among}
 use Rattle.plain_core.specs.GuardSlots.{plain_list, plain_item, plain_sections, picked, plain_selector}
 use Rattle.plain_core.specs.Plain.{declared}
@@ -31,14 +29,11 @@ use Rattle.plain_core.specs.Tidied.{tidy, tidy_item, tidy_sections}
 use Rattle.plain_core.proofs.PlainFunctions.{are_declared}
 use Rattle.plain_core.proofs.PlainRange.{tidy_everywhere, plain_everywhere, join_everywhere}
 use Rattle.plain_core.proofs.Statements.{picked_kind}
-use Rattle.whole_core.specs.Rewritten.{plan_of, setting}
 use Rattle.whole_core.proofs.Unlabelled.{IsPlainItem, IsLeaf, IsLeft, left}
 use Rattle.c_resolved.specs.Within.{Each, AllDiffer, TestExpression}
 use Rattle.resolved_core.proofs.Ranged.{each_map}
-use Rattle.c_resolved.specs.Switches.{arrivals, arrivals_of, section_labels, switch_labels, cases_among, defaults_among, IsConstantValue, AreLabels, HasCases}
-use Rattle.c_resolved.specs.Limits.{FlatCounts}
-use Rattle.c_resolved.specs.Resolved.{IsResolvedFunction}
-use Rattle.resolved_core.proofs.GoodSource.{same_cases, same_defaults, kind_given}
+use Rattle.c_resolved.specs.Switches.{arrivals, arrivals_of, section_labels, switch_labels, cases_among, IsConstantValue, AreLabels, HasCases}
+use Rattle.resolved_core.proofs.GoodSource.{same_cases, same_defaults}
 use Rattle.plain_resolved.proofs.Facts.{AnyNote, ItemHas}
 use Rattle.plain_resolved.proofs.FactsMoved.{labels_of, slot_of, reached_of, plain_trees, left_trees, Source, facts_moved}
 use Rattle.plain_resolved.proofs.FactsPlain.{tidy_cases}

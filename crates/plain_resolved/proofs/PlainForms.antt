@@ -1,21 +1,15 @@
 -- The plain form of a function has the form of a source.
-use Rattle.std.proofs.Common.{◌≡◌, ℕ, zero, suc, ◌+◌, ◌-◌, ◌<◌, ◌≤◌, Bool, true, false, true≢false, cond, List, [], ◌∷◌, ◌++◌, length, map, Option, Some, None, is_some, ◌⊎◌, slice_get, refl, sym, ap, ap₂, subst, ◌∙◌, arith, append_assoc, length-append}
-use Rattle.std.specs.Option.{option_map_or}
-use Rattle.c_tree.specs.declared.tree.Item.{Item}
+use Rattle.std.proofs.Common.{◌≡◌, ℕ, zero, suc, ◌+◌, ◌-◌, ◌≤◌, Bool, true, false, true≢false, List, [], ◌∷◌, ◌++◌, length, map, None, is_some, slice_get, refl, sym, ap, ap₂, subst, ◌∙◌, arith, append_assoc, length-append}
 use Rattle.c_tree.specs.declared.tree.Slot.{Slot}
 use Rattle.c_tree.specs.declared.tree.Function.{Function}
-use Rattle.c_tree.specs.declared.tree.Program.{Program}
-use Rattle.c_tree.specs.ExpressionTrees.{ExpressionTree}
 use Rattle.c_tree.specs.Cases.{AllEntered}
 use Rattle.c_tree.specs.Exits.{breaks, breaks_of, continues, continues_of, continues_in}
-use Rattle.c_tree.specs.TestTrees.{TestTree, Source, SelectorTree, Selects}
-use Rattle.c_tree.specs.Trees.{Tree, Forest, Nil, Then, Sections, NoSection, Section, Evaluate, Return, If, While, Do, For, Switch, Block, Local, Break, Continue, Goto, Mark, Arm, Leap, Land, Arrival, Note, join, trees_of, tree_of}
+use Rattle.c_tree.specs.Trees.{Tree, Forest, Nil, Then, Sections, NoSection, Section, Evaluate, Return, If, While, Do, For, Switch, Block, Local, Break, Continue, Goto, Mark, Arm, Leap, Land, Arrival, Note, join, trees_of}
 use Rattle.c_tree.specs.Everywhere.{Everywhere, EverywhereOf, EverywhereIn}
 use Rattle.c_tree.specs.InRange.{body_of}
 use Rattle.c_tree.specs.WellMade.{IsConverted, HasEntries, IsPlainFor}
 use Rattle.c_tree.proofs.TreeLaws.{tree-Local, trees-none, trees-more, trees-append}
-use Rattle.c_tree.proofs.WellMoved.{everywhere_map, everywhere_both}
-use Rattle.flat_core.specs.Parts.{has_jumps}
+use Rattle.c_tree.proofs.WellMoved.{everywhere_both}
 use Rattle.flat_core.specs.Unlabelled.{unlabelled, unlabelled_item, unlabelled_among, IsCalmItem}
 use Rattle.plain_core.specs.Laws.{IsNoLeap}
 use Rattle.plain_core.specs.Plain as Plain

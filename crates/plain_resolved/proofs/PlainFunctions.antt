@@ -1,5 +1,5 @@
 -- Each function of the plain form of a resolved program, and each top besides, is resolved by itself.
-use Rattle.std.proofs.Common.{◌≡◌, ℕ, Bool, true, false, cond, List, [], ◌∷◌, length, map, Option, Some, None, refl, sym, ap, subst, ◌∙◌}
+use Rattle.std.proofs.Common.{◌≡◌, ℕ, Bool, true, false, cond, List, [], ◌∷◌, Option, Some, None, refl, sym, ap, subst}
 use Rattle.std.specs.Prelude.{ℤ, IfSome}
 use Rattle.std.specs.Option.{option_map_or}
 use Rattle.c_types.specs.declared.kinds.IntKind.{IntKind}
@@ -11,13 +11,12 @@ use Rattle.c_tree.specs.declared.tree.Top.{Top}
 use Rattle.c_tree.specs.declared.tree.Top.TheVariants as T
 use Rattle.c_tree.specs.declared.tree.Program.{Program}
 use Rattle.c_tree.specs.ExpressionTrees.{ExpressionTree, expression_tree}
-use Rattle.c_tree.specs.Trees.{Tree, Forest, Nil, trees_of, expression_trees}
+use Rattle.c_tree.specs.Trees.{Forest, Nil, trees_of}
 use Rattle.c_tree.specs.Everywhere.{Everywhere}
 use Rattle.c_tree.specs.InRange.{body_of, IsTopInRange}
 use Rattle.c_tree.proofs.WellMoved.{everywhere_map, everywhere_both}
 use Rattle.flat_core.specs.Parts.{has_jumps}
 use Rattle.flat_core.specs.Unlabelled.{unlabelled}
-use Rattle.plain_core.specs.Tidied.{tidy}
 use Rattle.whole_core.specs.Rewritten.{IsNoFunction}
 use Rattle.whole_core.proofs.Source.{source_function}
 use Rattle.whole_core.proofs.Unlabelled.{IsPlainItem}
@@ -33,7 +32,7 @@ use Rattle.plain_resolved.proofs.ItemKinds.{HasKinds, Agrees, from_kinds}
 use Rattle.plain_resolved.proofs.NamesKept.{KeepsSlots, KeepsNames, names_kept, keeps_self, kinds_over}
 use Rattle.plain_resolved.proofs.PlainCases.{moved_cases, unmoved_cases}
 use Rattle.plain_resolved.proofs.PlainForms.{body_before, moved_ready, moved_form, left_plain, unmoved_form}
-use Rattle.plain_resolved.proofs.PlainKinds.{moved_kinds, unmoved_kinds, source_kinds}
+use Rattle.plain_resolved.proofs.PlainKinds.{moved_kinds, unmoved_kinds}
 use Rattle.plain_resolved.proofs.PlainLengths.{moved_lengths, unmoved_lengths, moved_initialised, unmoved_initialised, no_jumps}
 use Rattle.plain_resolved.proofs.PlainTops.{IsMovedForm, IsUnmovedForm, PlainTop, pt_moved, pt_unmoved, pt_declared, pt_other, PlainTops, pt_none, pt_more}
 use Rattle.plain_resolved.proofs.SameFile.{SameFile, global_over, callee_over}

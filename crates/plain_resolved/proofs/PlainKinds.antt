@@ -1,6 +1,6 @@
 -- Kinds agree in the plain form of a function.
-use Rattle.std.proofs.Common.{◌≡◌, ℕ, zero, suc, ◌+◌, ◌-◌, ◌<◌, ◌≤◌, ℤ, pos, List, [], ◌∷◌, length, Option, Some, None, IsSome, slice_get, refl, sym, ap, subst, ◌∙◌, arith}
-use Rattle.std.specs.Prelude.{IfSome, IsSomeAnd}
+use Rattle.std.proofs.Common.{◌≡◌, ℕ, zero, suc, ◌+◌, ◌-◌, ◌<◌, ◌≤◌, pos, List, [], ◌∷◌, length, Option, Some, None, IsSome, slice_get, refl, sym, ap, subst, ◌∙◌, arith}
+use Rattle.std.specs.Prelude.{IsSomeAnd}
 use Rattle.std.specs.List.{AllByRecursion}
 use Rattle.std.proofs.lemmas.Int.{ints}
 use Rattle.std.proofs.lemmas.Option.{slice_get_within}
@@ -24,7 +24,7 @@ use Rattle.jump_meaning.specs.Code.{entry_or}
 use Rattle.jump_meaning.specs.World.{no_slot}
 use Rattle.jump_meaning.specs.Operations.{operand_kind}
 use Rattle.jump_meaning.specs.Step.{switch_kind}
-use Rattle.loose_core.specs.Pieces.{assign_number, assigned_cells, is_number}
+use Rattle.loose_core.specs.Pieces.{assign_number, assigned_cells}
 use Rattle.flat_core.specs.FlatForm.{assigned, initialised}
 use Rattle.flat_core.specs.Source.{IsVariable}
 use Rattle.plain_core.specs.GuardSlots.{plain_selector}
@@ -33,7 +33,7 @@ use Rattle.whole_core.specs.Rewritten.{plan_of, setting}
 use Rattle.c_resolved.specs.Names.{Names}
 use Rattle.c_resolved.specs.Files.{AreInitialisers}
 use Rattle.c_resolved.specs.Form.{HasSourceForm}
-use Rattle.c_resolved.specs.Kinds.{HasValue, ReturnFits, ItemAgrees, KeepsConsts}
+use Rattle.c_resolved.specs.Kinds.{ReturnFits, ItemAgrees, KeepsConsts}
 use Rattle.c_resolved.specs.Limits.{FlatCounts}
 use Rattle.c_resolved.specs.Resolved.{IsInitialised, IsResolvedFunction, names_in}
 use Rattle.resolved_core.proofs.SourceGiven.{Declared, function_declared}
@@ -41,7 +41,7 @@ use Rattle.plain_resolved.proofs.Facts.{AnyNote, facts_map, some_map}
 use Rattle.plain_resolved.proofs.FactsFlat.{Tests}
 use Rattle.plain_resolved.proofs.FactsMoved.{slot_of, Left, Source, facts_of_plain, facts_of_unmoved}
 use Rattle.plain_resolved.proofs.FactsPlain.{GuardFacts}
-use Rattle.plain_resolved.proofs.ItemKinds.{Returned, HasKinds, Agrees, to_kinds, from_kinds}
+use Rattle.plain_resolved.proofs.ItemKinds.{Returned, HasKinds, Agrees, to_kinds}
 use Rattle.plain_resolved.proofs.MadeKinds.{Known, Value, Operand, value_operand, IsFreeNumber, IsFreeArray, number_known, assign_known, cell_known, test_known, guard_known, off_known, and_known, or_known, truth_known, IsPickable, picked_known, kind_there}
 use Rattle.plain_resolved.proofs.NamesKept.{KeepsNames, kinds_over, consts_over}
 use Rattle.plain_resolved.proofs.PlainSlots.{entry_there, switch_free, block_number, block_array, guard_free}

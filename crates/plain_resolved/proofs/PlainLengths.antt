@@ -1,7 +1,6 @@
 -- Arrays and initialisers of the plain form, and that it has no jumps.
-use Rattle.std.proofs.Common.{◌≡◌, ℕ, zero, suc, ◌+◌, ◌<◌, ◌≤◌, Bool, true, false, cond, List, [], ◌∷◌, ◌++◌, length, map, take, drop, Option, Some, None, slice_get, refl, sym, ap, subst, ◌∙◌, arith}
+use Rattle.std.proofs.Common.{◌≡◌, ℕ, zero, suc, ◌+◌, ◌<◌, ◌≤◌, false, cond, List, [], ◌∷◌, ◌++◌, length, map, drop, Option, Some, None, slice_get, refl, sym, ap, subst, ◌∙◌, arith}
 use Rattle.std.specs.Prelude.{IfSome, IsSomeAnd}
-use Rattle.c_types.specs.declared.kinds.IntKind.TheVariants.{Int}
 use Rattle.c_tree.specs.declared.tree.Slot.{Slot}
 use Rattle.c_tree.specs.declared.tree.Function.{Function}
 use Rattle.c_tree.specs.ExpressionTrees.{ExpressionTree}
@@ -14,7 +13,7 @@ use Rattle.c_tree.proofs.WellMoved.{everywhere_map, everywhere_both}
 use Rattle.jump_meaning.specs.Code.{entry_or}
 use Rattle.jump_meaning.specs.World.{no_slot}
 use Rattle.loose_core.specs.Loose.{ExtendSlots}
-use Rattle.flat_core.specs.Parts.{has_jumps, jumps_of, is_some_number, is_scattered}
+use Rattle.flat_core.specs.Parts.{has_jumps, jumps_of, is_some_number}
 use Rattle.flat_core.specs.Unlabelled.{unlabelled}
 use Rattle.plain_core.specs.GuardSlots.{plain_list, plain_item}
 use Rattle.plain_core.specs.Plain.{declared, names_left, guard_slot}
@@ -29,7 +28,6 @@ use Rattle.c_resolved.specs.Resolved.{IsInitialised, HasLengths}
 use Rattle.plain_resolved.proofs.FactsMoved.{labels_of, slot_of, reached_of, plain_trees, left_trees}
 use Rattle.plain_resolved.proofs.PlainSlots.{get_guard, entry_there}
 use Rattle.plain_resolved.proofs.PlainTops.{IsMovedForm, IsUnmovedForm}
-use Rattle.plain_resolved.proofs.SameFile.{SameDeclaration}
 use Rattle.plain_resolved.proofs.SameTops.{moved_slots, moved_params, moved_declared, unmoved_slots, unmoved_params, unmoved_declared}
 use Rattle.plain_resolved.proofs.TidyForm.{unscattered}
 

@@ -1,5 +1,5 @@
 -- The variables of the plain form of a function with jumps: which are numbers or arrays that may be assigned.
-use Rattle.std.proofs.Common.{◌≡◌, ℕ, zero, suc, ◌+◌, ◌<◌, ◌≤◌, ◌-◌, false, List, [], ◌∷◌, ◌++◌, length, map, drop, Option, Some, None, IsSome, slice_get, refl, sym, ap, subst, ◌∙◌, arith}
+use Rattle.std.proofs.Common.{◌≡◌, ℕ, zero, suc, ◌+◌, ◌<◌, ◌≤◌, false, List, [], ◌∷◌, ◌++◌, length, map, drop, Option, Some, None, IsSome, slice_get, refl, sym, ap, subst, ◌∙◌, arith}
 use Rattle.std.specs.Prelude.{IsSomeAnd}
 use Rattle.std.specs.List.{AllByRecursion}
 use Rattle.c_types.specs.declared.kinds.IntKind.{IntKind}
@@ -9,13 +9,13 @@ use Rattle.c_tree.specs.declared.tree.Function.{Function}
 use Rattle.jump_meaning.specs.Code.{entry_or}
 use Rattle.jump_meaning.specs.World.{no_slot}
 use Rattle.flat_core.specs.Source.{IsVariable}
-use Rattle.plain_core.specs.Plain.{names_left, labels_left, guard_slot}
-use Rattle.plain_core.proofs.LeftLabels.{is_among, slot_below, slot_within, slots_left}
+use Rattle.plain_core.specs.Plain.{names_left, guard_slot}
+use Rattle.plain_core.proofs.LeftLabels.{slot_below, slot_within, slots_left}
 use Rattle.whole_core.specs.Rewritten.{setting}
 use Rattle.c_resolved.specs.Names.{Names}
 use Rattle.plain_resolved.proofs.FactsMoved.{labels_of, slot_of, Left}
 use Rattle.plain_resolved.proofs.MadeKinds.{IsFreeNumber, IsFreeArray}
-use Rattle.plain_resolved.proofs.NamesKept.{SameVariable, KeepsSlots, slot_over, Found}
+use Rattle.plain_resolved.proofs.NamesKept.{SameVariable, slot_over, Found}
 use Rattle.plain_resolved.proofs.PlainTops.{IsMovedForm}
 use Rattle.plain_resolved.proofs.SameTops.{moved_slots, moved_keeps}
 

@@ -6,7 +6,7 @@ use Rattle.c_tree.specs.declared.tree.Function.{Function}
 use Rattle.c_tree.specs.declared.tree.Top.{Top}
 use Rattle.c_tree.specs.declared.tree.Top.TheVariants as T
 use Rattle.c_resolved.specs.Within.{Each}
-use Rattle.c_resolved.specs.Names.{first_function, the_function, the_global, Names, signature, Plain, known, declared_or, callee}
+use Rattle.c_resolved.specs.Names.{first_function, the_function, the_global, Plain, known, declared_or, callee}
 use Rattle.c_resolved.specs.Files.{Agree, AgreesWith, DeclarationsAgree, IsMainForm, MainIsFormed, SameParameters}
 use Rattle.whole_core.specs.Rewritten.{IsNoFunction}
 

@@ -1,22 +1,14 @@
 -- The plain form has the declarations of the program, and its functions have the variables of the source.
-use Rattle.std.proofs.Common.{◌≡◌, ℕ, zero, suc, ◌+◌, ◌≤◌, Bool, true, List, [], ◌∷◌, ◌++◌, length, map, take, drop, Option, Some, None, is_some, refl, sym, ap, subst, ◌∙◌, arith}
-use Rattle.std.specs.Option.{option_map_or}
-use Rattle.c_tree.specs.declared.tree.Item.{Item}
+use Rattle.std.proofs.Common.{◌≡◌, ℕ, zero, suc, ◌≤◌, List, [], ◌∷◌, ◌++◌, length, map, take, is_some, refl, sym, ap, subst, ◌∙◌, arith}
 use Rattle.c_tree.specs.declared.tree.Slot.{Slot}
 use Rattle.c_tree.specs.declared.tree.Function.{Function}
 use Rattle.c_tree.specs.declared.tree.Top.{Top}
-use Rattle.c_tree.specs.declared.tree.Top.TheVariants as T
-use Rattle.c_tree.specs.Everywhere.{total}
-use Rattle.c_tree.specs.Trees.{trees_of}
-use Rattle.flat_core.specs.Parts.{variables_of}
-use Rattle.guard_vars.specs.Conversion.{converted}
-use Rattle.move_core.specs.Bodies.{with_body}
-use Rattle.plain_core.specs.Plain.{names_left, guard_slot, with_guard_variables}
+use Rattle.plain_core.specs.Plain.{names_left, guard_slot}
 use Rattle.c_resolved.specs.Within.{Each}
 use Rattle.c_resolved.specs.Limits.{FlatCounts}
-use Rattle.c_resolved.specs.Resolved.{IsResolvedFunction, IsResolvedTop}
+use Rattle.c_resolved.specs.Resolved.{IsResolvedTop}
 use Rattle.plain_resolved.proofs.NamesKept.{KeepsSlots, keeps_self, keeps_more, extended}
-use Rattle.plain_resolved.proofs.PlainTops.{IsMovedForm, IsUnmovedForm, PlainTop, pt_moved, pt_unmoved, pt_declared, pt_other, PlainTops, pt_none, pt_more}
+use Rattle.plain_resolved.proofs.PlainTops.{IsMovedForm, IsUnmovedForm, pt_moved, pt_unmoved, pt_declared, pt_other, PlainTops, pt_none, pt_more}
 use Rattle.plain_resolved.proofs.SameFile.{SameDeclaration, SameFile, sf_none, sf_function, sf_other}
 
 pub self_declared : (f : Function) → SameDeclaration f f

@@ -1,16 +1,14 @@
 -- What scopes have: the parameters of a function, its declared variables, and what stands at file scope.
-use Rattle.std.proofs.Common.{◌≡◌, ◌≢◌, ℕ, zero, suc, ◌+◌, ◌-◌, ◌<◌, ◌≤◌, ℤ, Bool, true, false, true≢false, cond, List, [], ◌∷◌, ◌++◌, length, map, take, drop, Option, Some, None, slice_get, ◌⊎◌, inl, inr, refl, sym, ap, subst, ◌∙◌, bytes_eq, arith, append_assoc, length-append}
-use Rattle.std.specs.Prelude.{IfSome}
-use Rattle.std.specs.Option.{option_or}
+use Rattle.std.proofs.Common.{◌≡◌, ◌≢◌, ℕ, zero, suc, ◌+◌, ◌-◌, ◌<◌, ◌≤◌, Bool, true, false, cond, List, [], ◌∷◌, ◌++◌, length, map, take, drop, Option, Some, None, ◌⊎◌, inl, inr, refl, sym, ap, subst, ◌∙◌, bytes_eq, arith, append_assoc, length-append}
 use Rattle.std.proofs.lemmas.Slice.Eq.{bytes_eq-Decides}
 use Rattle.c_tree.specs.declared.tree.Slot.{Slot}
 use Rattle.c_tree.specs.declared.tree.Home.TheVariants as H
-use Rattle.c_tree.specs.Trees.{Tree, Forest, Nil, Then, Local, join}
+use Rattle.c_tree.specs.Trees.{Forest, Nil, Then, join}
 use Rattle.c_tree.specs.TextExpressions.{slot_name}
 use Rattle.plain_core.specs.Slotted.{AreDeclarations, none, one_more, variable, guarding}
 use Rattle.c_resolved.specs.Within.{Each, AllDiffer}
 use Rattle.c_resolved.specs.Form.{gathered, declared_slot, numbers_from}
-use Rattle.c_resolved.specs.Scopes.{Meaning, AConstant, AVariable, AFunction, Scope, found, look_up, bind, behind, behind_all, AreBound, bind_parameter, with_parameters, IsNewParameter, AreNewParameters}
+use Rattle.c_resolved.specs.Scopes.{Meaning, AVariable, Scope, found, behind, behind_all, AreBound, bind_parameter, with_parameters, IsNewParameter, AreNewParameters}
 use Rattle.plain_resolved.proofs.NamesKept.{same_first, same_rest}
 
 pub same_name : (m : List ℕ) → bytes_eq m m ≡ true

@@ -11,7 +11,6 @@ use Rattle.c_tree.specs.ExpressionTrees.{ExpressionTree, Typed, Number, Characte
 use Rattle.c_tree.specs.TextExpressions.{slot_name, home_name}
 use Rattle.c_tree.specs.Trees.{Tree, Forest, Nil, Then, Sections, NoSection, Section, Evaluate, Return, If, While, Do, For, Switch, Block, Local, Break, Continue, Goto, Mark, Arm, Leap, Land, Arrival, Note}
 use Rattle.c_tree.specs.Everywhere.{Everywhere, EverywhereOf, EverywhereIn}
-use Rattle.c_resolved.specs.Within.{Each, TestExpression}
 use Rattle.c_resolved.specs.Names.{home_of}
 use Rattle.c_resolved.specs.Scopes.{Meaning, AConstant, AVariable, AFunction, Scope, found, look_up, bind, NameIsBound, IsBound, behind, behind_all, inside, ItemIsBound, AreBound, SectionsAreBound}
 use Rattle.resolved_core.proofs.OneScope.{within_map}

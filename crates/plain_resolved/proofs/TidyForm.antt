@@ -1,21 +1,21 @@
 -- A list without jumps, whose sections get their plain form, has the form of a source.
-use Rattle.std.proofs.Common.{◌≡◌, ℕ, ◌+◌, ◌<◌, ◌≤◌, ◌-◌, Bool, true, false, not, ◌&&◌, ◌||◌, cond, true≢false, List, [], ◌∷◌, ◌++◌, length, Option, Some, None, ◌⊎◌, inl, inr, slice_get, refl, sym, ap, ap₂, subst, ◌∙◌, arith, append_assoc, length-append}
+use Rattle.std.proofs.Common.{◌≡◌, ℕ, ◌+◌, ◌<◌, ◌≤◌, Bool, true, false, not, ◌&&◌, ◌||◌, cond, true≢false, List, [], ◌++◌, length, ◌⊎◌, inl, inr, slice_get, refl, sym, ap, subst, ◌∙◌, arith, length-append}
 use Rattle.std.specs.Prelude.{IsTrue}
 use Rattle.c_tree.specs.declared.tree.Slot.{Slot}
 use Rattle.c_tree.specs.declared.tree.Function.{Function}
 use Rattle.c_tree.specs.ExpressionTrees.{ExpressionTree}
 use Rattle.c_tree.specs.Cases.{AllEntered, defaults}
-use Rattle.c_tree.specs.Exits.{breaks, breaks_of, breaks_in, continues, continues_of, continues_in}
+use Rattle.c_tree.specs.Exits.{breaks, breaks_of, continues, continues_of, continues_in}
 use Rattle.c_tree.specs.Trees.{Tree, Forest, Nil, Then, Sections, NoSection, Section, Evaluate, Return, If, While, Do, For, Switch, Block, Local, Break, Continue, Goto, Mark, Arm, Leap, Land, Arrival, Note}
 use Rattle.c_tree.specs.Everywhere.{Everywhere, EverywhereOf, EverywhereIn}
 use Rattle.c_tree.specs.TextItems.{is_empty}
-use Rattle.flat_core.specs.Parts.{arrivals, is_scattered}
-use Rattle.plain_core.specs.Tidied.{is_break, last_break, without_last, give, tidy, tidy_item, tidy_sections}
+use Rattle.flat_core.specs.Parts.{is_scattered}
+use Rattle.plain_core.specs.Tidied.{last_break, without_last, give, tidy, tidy_item, tidy_sections}
 use Rattle.plain_core.proofs.PlainRange.{tidy_everywhere}
-use Rattle.c_resolved.specs.Form.{gathered, gathered_of, gathered_in, marked_label, AreAlike, IsFirstPart, ends_with_break, IsKept, HasNoArrival, AreSections, HasNoLoose, IsNotLoose, HasSourceForm}
+use Rattle.c_resolved.specs.Form.{gathered, gathered_of, gathered_in, marked_label, AreAlike, IsFirstPart, ends_with_break, HasNoArrival, AreSections, HasNoLoose, IsNotLoose, HasSourceForm}
 use Rattle.resolved_core.proofs.Ranged.{the_some}
 use Rattle.resolved_core.proofs.SourceGiven.{none_loose}
-use Rattle.whole_core.proofs.Unlabelled.{IsPlainItem, plain_unguarded}
+use Rattle.whole_core.proofs.Unlabelled.{IsPlainItem}
 
 -- ---- facts of lists without jumps
 

@@ -1,0 +1,84 @@
+-- The plain form of a resolved program is spelled.
+use Rattle.std.proofs.Common.{◌≡◌, ℕ, ◌+◌, ◌≤◌, List, [], Option, Some, None, refl, sym, ap, subst, ◌∙◌, arith}
+use Rattle.std.specs.Prelude.{IfSome}
+use Rattle.std.specs.Option.{option_map_or}
+use Rattle.c_tree.specs.declared.tree.Item.{Item}
+use Rattle.c_tree.specs.declared.tree.Function.{Function}
+use Rattle.c_tree.specs.declared.tree.Top.{Top}
+use Rattle.c_tree.specs.declared.tree.Program.{Program}
+use Rattle.c_tree.specs.Trees.{Nil, trees_of}
+use Rattle.c_tree.specs.InRange.{body_of}
+use Rattle.flat_core.specs.Unlabelled.{unlabelled}
+use Rattle.whole_core.proofs.Source.{source_function}
+use Rattle.c_resolved.specs.Within.{Each, AllDiffer}
+use Rattle.c_resolved.specs.Limits.{FlatCounts}
+use Rattle.c_resolved.specs.PrintableExpressions.{IsName}
+use Rattle.c_resolved.specs.PrintableStatements.{most, depth}
+use Rattle.c_resolved.specs.PrintablePrograms.{ParametersPrint}
+use Rattle.c_resolved.specs.Resolved.{IsResolvedFunction, IsResolvedTop, IsResolvedWith}
+use Rattle.c_resolved.specs.Spelling.{AreSpelled, BodyIsSpelled, HasName, FunctionIsSpelled, TopIsSpelled}
+use Rattle.resolved_core.specs.Counts.{flat_counts}
+use Rattle.plain_resolved.specs.Names.{HasOwnNames}
+use Rattle.plain_resolved.specs.Limits.{IsWithin}
+use Rattle.plain_resolved.proofs.FactsMoved.{left_trees}
+use Rattle.plain_resolved.proofs.MovedSpelled.{moved_items}
+use Rattle.plain_resolved.proofs.PlainForms.{left_plain}
+use Rattle.plain_resolved.proofs.PlainTops.{IsMovedForm, IsUnmovedForm, PlainTop, pt_moved, pt_unmoved, pt_declared, pt_other, PlainTops, pt_none, pt_more}
+use Rattle.plain_resolved.proofs.SameFile.{SameDeclaration}
+use Rattle.plain_resolved.proofs.SameTops.{moved_declared, unmoved_declared, unmoved_slots}
+use Rattle.plain_resolved.proofs.TidyForm.{tidy_plain}
+use Rattle.plain_resolved.proofs.UnmovedSpelled.{spelled_unmoved, depth_unmoved}
+
+-- ---- bodies
+
+spelled_body : (f : Function) (o : Option (List Item)) → f.body ≡ o → IfSome o (BodyIsSpelled f) → AreSpelled f (body_of f) × (1 + depth (body_of f) ≤ most)
+spelled_body f None e h = subst (λ a. AreSpelled f a × (1 + depth a ≤ most)) (sym (ap (λ b. option_map_or trees_of b Nil) e)) (tt, omega arith)
+spelled_body f (Some a) e h = subst (λ b. AreSpelled f b × (1 + depth b ≤ most)) (sym (ap (λ b. option_map_or trees_of b Nil) e)) (h.items, h.shallow)
+
+body_spelled : (f : Function) (o : Option (List Item)) → f.body ≡ o → AreSpelled f (body_of f) → 1 + depth (body_of f) ≤ most → IfSome o (BodyIsSpelled f)
+body_spelled f None e h d = tt
+body_spelled f (Some a) e h d =
+    let there = ap (λ b. option_map_or trees_of b Nil) e in record { items = subst (AreSpelled f) there h; shallow = subst (λ b. 1 + depth b ≤ most) there d }
+
+-- ---- functions
+
+no_labels : (ls : List (List ℕ)) → ls ≡ [] → AllDiffer ls
+no_labels ls e = subst AllDiffer (sym e) tt
+
+function_spelled : (f h : Function) → SameDeclaration f h → h.labels ≡ [] → FunctionIsSpelled f → AreSpelled h (body_of h) → 1 + depth (body_of h) ≤ most → FunctionIsSpelled h
+function_spelled f h d ls s items shallow = record {
+  named = subst IsName (sym d.name) s.named;
+  parameters = subst ParametersPrint (sym d.parameters) s.parameters;
+  all_named = λ some. subst (Each HasName) (sym d.parameters) (s.all_named (sym d.body ∙ some));
+  labels = no_labels h.labels ls;
+  body = body_spelled h h.body refl items shallow;
+}
+
+module _ (counts : FlatCounts) (p : Program) (r : IsResolvedWith counts p) (Own : Function → Type 0) (own : (h : Function) → Own h → HasOwnNames p.tops h × IsWithin h) (us : List Top) where
+  moved_spelled : (f h : Function) (m : IsMovedForm f h) → Own h → IsResolvedFunction counts p.tops f → IsResolvedFunction flat_counts us h → FunctionIsSpelled f → FunctionIsSpelled h
+  moved_spelled f h m o g k s =
+      let params = g.form.parameters in
+      let n = own h o in
+      let items = moved_items f h m params p.tops n.0 flat_counts us k counts p.tops g (spelled_body f f.body refl s.body).0 n.1 in
+      function_spelled f h (moved_declared f h m params) (ap (λ (j : Function). j.labels) m.plain) s items n.1.shallow
+
+  unmoved_spelled : (f h : Function) (m : IsUnmovedForm f h) → IsResolvedFunction counts p.tops f → FunctionIsSpelled f → FunctionIsSpelled h
+  unmoved_spelled f h m g s =
+      let b = spelled_body f f.body refl s.body in
+      let e = left_trees f h m in
+      let plain = tidy_plain (unlabelled (body_of f)) (left_plain f h m (source_function counts p r f g) g.form) in
+      let d = depth_unmoved (body_of f) in
+      let shallow = b.1 in
+      function_spelled f h (unmoved_declared f h m) (ap (λ (j : Function). j.labels) m.plain ∙ m.is_left.labels) s
+      (subst (AreSpelled h) (sym e) (spelled_unmoved f h (unmoved_slots f h m) (body_of f) plain b.0))
+      (subst (λ a. 1 + depth a ≤ most) (sym e) (omega (arith, d, shallow)))
+
+  top_spelled : {t u : Top} → PlainTop Own t u → IsResolvedTop counts p.tops t → IsResolvedTop flat_counts us u → TopIsSpelled t → TopIsSpelled u
+  top_spelled (pt_moved {f = f} {h = h} m o) g k s = moved_spelled f h m o g k s
+  top_spelled (pt_unmoved {f = f} {h = h} m) g k s = unmoved_spelled f h m g s
+  top_spelled (pt_declared f e) g k s = s
+  top_spelled (pt_other t n) g k s = s
+
+  pub tops_spelled : {ts vs : List Top} → PlainTops Own ts vs → Each (IsResolvedTop counts p.tops) ts → Each (IsResolvedTop flat_counts us) vs → Each TopIsSpelled ts → Each TopIsSpelled vs
+  tops_spelled pt_none g k s = tt
+  tops_spelled (pt_more t w) g k s = (top_spelled t g.0 k.0 s.0, tops_spelled w g.1 k.1 s.1)
