@@ -28,3 +28,6 @@ pub mod FilePlaces
 pub mod Functions
 pub mod FileFacts
 pub mod Declarations
+pub mod Surroundings
+pub mod Exits
+pub mod Gathered

@@ -102,7 +102,7 @@ passed_same cases default (s ∷ t ∷ ss) =
     passed_by cases default s (t ∷ ss) (is_passing s) (passes (section_tree s)) (passes_same s)
     (λ cs d. passed_same cs d (t ∷ ss))
 
-later_break : (x y : Tree) (ys : Forest) → ends_with_break (Then x (Then y ys)) ≡ ends_with_break (Then y ys)
+pub later_break : (x y : Tree) (ys : Forest) → ends_with_break (Then x (Then y ys)) ≡ ends_with_break (Then y ys)
 later_break Break y ys = refl
 later_break _ y ys = refl
 
