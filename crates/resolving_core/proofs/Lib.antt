@@ -31,3 +31,5 @@ pub mod Declarations
 pub mod Surroundings
 pub mod Exits
 pub mod Gathered
+pub mod SlotNumbers
+pub mod LabelNumbers
