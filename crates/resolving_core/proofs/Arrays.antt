@@ -17,7 +17,7 @@ use Rattle.c_statements.specs.declared.extents.Length.TheVariants.{NoLength, OfL
 use Rattle.c_statements.specs.Declarations.{in_bounds, length_in, of_length, constant_extent, extent_of, extent, cells_of, is_out_of_bounds, is_bad_length, is_bad_list, is_bad_value, is_bad_shape, is_bad_array, size_faults, initial}
 use Rattle.c_resolved.specs.Files.{IsLength, AreInitialisers}
 use Rattle.resolving_core.proofs.Lists.{none_left, and_left, and_right, or_left, or_right, not_true, not_false}
-use Rattle.resolving_core.proofs.Read.{IsReadInitialiser}
+use Rattle.resolving_core.specs.Read.{IsReadInitialiser}
 
 -- no violation: the constant is one
 pub constant_there : (env : Env) (t : Term) → constant_faults env t [] ≡ [] → is_some (constant_of (typed env t)) ≡ true

@@ -29,7 +29,7 @@ use Rattle.resolving_core.proofs.Bodies.{has_with_body, body_there, has_body_in,
 use Rattle.resolving_core.proofs.FileNames.{TopFact, Named, NoF, NoG, Unnamed, unnamed_all, named_map, FunctionAgrees, FileGood}
 use Rattle.resolving_core.proofs.FileParts.{function_parts, file_parts, FunctionName}
 use Rattle.resolving_core.proofs.FilePlaces.{defined, Place, stepped_place, AtEnd}
-use Rattle.resolving_core.proofs.Read.{IsReadFile}
+use Rattle.resolving_core.specs.Read.{IsReadFile}
 use Rattle.resolving_core.proofs.FunctionTrees.{function_name}
 use Rattle.resolving_core.proofs.Known.{WantAgrees, WantsAgree}
 use Rattle.resolving_core.proofs.Lists.{clean_if, none_left, each_append, and_left}

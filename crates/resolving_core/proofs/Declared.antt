@@ -23,7 +23,7 @@ use Rattle.c_resolved.specs.Scopes.{AVariable}
 use Rattle.c_resolved.specs.Within.{Each}
 use Rattle.resolving_core.proofs.Lists.{is_some_and}
 use Rattle.resolving_core.proofs.Known.{HasShape, IsKnown, Knows}
-use Rattle.resolving_core.proofs.Read.{IsReadTerm, IsReadInitialiser}
+use Rattle.resolving_core.specs.Read.{IsReadTerm, IsReadInitialiser}
 use Rattle.resolving_core.proofs.Bindings.{names_same, knows_bound, look_up_tree}
 use Rattle.resolving_core.proofs.Parts.{parted, LocalParts, local_parts}
 use Rattle.resolving_core.proofs.Empty.{Empties, each_empty}

@@ -34,7 +34,7 @@ use Rattle.c_resolved.specs.Names.{Names}
 use Rattle.c_resolved.specs.Scopes.{Scope}
 use Rattle.resolving_core.proofs.Empty.{use_empty, drop_empty, given_empty}
 use Rattle.resolving_core.proofs.Known.{Knows}
-use Rattle.resolving_core.proofs.Read.{IsTarget, IsTargetForm, FitsStep, IsReadTerm, IsReadForm, AreReadTerms}
+use Rattle.resolving_core.specs.Read.{IsTarget, IsTargetForm, FitsStep, IsReadTerm, IsReadForm, AreReadTerms}
 use Rattle.resolving_core.proofs.Numbers.{IsNumberOf, integer_in_range}
 use Rattle.resolving_core.proofs.Values.{SoundTyped, SoundValue, SoundDropped, IsWrittenTarget, use_clean, drop_clean, named_sound, variable_sound, target_clean, number_target_sound, cell_target_sound, writable_sound, reading_sound, unary_sound, counting_sound, cast_sound, cast_void_sound, binary_sound, choice_sound, assignment_sound, comma_sound, Operand}
 use Rattle.resolving_core.proofs.Calls.{called_sound}

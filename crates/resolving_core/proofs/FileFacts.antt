@@ -52,7 +52,7 @@ use Rattle.resolving_core.proofs.ItemKinds.{Good, good}
 use Rattle.resolving_core.proofs.Known.{Knows}
 use Rattle.resolving_core.proofs.Lists.{and_left, and_right, not_true, not_false, clean_if, each_append}
 use Rattle.resolving_core.proofs.Parts.{parted}
-use Rattle.resolving_core.proofs.Read.{IsReadTerm, IsReadDeclarator, IsReadEnumerator, IsReadFunction, IsReadTop, IsReadTopForm, IsReadFile}
+use Rattle.resolving_core.specs.Read.{IsReadTerm, IsReadDeclarator, IsReadEnumerator, IsReadFunction, IsReadTop, IsReadTopForm, IsReadFile}
 use Rattle.resolving_core.proofs.Uses.{ConstantIs, constant_is_value}
 
 -- ---- constants

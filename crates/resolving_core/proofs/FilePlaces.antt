@@ -27,7 +27,7 @@ use Rattle.resolving_core.proofs.FileScope.{Grows, grows_twice, Inv, inv_neutral
 use Rattle.resolving_core.proofs.FileWalk.{Shaped, tree_scopes, behind_tops, Stepped, enums_step, globals_step, function_step}
 use Rattle.resolving_core.proofs.FunctionTrees.{own_agrees, function_name}
 use Rattle.resolving_core.proofs.Known.{Knows}
-use Rattle.resolving_core.proofs.Read.{IsReadFunction, IsReadTop, IsReadTopForm, IsReadFile}
+use Rattle.resolving_core.specs.Read.{IsReadFunction, IsReadTop, IsReadTopForm, IsReadFile}
 
 -- ---- what has no name
 

@@ -40,7 +40,7 @@ use Rattle.resolving_core.proofs.FileScope.{Grows, grows_twice, name_grows, Inv,
 use Rattle.resolving_core.proofs.FunctionTrees.{own_agrees, function_name}
 use Rattle.resolving_core.proofs.Known.{HasShape}
 use Rattle.resolving_core.proofs.Lists.{and_left, and_right, not_true, clean_if, none_left, each_append, is_some_and}
-use Rattle.resolving_core.proofs.Read.{IsReadFunction, IsReadTop, IsReadTopForm}
+use Rattle.resolving_core.specs.Read.{IsReadFunction, IsReadTop, IsReadTopForm}
 
 -- ---- values of constants
 

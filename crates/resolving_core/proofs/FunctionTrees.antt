@@ -18,7 +18,7 @@ use Rattle.resolving_core.proofs.FileNames.{FunctionAgrees}
 use Rattle.resolving_core.proofs.FileParts.{BodyParts}
 use Rattle.resolving_core.proofs.Grown.{Grown, list_grows, item_grows}
 use Rattle.resolving_core.proofs.Known.{WantAgrees, WantsAgree}
-use Rattle.resolving_core.proofs.Read.{IsReadDeclarator, IsReadBody, IsReadFunction}
+use Rattle.resolving_core.specs.Read.{IsReadDeclarator, IsReadBody, IsReadFunction}
 use Rattle.resolving_core.proofs.Walk.{Begins, Any}
 
 -- ---- parameters

@@ -1,7 +1,7 @@
 -- A function without a violation: its items, its slots, and what its parameters are bound to.
-use Rattle.std.proofs.Common.{ℕ, zero, suc, Bool, true, false, cond, not, List, [], ◌∷◌, ◌++◌, append_assoc, map, length, take, drop, Option, Some, None, is_some, ◌≡◌, refl, sym, ap, subst, ◌∙◌, true≢false, slice_get}
+use Rattle.std.proofs.Common.{ℕ, zero, suc, ◌+◌, ◌-◌, ◌≤◌, Bool, true, false, cond, not, List, [], ◌∷◌, ◌++◌, append_assoc, map, length, take, drop, Option, Some, None, is_some, ◌≡◌, refl, sym, ap, subst, ◌∙◌, true≢false, slice_get, arith, length-append}
 use Rattle.std.specs.Prelude.{IfSome, IsSomeAnd}
-use Rattle.std.proofs.lemmas.List.{append-nil}
+use Rattle.std.proofs.lemmas.List.{append-nil, length-map}
 use Rattle.c_tree.specs.declared.tree.Slot.{Slot}
 use Rattle.c_tree.specs.declared.tree.Item as item
 use Rattle.c_tree.specs.declared.tree.Function as tree
@@ -20,27 +20,35 @@ use Rattle.c_statements.specs.declared.extents.Kinded.{Kinded}
 use Rattle.c_statements.specs.Context.{Anchor, AtEnd, Context, Walk, env_at, env_in, notes_at, no_construct}
 use Rattle.c_statements.specs.Declarations.{placeholder, is_array, size_faults, slot_of, local_faults}
 use Rattle.c_statements.specs.Functions.{FlatCounts, parameter_name, parameter_slot, parameter_shape, bind_parameter, bind_parameters, parameter_fault, parameters_faults, body_items, behind_body, body_faults, context, inside, defined, function_of}
+use Rattle.c_statements.specs.Labels.{body_labels}
 use Rattle.c_statements.specs.Statements.{list_items, item_items, behind_item, behind_items}
 use Rattle.c_resolved.specs.Files.{IsLength, IsParameterLength, AreLengths}
+use Rattle.c_resolved.specs.Form.{gathered, declared_slot, marked_label, numbers_from}
 use Rattle.c_resolved.specs.Kinds.{ItemAgrees, KeepsConsts, ReturnFits}
 use Rattle.c_resolved.specs.Names.{Names}
 use Rattle.c_resolved.specs.PrintableExpressions.{IsName}
 use Rattle.c_resolved.specs.Resolved.{names_in, HasLengths, IsInitialised}
 use Rattle.c_resolved.specs.Scopes as Scopes
 use Rattle.c_resolved.specs.Scopes.{AVariable}
-use Rattle.c_resolved.specs.Within.{Each}
+use Rattle.c_resolved.specs.Within.{Each, AllDiffer}
 use Rattle.resolving_core.proofs.Arrays.{array_fine}
 use Rattle.resolving_core.proofs.Bindings.{names_same, knows_bound, knows_inside, look_up_tree}
 use Rattle.resolving_core.proofs.Declared.{slot_there}
 use Rattle.resolving_core.proofs.FileParts.{BodyParts, DefinedParts, parameters_clean, parameters_parts}
 use Rattle.resolving_core.proofs.FunctionTrees.{Behind, inside_slots, take_all, drop_all, body_grown, behind_parameters}
+use Rattle.resolving_core.specs.Laws.{HasOrder}
+use Rattle.resolving_core.proofs.Exits.{Exits, exits_surrounded}
+use Rattle.resolving_core.proofs.Gathered.{before_notes, list_numbers, item_numbers, of_list, of_item}
+use Rattle.resolving_core.proofs.LabelNumbers.{marks_gather, number_at, list_list, item_list, numbered_all}
+use Rattle.resolving_core.proofs.SlotNumbers.{slots_gather, list_runs, item_runs, run_is}
+use Rattle.resolving_core.proofs.Surroundings.{has_both, has_notes, has_list, has_item}
 use Rattle.resolving_core.proofs.Grown.{Grown}
 use Rattle.resolving_core.proofs.ItemKinds.{KnownAt, GoodItem, Good, kinds_closed}
 use Rattle.resolving_core.proofs.ItemReturns.{Anywhere, AnyConstant, returns_closed, initialised_closed}
 use Rattle.resolving_core.proofs.Known.{HasShape, IsKnown, Knows}
 use Rattle.resolving_core.proofs.Lists.{clean_if, is_some_and, each_map}
 use Rattle.resolving_core.proofs.Parts.{local_parts}
-use Rattle.resolving_core.proofs.Read.{IsReadTerm, IsReadDeclarator, IsReadBody, IsReadFunction}
+use Rattle.resolving_core.specs.Read.{IsReadTerm, IsReadDeclarator, IsReadBody, IsReadFunction}
 use Rattle.resolving_core.proofs.Values.{Sound}
 use Rattle.resolving_core.proofs.Walk.{Begins, Closed, Holds, hold_none, hold_both}
 use Rattle.resolving_core.proofs.Walked.{list_holds, item_holds, notes_hold}
@@ -145,6 +153,37 @@ pub record Resolves (ts : List Top) (t : tree.Function) : Type 0 where
   pub returns : Everywhere (ReturnFits t.result) (body_of t)
   pub initialised : Everywhere (IsInitialised t.slots) (body_of t)
   pub lengths : HasLengths t
+  pub order : HasOrder t
+  pub labels : AllDiffer t.labels
+
+-- ---- slots, labels and exits
+
+abbrev Nothing : ℕ → ℕ → Type 0
+Nothing a b = numbers_from a (b - a) ≡ []
+
+nothing : (a b : ℕ) → b ≡ a → Nothing a b
+nothing a b e = ap (numbers_from a) (let h : b - a ≡ 0 = omega arith in h)
+
+-- the numbers of a body
+module _ (ctx : Context) where
+  body_slots : (b : Body) (w : Walk) → gathered declared_slot (trees_of (body_items ctx b w)) ≡ numbers_from (length w.slots) (length (behind_body ctx b w).slots - length w.slots)
+  body_slots (Braces first after xs) w =
+      before_notes ctx declared_slot slots_gather (list_items ctx xs w) (AtEnd first) ∙ (list_numbers ctx declared_slot slots_gather xs w ∙ run_is (length w.slots) (length (behind_items ctx xs w).slots) (of_list ctx declared_slot slots_gather xs w) (list_runs ctx xs w))
+  body_slots (Lone first after x) w =
+      before_notes ctx declared_slot slots_gather (item_items ctx x w) (AtEnd first) ∙ (item_numbers ctx declared_slot slots_gather x w ∙ run_is (length w.slots) (length (behind_item ctx x w).slots) (of_item ctx declared_slot slots_gather x w) (item_runs ctx x w))
+
+  body_marks : (b : Body) (w : Walk) → gathered marked_label (trees_of (body_items ctx b w)) ≡ map (number_at ctx) (body_labels b [])
+  body_marks (Braces first after xs) w =
+      before_notes ctx marked_label marks_gather (list_items ctx xs w) (AtEnd first) ∙ (list_numbers ctx marked_label marks_gather xs w ∙ sym (list_list ctx xs w [] ∙ append-nil (of_list ctx marked_label marks_gather xs w)))
+  body_marks (Lone first after x) w =
+      before_notes ctx marked_label marks_gather (item_items ctx x w) (AtEnd first) ∙ (item_numbers ctx marked_label marks_gather x w ∙ sym (item_list ctx x w [] ∙ append-nil (of_item ctx marked_label marks_gather x w)))
+
+  body_exits : (b : Body) (w : Walk) → body_faults ctx b w [] ≡ [] → Exits no_construct (trees_of (body_items ctx b w))
+  body_exits (Braces first after xs) w e = has_both ctx Exits exits_surrounded no_construct (list_items ctx xs w) (notes_at ctx (AtEnd first)) (has_list ctx Exits exits_surrounded no_construct xs w e) (has_notes ctx Exits exits_surrounded no_construct (AtEnd first))
+  body_exits (Lone first after x) w e = has_both ctx Exits exits_surrounded no_construct (item_items ctx x w) (notes_at ctx (AtEnd first)) (has_item ctx Exits exits_surrounded no_construct x w e) (has_notes ctx Exits exits_surrounded no_construct (AtEnd first))
+
+begins_long : (a more slots : List Slot) (n : ℕ) → slots ≡ a ++ more → length a ≡ n → n ≤ length slots
+begins_long a more slots n e l = let h = ap length e ∙ length-append a more in omega arith
 
 module _ (flat : FlatCounts) (word : ℕ → List ℕ) (notes : Anchor → List (List ℕ)) (f : Function) (scopes : List Scope) (ts : List Top) where
   -- what is known in its body, at any slots
@@ -155,8 +194,18 @@ module _ (flat : FlatCounts) (word : ℕ → List ℕ) (notes : Anchor → List 
   resolves_by None r p k =
       let b = behind_parameters flat word notes f scopes None r p in
       let slots = (inside word f scopes).slots in
+      let same = ap length (inside_slots word f scopes) ∙ length-map f.parameters (parameter_slot word) in
       record {
-        kinds = tt; consts = tt; returns = tt; initialised = tt;
+        kinds = tt; consts = tt; returns = tt; initialised = tt; labels = tt;
+        order = record {
+          unflat = refl;
+          parameters = begins_long (map (parameter_slot word) f.parameters) [] slots (length f.parameters) (inside_slots word f scopes ∙ sym (append-nil (map (parameter_slot word) f.parameters))) (length-map f.parameters (parameter_slot word));
+          prototype = λ e. (same, refl);
+          slots = sym (nothing (length f.parameters) (length slots) same);
+          labels = refl;
+          cases = tt;
+          exits = refl;
+        };
         lengths = record {
           parameters = subst (AreLengths IsParameterLength) (sym (ap (take (length f.parameters)) b.whole ∙ take_all (parameter_slot word) f.parameters b.more)) (parameter_lengths word f.parameters);
           others = subst (AreLengths IsLength) (sym (ap (drop (length f.parameters)) (inside_slots word f scopes ∙ sym (append-nil (map (parameter_slot word) f.parameters))) ∙ drop_all (parameter_slot word) f.parameters [])) tt;
@@ -169,6 +218,9 @@ module _ (flat : FlatCounts) (word : ℕ → List ℕ) (notes : Anchor → List 
       let n : Names = record { tops = ts; slots = slots } in
       let g = body_grown ctx IsFine (declared_fine ctx) b w r p.body in
       let q = g.whole ∙ ap (λ l. l ++ g.more) (inside_slots word f scopes) in
+      let start = ap length (inside_slots word f scopes) ∙ length-map f.parameters (parameter_slot word) in
+      let ls = numbered_all [] word (body_labels b []) p.labels in
+      let x = body_exits ctx b w p.body in
       let all : Begins slots slots = ([], sym (append-nil slots)) in
       let o = k slots in
       let i = parameters_known ctx n true f.parameters (record { scopes = [] ∷ scopes; slots = [] }) p.parameters (g.more, g.whole) ([] ∷ o.0, knows_inside n word scopes o.0 o.1) in
@@ -178,6 +230,16 @@ module _ (flat : FlatCounts) (word : ℕ → List ℕ) (notes : Anchor → List 
         consts = everywhere_map (GoodItem n) (KeepsConsts n) (λ x h. h.consts) (trees_of (body_items ctx b w)) h;
         returns = body_holds ctx slots Anywhere (ReturnFits ctx.result) AnyConstant (returns_closed ctx slots) b w r p.body tt all;
         initialised = body_holds ctx slots Anywhere (IsInitialised slots) AnyConstant (initialised_closed ctx slots) b w r p.body tt all;
+        order = record {
+          unflat = refl;
+          parameters = begins_long (map (parameter_slot word) f.parameters) g.more slots (length f.parameters) q (length-map f.parameters (parameter_slot word));
+          prototype = λ e. absurd (true≢false e);
+          slots = body_slots ctx b w ∙ ap (λ k. numbers_from k (length slots - k)) start;
+          labels = body_marks ctx b w ∙ (ls.numbers ∙ ap (numbers_from 0) (sym (ap length ls.names ∙ length-map (body_labels b []) word)));
+          cases = x.arriving refl;
+          exits = λ i. x.breaking refl i + x.continuing refl i;
+        };
+        labels = subst AllDiffer (sym ls.names) ls.differ;
         lengths = record {
           parameters = subst (AreLengths IsParameterLength) (sym (ap (take (length f.parameters)) q ∙ take_all (parameter_slot word) f.parameters g.more)) (parameter_lengths word f.parameters);
           others = subst (AreLengths IsLength) (sym (ap (drop (length f.parameters)) q ∙ drop_all (parameter_slot word) f.parameters g.more)) (lengths_of g.more g.good);

@@ -35,7 +35,7 @@ use Rattle.c_statements.specs.Violations.{dropped_faults, optional_faults, start
 use Rattle.c_resolved.specs.Form.{ends_with_break, gathered, gathered_of, gathered_in}
 use Rattle.c_resolved.specs.Within.{Each, CaseExpressions}
 use Rattle.resolving_core.proofs.Lists.{none_left, clean_if, not_true, each_map, each_append}
-use Rattle.resolving_core.proofs.Read.{IsReadTerm, IsReadDeclarator, IsReadDeclaration, IsReadLabel, IsReadStart, IsReadItem, IsReadPlain, IsReadStatement, IsReadBody, AreReadItems}
+use Rattle.resolving_core.specs.Read.{IsReadTerm, IsReadDeclarator, IsReadDeclaration, IsReadLabel, IsReadStart, IsReadItem, IsReadPlain, IsReadStatement, IsReadBody, AreReadItems}
 use Rattle.resolving_core.proofs.Empty.{constant_empty, labels_empty}
 use Rattle.resolving_core.proofs.Parts.{parted, locals_parts, labels_parts, states_parts, list_parts, if_parts, if_else_parts, while_parts, do_parts, for_parts, switch_parts, Outside, outside_declares, outside_parts, outside_one}
 use Rattle.resolving_core.proofs.Grown.{Grown, locals_grow, start_grows, item_grows, plain_grows, body_grows, list_grows, switch_grows, outside_grows}
@@ -86,7 +86,7 @@ module _ (ctx : Context) (f : Tree → List ℕ) (c : Gathers f) where
   behind_notes : (a : Anchor) (xs : List item.Item) → numbers (notes_at ctx a ++ xs) ≡ numbers xs
   behind_notes a xs = numbers_two (notes_at ctx a) xs [] (numbers xs) (notes_numbers a) refl
 
-  before_notes : (xs : List item.Item) (a : Anchor) → numbers (xs ++ notes_at ctx a) ≡ numbers xs
+  pub before_notes : (xs : List item.Item) (a : Anchor) → numbers (xs ++ notes_at ctx a) ≡ numbers xs
   before_notes xs a = numbers_two xs (notes_at ctx a) (numbers xs) [] refl (notes_numbers a) ∙ append-nil (numbers xs)
 
   -- ---- of labels

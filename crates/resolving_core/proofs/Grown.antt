@@ -15,7 +15,7 @@ use Rattle.c_statements.specs.Statements.{behind_start, behind_item, behind_plai
 use Rattle.c_statements.specs.Violations.{start_faults, item_faults, plain_faults, statement_faults, body_faults, list_faults, switch_body_faults, outside_faults, outside_fault}
 use Rattle.c_resolved.specs.Within.{Each}
 use Rattle.resolving_core.proofs.Lists.{none_left, each_append}
-use Rattle.resolving_core.proofs.Read.{IsReadDeclarator, IsReadDeclaration, IsReadStart, IsReadItem, IsReadPlain, IsReadStatement, IsReadBody, AreReadItems}
+use Rattle.resolving_core.specs.Read.{IsReadDeclarator, IsReadDeclaration, IsReadStart, IsReadItem, IsReadPlain, IsReadStatement, IsReadBody, AreReadItems}
 use Rattle.resolving_core.proofs.Parts.{locals_parts, states_parts, list_parts, if_parts, if_else_parts, while_parts, do_parts, for_parts, switch_parts, Outside, outside_declares, outside_parts, outside_one}
 
 -- more slots, for each of which the fact holds

@@ -22,7 +22,7 @@ use Rattle.c_resolved.specs.Kinds.{IsOperand, HasValue, KindAgrees, KindsAgree, 
 use Rattle.c_resolved.specs.Scopes as Scopes
 use Rattle.resolving_core.proofs.Lists.{none_left}
 use Rattle.resolving_core.proofs.Known.{Knows}
-use Rattle.resolving_core.proofs.Read.{IsReadTerm}
+use Rattle.resolving_core.specs.Read.{IsReadTerm}
 use Rattle.resolving_core.proofs.Bindings.{knows_inside}
 use Rattle.resolving_core.proofs.Declared.{behind_local, knows_declared, values_are}
 use Rattle.resolving_core.proofs.Empty.{value_empty}

@@ -20,7 +20,7 @@ use Rattle.resolving_core.proofs.Arrays.{array_fine}
 use Rattle.resolving_core.proofs.Declared.{slot_there}
 use Rattle.resolving_core.proofs.Lists.{none_left, is_some_and}
 use Rattle.resolving_core.proofs.Parts.{local_parts}
-use Rattle.resolving_core.proofs.Read.{IsReadDeclarator}
+use Rattle.resolving_core.specs.Read.{IsReadDeclarator}
 use Rattle.resolving_core.proofs.Walk.{Begins, Closed}
 
 -- nothing is known of a place

@@ -1,5 +1,4 @@
 pub mod Lists
-pub mod Read
 pub mod Known
 pub mod Values
 pub mod Formats
@@ -33,3 +32,4 @@ pub mod Exits
 pub mod Gathered
 pub mod SlotNumbers
 pub mod LabelNumbers
+pub mod TheLaws

@@ -34,7 +34,7 @@ use Rattle.c_statements.specs.Violations.{dropped_faults, optional_faults, start
 use Rattle.c_resolved.specs.Form.{ends_with_break}
 use Rattle.c_resolved.specs.Within.{Each, CaseExpressions}
 use Rattle.resolving_core.proofs.Lists.{none_left, clean_if, not_true, each_map, each_append}
-use Rattle.resolving_core.proofs.Read.{IsReadTerm, IsReadDeclarator, IsReadDeclaration, IsReadLabel, IsReadStart, IsReadItem, IsReadPlain, IsReadStatement, IsReadBody, AreReadItems}
+use Rattle.resolving_core.specs.Read.{IsReadTerm, IsReadDeclarator, IsReadDeclaration, IsReadLabel, IsReadStart, IsReadItem, IsReadPlain, IsReadStatement, IsReadBody, AreReadItems}
 use Rattle.resolving_core.proofs.Empty.{constant_empty, labels_empty}
 use Rattle.resolving_core.proofs.Parts.{parted, locals_parts, labels_parts, states_parts, list_parts, if_parts, if_else_parts, while_parts, do_parts, for_parts, switch_parts, Outside, outside_declares, outside_parts, outside_one}
 use Rattle.resolving_core.proofs.Grown.{Grown, locals_grow, start_grows, item_grows, plain_grows, body_grows, list_grows, switch_grows, outside_grows}
@@ -81,7 +81,7 @@ module _ (ctx : Context) (R : Around → Forest → Type 0) (c : Surrounded R) w
   has_one : (a : Around) (x : item.Item) (t : Tree) → tree_of x ≡ t → R a (single t) → Has a (x ∷ [])
   has_one a x t e h = subst (R a) (sym (trees-more x [] ∙ (λ i. tree.Then (e i) (trees-none i)))) h
 
-  has_both : (a : Around) (xs ys : List item.Item) → Has a xs → Has a ys → Has a (xs ++ ys)
+  pub has_both : (a : Around) (xs ys : List item.Item) → Has a xs → Has a ys → Has a (xs ++ ys)
   has_both a xs ys h k = subst (R a) (sym (trees-append xs ys)) (c.joined a (trees_of xs) (trees_of ys) h k)
 
   has_more : (a : Around) (x : item.Item) (xs : List item.Item) (t : Tree) → tree_of x ≡ t → R a (single t) → Has a xs → Has a (x ∷ xs)

@@ -22,7 +22,7 @@ use Rattle.c_resolved.specs.Scopes.{Scope}
 use Rattle.c_resolved.specs.Switches.{IsConstantValue}
 use Rattle.resolving_core.proofs.Lists.{none_left, and_left, and_right, the_some}
 use Rattle.resolving_core.proofs.Known.{Knows}
-use Rattle.resolving_core.proofs.Read.{IsReadTerm}
+use Rattle.resolving_core.specs.Read.{IsReadTerm}
 use Rattle.resolving_core.proofs.Values.{value_tree, value_rolls, Sound, Operand, SoundTyped, SoundValue, SoundDropped}
 use Rattle.resolving_core.proofs.Expressions.{sound, used_clean, unused_clean}
 

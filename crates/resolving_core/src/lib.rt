@@ -3,3 +3,10 @@
 //! The definition of resolving stands in c_scopes, the predicate in c_resolved. The functions here run no code: their
 //! contracts are the laws.
 #![tactic(auto)]
+
+ghost use Rattle.resolving_core.specs.Laws.{ResolvingLaws};
+
+/// The program that resolving answers has the kinds, values, declarations and order of a resolved program.
+pub fn resolving_laws()
+    ensures { ResolvingLaws }
+{}

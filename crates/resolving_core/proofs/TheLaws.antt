@@ -1,0 +1,141 @@
+-- The laws of resolving.
+use Rattle.std.proofs.Common.{ℕ, Bool, true, false, cond, ◌&&◌, ◌||◌, List, [], ◌∷◌, ◌++◌, Option, Some, None, is_some, Result, Ok, Err, is_ok, ◌≡◌, refl, sym, ap, subst, ◌∙◌, true≢false}
+use Rattle.c_types.specs.declared.refusal.Refusal.{Refusal}
+use Rattle.c_tree.specs.declared.tree.Function.{Function}
+use Rattle.c_tree.specs.declared.tree.Top.{Top}
+use Rattle.c_tree.specs.declared.tree.Top.TheVariants as T
+use Rattle.c_tree.specs.declared.tree.Program.{Program}
+use Rattle.c_lexer.specs.declared.token.Token.{Token}
+use Rattle.c_lexer.specs.declared.token.Span.{Span}
+use Rattle.c_grammar.specs.declared.syntax.Syntax.{Syntax}
+use Rattle.c_source.specs.Words.{word_of}
+use Rattle.c_source.specs.Parts.{file_of}
+use Rattle.c_source.specs.Tops as tops
+use Rattle.c_kinds.specs.declared.typed.Fault.{Fault}
+use Rattle.c_kinds.specs.Scopes.{Faults, found, known_scope}
+use Rattle.c_statements.specs.Functions.{FlatCounts}
+use Rattle.c_scopes.specs.FunctionNames.{has_function, bodies_of}
+use Rattle.c_tree.specs.declared.tree.Slot.{Slot}
+use Rattle.c_scopes.specs.Files.{File, start, tops_of, file_faults}
+use Rattle.c_scopes.specs.Resolving.{is_before, earlier, least, file_at, program_of, violation_of, answer, refused, resolved}
+use Rattle.c_resolved.specs.Files.{MainIsFormed, DeclarationsAgree}
+use Rattle.c_resolved.specs.Within.{Each}
+use Rattle.resolving_core.specs.Laws.{Gives, OfFunction, HasConstants, ResolvingLaws}
+use Rattle.resolving_core.specs.Read.{IsReadFile}
+use Rattle.resolving_core.proofs.Bodies.{file_bodies}
+use Rattle.resolving_core.proofs.Declarations.{file_once, settled, declarations_agree}
+use Rattle.resolving_core.proofs.FileFacts.{TopHolds, Hold, file_holds}
+use Rattle.resolving_core.proofs.FileNames.{Unnamed, Same, library_same, IsDefined}
+use Rattle.resolving_core.proofs.FilePlaces.{defined, Place, at_end}
+use Rattle.resolving_core.proofs.Functions.{Resolves}
+use Rattle.resolving_core.proofs.Lists.{each_map}
+
+-- ---- no violation is reported where there is none
+
+some_earlier : (v : Fault) (o : Option Fault) → is_some (earlier v o) ≡ true
+some_earlier v None = refl
+some_earlier v (Some b) = refl
+
+none_reported : (vs : Faults) → least vs ≡ None → vs ≡ []
+none_reported [] e = refl
+none_reported (v ∷ vs) e = absurd (true≢false (sym (some_earlier v (least vs)) ∙ ap is_some e))
+
+program_or : Program → Result Program Refusal → Program
+program_or d (Ok p) = p
+program_or d (Err e) = d
+
+answered : (text : List ℕ) (tokens : List Token) (q p : Program) (o : Option Fault) → answer text tokens q o ≡ Ok p → (o ≡ None) × (q ≡ p)
+unfolding program_or
+answered text tokens q p None e = (refl, ap (program_or q) e)
+answered text tokens q p (Some v) e = absurd (true≢false (sym (ap is_ok e)))
+
+-- ---- the whole file
+
+module _ (file : File) (xs : List tops.Top) (bodies : (m : List ℕ) → defined file m ≡ has_function (bodies_of file.word xs) m)
+    (r : IsReadFile file.word xs) (e : file_faults file xs start [] ≡ []) where
+  abbrev all : List Top
+  all = tops_of file xs start
+
+  abbrev first_place : Place file [] start.scopes
+  first_place = record {
+    fs = []; rs = []; shaped = refl;
+    inv = record { same = λ m. refl; good = λ m. tt; fresh = λ m e. tt };
+  }
+
+  pub known : (slots : List Slot) → IsDefined (defined file) all slots
+  known slots m = file_bodies file m xs start ∙ sym (bodies m)
+
+  pub held : Hold file all known all
+  held = file_holds file all known xs start [] first_place r e refl
+
+  pub declared : DeclarationsAgree all
+  declared = declarations_agree all (settled file all [] (at_end file xs start [] first_place r e)) (file_once file xs start [] first_place r e (λ m. refl)).once
+
+-- ---- each law
+
+-- what is proved of the program that is answered
+pub record Answered (p : Program) : Type 0 where
+  pub main : Each MainIsFormed p.tops
+  pub declarations : DeclarationsAgree p.tops
+  pub constants : Each (HasConstants p.tops) p.tops
+  pub functions : Each (OfFunction (Resolves p.tops)) p.tops
+
+module _ (file : File) (ts : List Top) (known : (slots : List Slot) → IsDefined (defined file) ts slots) where
+  one_constant : (t : Top) → TopHolds file ts known t → HasConstants ts t
+  one_constant (T.Enum es) h = h
+  one_constant (T.Global g) h = h
+  one_constant (T.Function f) h = tt
+  one_constant (T.Include bs) h = tt
+  one_constant (T.Note bs) h = tt
+
+  one_function : (t : Top) → TopHolds file ts known t → OfFunction (Resolves ts) t
+  one_function (T.Function f) h = h
+  one_function (T.Enum es) h = tt
+  one_function (T.Global g) h = tt
+  one_function (T.Include bs) h = tt
+  one_function (T.Note bs) h = tt
+
+file_answered : (file : File) (xs : List tops.Top) → ((m : List ℕ) → defined file m ≡ has_function (bodies_of file.word xs) m) → IsReadFile file.word xs → file_faults file xs start [] ≡ [] → Answered (program_of file xs)
+file_answered file xs bodies r e =
+    let ts = tops_of file xs start in
+    let k = known file xs bodies r e in
+    let h = held file xs bodies r e in
+    record {
+      main = h.1;
+      declarations = declared file xs bodies r e;
+      constants = each_map (TopHolds file ts k) (HasConstants ts) (one_constant file ts k) ts h.0;
+      functions = each_map (TopHolds file ts k) (OfFunction (Resolves ts)) (one_function file ts k) ts h.0;
+    }
+
+pub all_answered : Gives Answered
+all_answered flat text tokens comments x p r e =
+    let word = word_of text tokens in
+    let xs = file_of word x in
+    let file = file_at flat text tokens comments xs in
+    let a = answered text tokens (program_of file xs) p (violation_of file xs) e in
+    subst Answered a.1 (file_answered file xs (λ m. refl) r (none_reported (file_faults file xs start []) a.0))
+
+of_map : (P Q : Function → Type 0) → ((f : Function) → P f → Q f) → (t : Top) → OfFunction P t → OfFunction Q t
+of_map P Q g (T.Function f) h = g f h
+of_map P Q g (T.Enum es) h = tt
+of_map P Q g (T.Global v) h = tt
+of_map P Q g (T.Include bs) h = tt
+of_map P Q g (T.Note bs) h = tt
+
+each_function : (P : List Top → Function → Type 0) → ((ts : List Top) (f : Function) → Resolves ts f → P ts f) → Gives (λ p. Each (OfFunction (P p.tops)) p.tops)
+each_function P g flat text tokens comments x p r e =
+    each_map (OfFunction (Resolves p.tops)) (OfFunction (P p.tops)) (of_map (Resolves p.tops) (P p.tops) (g p.tops)) p.tops (all_answered flat text tokens comments x p r e).functions
+
+pub resolving_laws : ResolvingLaws
+resolving_laws = record {
+  main = λ flat text tokens comments x p r e. (all_answered flat text tokens comments x p r e).main;
+  declarations = λ flat text tokens comments x p r e. (all_answered flat text tokens comments x p r e).declarations;
+  constants = λ flat text tokens comments x p r e. (all_answered flat text tokens comments x p r e).constants;
+  kinds = each_function _ (λ ts f h. h.kinds);
+  consts = each_function _ (λ ts f h. h.consts);
+  returns = each_function _ (λ ts f h. h.returns);
+  lengths = each_function _ (λ ts f h. h.lengths);
+  initialised = each_function _ (λ ts f h. h.initialised);
+  order = each_function _ (λ ts f h. h.order);
+  labels = each_function _ (λ ts f h. h.labels);
+}

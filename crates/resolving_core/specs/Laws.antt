@@ -1,0 +1,72 @@
+-- What the functions of this crate state: the program that resolving answers is a resolved program.
+use Rattle.std.specs.Prelude.{ℕ, ◌≡◌, ◌≤◌, ◌+◌, ◌-◌, false, negsuc, List, [], length, Result, Ok, option_map}
+use Rattle.c_lexer.specs.declared.token.Token.{Token}
+use Rattle.c_lexer.specs.declared.token.Span.{Span}
+use Rattle.c_grammar.specs.declared.syntax.Syntax.{Syntax}
+use Rattle.c_tree.specs.declared.tree.Function.{Function}
+use Rattle.c_tree.specs.declared.tree.Top.{Top}
+use Rattle.c_tree.specs.declared.tree.Top.TheVariants as T
+use Rattle.c_tree.specs.declared.tree.Program.{Program}
+use Rattle.c_tree.specs.Trees.{expression_trees}
+use Rattle.c_tree.specs.Everywhere.{Everywhere}
+use Rattle.c_tree.specs.Exits.{breaks, continues}
+use Rattle.c_tree.specs.InRange.{body_of}
+use Rattle.c_source.specs.Words.{word_of}
+use Rattle.c_source.specs.Parts.{file_of}
+use Rattle.c_statements.specs.Functions.{FlatCounts}
+use Rattle.c_scopes.specs.Resolving.{resolved}
+use Rattle.c_resolved.specs.Files.{HaveValues, IsGlobal, DeclarationsAgree, MainIsFormed}
+use Rattle.c_resolved.specs.Form.{gathered, declared_slot, marked_label, numbers_from, HasNoLoose, HasBodyOrNone}
+use Rattle.c_resolved.specs.Kinds.{ItemAgrees, KeepsConsts, ReturnFits}
+use Rattle.c_resolved.specs.Resolved.{names_in, HasLengths, IsInitialised}
+use Rattle.c_resolved.specs.Spelling.{AreNamed}
+use Rattle.c_resolved.specs.Within.{Each, AllDiffer}
+use Rattle.resolving_core.specs.Read.{IsReadFile}
+
+-- what holds of each program that resolving answers, where the source trees of the syntax are those of a derivation
+abbrev pub Gives : (Program → Type 0) → Type 0
+Gives P =
+    (flat : FlatCounts) (text : List ℕ) (tokens : List Token) (comments : List Span) (x : Syntax) (p : Program)
+    → let word = word_of text tokens in IsReadFile word (file_of word x) → resolved flat text tokens comments x ≡ Ok p → P p
+
+-- a fact of each function
+abbrev pub OfFunction : (Function → Type 0) → Top → Type 0
+OfFunction P (T.Function f) = P f
+OfFunction P _ = Unit {0}
+
+abbrev pub Functions : (List Top → Function → Type 0) → Program → Type 0
+Functions P p = Each (OfFunction (P p.tops)) p.tops
+
+-- enums have the values that are written, and variables constant initialisers
+abbrev pub HasConstants : List Top → Top → Type 0
+HasConstants ts (T.Enum xs) = HaveValues ts (negsuc 0) xs
+HasConstants ts (T.Global g) = IsGlobal ts g (option_map expression_trees g.init)
+HasConstants ts _ = Unit {0}
+
+-- the form of a function: slots and labels in text order, exits and nested case labels in their constructs
+pub record HasOrder (f : Function) : Type 0 where
+  pub unflat : f.flat ≡ false
+  pub parameters : f.params ≤ length f.slots
+  pub prototype : HasBodyOrNone f
+  pub slots : gathered declared_slot (body_of f) ≡ numbers_from f.params (length f.slots - f.params)
+  pub labels : gathered marked_label (body_of f) ≡ numbers_from 0 (length f.labels)
+  pub cases : HasNoLoose (body_of f)
+  pub exits : breaks (body_of f) + continues (body_of f) ≡ 0
+
+pub record ResolvingLaws : Type 0 where
+  -- nothing is called `main` but `int main(void)`, and the declarations of each function agree
+  pub main : Gives (λ p. Each MainIsFormed p.tops)
+  pub declarations : Gives (λ p. DeclarationsAgree p.tops)
+  pub constants : Gives (λ p. Each (HasConstants p.tops) p.tops)
+  -- kinds agree, values stand where they are used, calls have the right arguments
+  pub kinds : Gives (λ p. Functions (λ ts f. Everywhere (ItemAgrees (names_in ts f)) (body_of f)) p)
+  -- no const variable is assigned
+  pub consts : Gives (λ p. Functions (λ ts f. Everywhere (KeepsConsts (names_in ts f)) (body_of f)) p)
+  -- a value is returned exactly where the function gives one
+  pub returns : Gives (λ p. Functions (λ ts f. Everywhere (ReturnFits f.result) (body_of f)) p)
+  -- arrays have lengths, and as many initialisers at most
+  pub lengths : Gives (λ p. Functions (λ ts f. HasLengths f) p)
+  pub initialised : Gives (λ p. Functions (λ ts f. Everywhere (IsInitialised f.slots) (body_of f)) p)
+  pub order : Gives (λ p. Functions (λ ts f. HasOrder f) p)
+  -- the labels of a function differ, and the parameters of a definition have names
+  pub labels : Gives (λ p. Functions (λ ts f. AllDiffer f.labels) p)
