@@ -33,3 +33,4 @@ pub mod Gathered
 pub mod SlotNumbers
 pub mod LabelNumbers
 pub mod TheLaws
+pub mod Bound
