@@ -12,6 +12,7 @@ use Rattle.c_tree.specs.declared.tree.GlobalVariable.{GlobalVariable}
 use Rattle.c_tree.specs.declared.tree.Top.{Top}
 use Rattle.c_tree.specs.declared.tree.Top.TheVariants as T
 use Rattle.c_tree.specs.Constants.{constant_value}
+use Rattle.c_tree.specs.declared.tree.Expression.{Expression}
 use Rattle.c_tree.specs.ExpressionTrees.{expression_tree}
 use Rattle.c_tree.specs.Trees.{expression_trees}
 use Rattle.c_source.specs.Terms.{Term, first_of}
@@ -20,39 +21,43 @@ use Rattle.c_source.specs.Tops.{Enumerator, Function, Form, Line, Enum, Globals,
 use Rattle.c_source.specs.Tops as tops
 use Rattle.c_kinds.specs.declared.binding.Binding.TheVariants as B
 use Rattle.c_kinds.specs.Constants.{constant_of}
-use Rattle.c_kinds.specs.Scopes.{Env, Scope, Faults, with_name, known_scope}
+use Rattle.c_kinds.specs.declared.binding.Binding.{Binding}
+use Rattle.c_kinds.specs.declared.binding.Signature.{Signature}
+use Rattle.c_kinds.specs.Scopes.{Env, Scope, Faults, found, bound, with_name, known_scope}
 use Rattle.c_kinds.specs.Typing.{typed, constant_faults}
 use Rattle.c_scopes.specs.Enums.{an_int, next_value, worth, value_of, or_zero, enumerated, behind_enum, enum_item, enum_items, enum_faults, int_fault, value_faults}
 use Rattle.c_scopes.specs.Files.{File, State, env_of, function_declared, notes_tops, form_tops, behind_form, form_faults, tops_of, file_faults}
-use Rattle.c_scopes.specs.FunctionNames.{is_main_form, is_empty, same_result}
+use Rattle.c_types.specs.Words.{is_known}
+use Rattle.c_scopes.specs.FunctionNames.{has_function, has_body, signature_in, again_faults, is_main_form, is_empty, same_result}
 use Rattle.c_scopes.specs.Globals.{global_declared, behind_globals, global, globals, globals_faults, global_faults}
 use Rattle.c_statements.specs.declared.extents.Kinded.{Kinded}
 use Rattle.c_statements.specs.Context.{Anchor, Before, Last}
-use Rattle.c_statements.specs.Declarations.{kinded, shape_of, constant_at}
+use Rattle.c_statements.specs.Declarations.{kinded, shape_of, constant_at, initial, initial_faults}
 use Rattle.c_statements.specs.Functions.{result_kind, function_of}
 use Rattle.c_statements.specs.Functions as D
 use Rattle.c_resolved.specs.Files.{IsConstantOf, HasNextValue, HaveValues, IsGlobal, IsMainForm, IsNotMain, AreNotMain, MainIsFormed}
 use Rattle.c_resolved.specs.Kinds.{KindsAgree}
 use Rattle.c_resolved.specs.Names.{Names}
 use Rattle.c_resolved.specs.Scopes as Scopes
-use Rattle.c_resolved.specs.Scopes.{AConstant}
+use Rattle.c_resolved.specs.Scopes.{AConstant, NameIsBound, IsBound, IsBoundGiven, GivenAreBound, ConstantsAreBound, TopsAreBound, IsNew, IsFunctionName, AreNewParameters, BodyIsBound}
 use Rattle.c_resolved.specs.Within.{Each}
 use Rattle.resolving_core.proofs.Arrays.{array_fine}
 use Rattle.resolving_core.proofs.Calls.{same_kind_is}
 use Rattle.resolving_core.proofs.Declared.{values_are}
 use Rattle.resolving_core.proofs.Empty.{constant_empty}
-use Rattle.resolving_core.proofs.FileNames.{Same, IsDefined}
+use Rattle.resolving_core.proofs.FileNames.{Same, meaning_of, IsDefined}
 use Rattle.resolving_core.proofs.FileParts.{EnumParts, enum_parts, GlobalParts, global_parts, globals_parts, function_parts, file_parts}
-use Rattle.resolving_core.proofs.FilePlaces.{defined, Place, noted, form_step, stepped_place, AtEnd, at_end, place_knows}
+use Rattle.resolving_core.proofs.FilePlaces.{notes_behind, defined, Place, noted, form_step, stepped_place, AtEnd, at_end, place_knows}
 use Rattle.resolving_core.proofs.FileScope.{Grows, grows_twice, name_grows, Inv, result_same}
-use Rattle.resolving_core.proofs.FileWalk.{Shaped, tree_scopes, bound_shaped, new_shaped, Stepped, enums_step, globals_step, one_constant, one_global, value_is_int, zero_is_int}
+use Rattle.resolving_core.proofs.FileWalk.{behind_tops, Shaped, tree_scopes, bound_shaped, new_shaped, Stepped, enums_step, globals_step, one_constant, one_global, value_is_int, zero_is_int}
 use Rattle.resolving_core.proofs.FunctionTrees.{function_name}
-use Rattle.resolving_core.proofs.Functions.{Resolves, resolves}
-use Rattle.resolving_core.proofs.ItemKinds.{Good, good}
+use Rattle.resolving_core.proofs.Functions.{Resolves, resolves, function_is_bound}
+use Rattle.resolving_core.proofs.ItemKinds.{Good, good, within_map}
+use Rattle.resolving_core.proofs.Values.{IsSound}
 use Rattle.resolving_core.proofs.Known.{Knows}
-use Rattle.resolving_core.proofs.Lists.{and_left, and_right, not_true, not_false, clean_if, each_append}
+use Rattle.resolving_core.proofs.Lists.{none_left, and_left, and_right, not_true, not_false, clean_if, each_append}
 use Rattle.resolving_core.proofs.Parts.{parted}
-use Rattle.resolving_core.specs.Read.{IsReadTerm, IsReadDeclarator, IsReadEnumerator, IsReadFunction, IsReadTop, IsReadTopForm, IsReadFile}
+use Rattle.resolving_core.specs.Read.{IsReadInitialiser, IsReadTerm, IsReadDeclarator, IsReadEnumerator, IsReadFunction, IsReadTop, IsReadTopForm, IsReadFile}
 use Rattle.resolving_core.proofs.Uses.{ConstantIs, constant_is_value}
 
 -- ---- constants
@@ -63,6 +68,25 @@ module _ (ts : List Top) (ss : List Scopes.Scope) (env : Env) (knows : Knows (re
 
   pub constant_of_file : (t : Term) → IsReadTerm env.word t → constant_faults env t [] ≡ [] → IsConstantOf ts (expression_tree (constant_at env t))
   constant_of_file t r e = let c = constant_is_value n ss env knows t r e in (c.constant, (good n ss _ c.operand.0).kinds)
+
+  constant_bound : (t : Term) → IsReadTerm env.word t → constant_faults env t [] ≡ [] → IsBound [] ss (expression_tree (constant_at env t))
+  constant_bound t r e = within_map (IsSound n ss) (NameIsBound [] ss) (λ x h. h.2) _ (constant_is_value n ss env knows t r e).operand.0
+
+  -- the names of a value are bound
+  pub given_bound : (name : ℕ) (o : Option Term) (b : Option ℤ) → IfSome o (IsReadTerm env.word) → value_faults env name o b [] ≡ [] → IsBoundGiven ss (option_map (constant_at env) o)
+  given_bound name None b r e = tt
+  given_bound name (Some t) b r e = constant_bound t r (int_none (first_of t) (worth env t) (constant_faults env t []) e)
+    where
+      int_none : (at : ℕ) (o : Option ℤ) (vs : Faults) → int_fault at o vs ≡ [] → vs ≡ []
+      int_none at None vs e = e
+      int_none at (Some v) vs e = (clean_if (not (is_in_range Int v)) at 34 vs e).0
+
+  pub all_given : (d : Declarator) → IsReadInitialiser env.word d.value → initial_faults (constant_faults env) d.value [] ≡ [] → GivenAreBound ss (initial (constant_at env) d.value)
+  all_given d r e = as_given (initial (constant_at env) d.value) (values_are env.word (constant_faults env) (constant_empty env) (constant_at env) (IsBound [] ss) (λ t rt et. constant_bound t rt et) d.value r e)
+    where
+      as_given : (o : Option (List Expression)) → IfSome (option_map expression_trees o) (Each (IsBound [] ss)) → GivenAreBound ss o
+      as_given None h = tt
+      as_given (Some es) h = h
 
   an_int_there : (v : ℤ) → not (is_in_range Int v) ≡ false → an_int v ≡ Some v
   an_int_there v e = ap (λ b. cond b (Some v) None) (not_true (is_in_range Int v) e)
@@ -107,11 +131,18 @@ module _ (file : File) (ts : List Top) (known : IsDefined (defined file) ts []) 
   abbrev Reaches : List Scope → Type 0
   Reaches scopes = (fs : Scope) → Shaped scopes fs → Grows fs z.last
 
+  new_of_tree : (fs : Scope) (rs : Scopes.Scope) (m : List ℕ) → Same fs rs → is_some (found m fs) ≡ false → IsNew m (tree_scopes rs)
+  new_of_tree fs rs m h e = h m ∙ by (found m fs) e
+    where
+      by : (o : Option Binding) → is_some o ≡ false → option_map (meaning_of m) o ≡ None
+      by None e = refl
+      by (Some b) e = absurd (true≢false e)
+
   -- the values of constants, each by the one before
   pub values_have : (es : List Enumerator) (o : Option ℤ) (before : ℤ) → o ≡ Some before → (scopes : List Scope) (done : List Top) (fs : Scope) (rs : Scopes.Scope) → let env : Env = record { word = file.word; scopes = scopes } in
       Shaped scopes fs → Each (IsReadEnumerator file.word) es → enum_faults es o env [] ≡ [] → Inv (defined file) done fs rs → Reaches (behind_enum es o env).scopes
-      → HaveValues ts before (enum_items es o env) × AreNotMain (enum_items es o env)
-  values_have [] o before q scopes done fs rs s r e i h = (tt, tt)
+      → HaveValues ts before (enum_items es o env) × AreNotMain (enum_items es o env) × ConstantsAreBound (tree_scopes rs) (enum_items es o env)
+  values_have [] o before q scopes done fs rs s r e i h = (tt, tt, tt)
   values_have (x ∷ es) o before q scopes done fs rs s r e i h =
       let env : Env = record { word = file.word; scopes = scopes } in
       let p = enum_parts x es o env e in
@@ -119,13 +150,15 @@ module _ (file : File) (ts : List Top) (known : IsDefined (defined file) ts []) 
       let m = file.word x.name in
       let b = B.Constant (or_zero v) in
       let all = enums_step (defined file) (x ∷ es) o env done fs rs s e i in
-      let k = next_at ts (tree_scopes rs) env (knowing env fs rs s (grows_twice fs all.fs' z.last all.grows (h all.fs' all.shaped)) i.same) x.name x.value o before q r.0.value p.value in
+      let here = knowing env fs rs s (grows_twice fs all.fs' z.last all.grows (h all.fs' all.shaped)) i.same in
+      let k = next_at ts (tree_scopes rs) env here x.name x.value o before q r.0.value p.value in
       let new = new_shaped scopes fs m s p.name.new in
       let ranged = zero_is_int v (value_is_int env x.value o) in
       let next = one_constant (defined file) done fs rs m (or_zero v) new ranged i in
       let value = ap or_zero k.1 in
       let rest = values_have es v k.0 k.1 (enumerated x v env).scopes done (with_name m b fs) ((m, AConstant (or_zero v)) ∷ rs) (bound_shaped scopes fs m b s) r.1 p.rest next h in
-      ((k.2 (enum_item x v env) value, ranged, subst (λ w. HaveValues ts w (enum_items es v (enumerated x v env))) (sym value) rest.0), (p.name.other, rest.1))
+      ((k.2 (enum_item x v env) value, ranged, subst (λ w. HaveValues ts w (enum_items es v (enumerated x v env))) (sym value) rest.0), (p.name.other, rest.1),
+       ((new_of_tree fs rs m i.same new, p.name.unknown), given_bound ts (tree_scopes rs) env here x.name x.value o r.0.value p.value, rest.2))
 
   -- ---- variables
 
@@ -147,8 +180,8 @@ module _ (file : File) (ts : List Top) (known : IsDefined (defined file) ts []) 
 
   pub globals_are : (static : Bool) (k : Kinded) (ds : List Declarator) (scopes : List Scope) (done : List Top) (fs : Scope) (rs : Scopes.Scope) → let env : Env = record { word = file.word; scopes = scopes } in
       Shaped scopes fs → Each (IsReadDeclarator file.word) ds → globals_faults k ds env [] ≡ [] → Inv (defined file) done fs rs → Reaches (behind_globals k ds env).scopes
-      → Each GlobalFact (globals static k ds env) × Each MainIsFormed (globals static k ds env)
-  globals_are static k [] scopes done fs rs s r e i h = (tt, tt)
+      → Each GlobalFact (globals static k ds env) × Each MainIsFormed (globals static k ds env) × TopsAreBound (tree_scopes rs) (globals static k ds env)
+  globals_are static k [] scopes done fs rs s r e i h = (tt, tt, tt)
   globals_are static k (d ∷ ds) scopes done fs rs s r e i h =
       let env : Env = record { word = file.word; scopes = scopes } in
       let p = globals_parts k d ds env e in
@@ -163,7 +196,8 @@ module _ (file : File) (ts : List Top) (known : IsDefined (defined file) ts []) 
       let all = globals_step (defined file) static k ds inner (done ++ T.Global (global static k d env) ∷ []) (with_name m b fs) rs' s' p.1 next in
       let here = knowing inner (with_name m b fs) rs' s' (grows_twice (with_name m b fs) all.fs' z.last all.grows (h all.fs' all.shaped)) next.same in
       let rest = globals_are static k ds inner.scopes (done ++ T.Global (global static k d env) ∷ []) (with_name m b fs) rs' s' r.1 p.1 next h in
-      ((one_is static k d scopes (with_name m b fs) rs' r.0 q here, rest.0), (q.name.other, rest.1))
+      ((one_is static k d scopes (with_name m b fs) rs' r.0 q here, rest.0), (q.name.other, rest.1),
+       (((new_of_tree fs rs m i.same new, q.name.unknown), all_given ts (tree_scopes rs') inner here d r.0.value q.values), rest.2))
 
 -- ---- main
 
@@ -200,12 +234,32 @@ module _ (file : File) (ts : List Top) (known : (slots : List Slot) → IsDefine
   abbrev pub Hold : List Top → Type 0
   Hold xs = Each TopHolds xs × Each MainIsFormed xs
 
-  hold_both : (xs ys : List Top) → Hold xs → Hold ys → Hold (xs ++ ys)
-  hold_both xs ys h k = (each_append TopHolds xs ys h.0 k.0, each_append MainIsFormed xs ys h.1 k.1)
+  -- and the names of each are bound, from these scopes on
+  abbrev pub HoldFrom : List Scopes.Scope → List Top → Type 0
+  HoldFrom ss xs = Hold xs × TopsAreBound ss xs
 
-  notes_hold : (bs : List (List ℕ)) → Hold (map T.Note bs)
-  notes_hold [] = (tt, tt)
-  notes_hold (b ∷ bs) = let r = notes_hold bs in ((tt, r.0), (tt, r.1))
+  bound_both : (ss : List Scopes.Scope) (xs ys : List Top) → TopsAreBound ss xs → TopsAreBound (behind_tops (defined file) ss xs) ys → TopsAreBound ss (xs ++ ys)
+  bound_both ss [] ys h k = k
+  bound_both ss (x ∷ xs) ys h k = (h.0, bound_both (Scopes.behind_top ss x) xs ys h.1 k)
+
+  hold_both : (ss : List Scopes.Scope) (xs ys : List Top) → HoldFrom ss xs → HoldFrom (behind_tops (defined file) ss xs) ys → HoldFrom ss (xs ++ ys)
+  hold_both ss xs ys h k = ((each_append TopHolds xs ys h.0.0 k.0.0, each_append MainIsFormed xs ys h.0.1 k.0.1), bound_both ss xs ys h.1 k.1)
+
+  notes_hold : (ss : List Scopes.Scope) (bs : List (List ℕ)) → HoldFrom ss (map T.Note bs)
+  notes_hold ss [] = ((tt, tt), tt)
+  notes_hold ss (b ∷ bs) = let r = notes_hold ss bs in (((tt, r.0.0), (tt, r.0.1)), (tt, r.1))
+
+  -- a function is declared once, or again
+  function_named : (at : ℕ) (again : Bool) (s : Signature) (m : List ℕ) (scopes : List Scope) (fs : Scope) (rs : Scopes.Scope) → Shaped scopes fs → Same fs rs → again_faults at again s (bound m scopes) [] ≡ [] → IsFunctionName m (tree_scopes rs)
+  function_named at again s m scopes fs rs h same e = subst (λ o. IfSome o (λ b. b ≡ Scopes.AFunction)) (sym (same m)) (by (found m fs) (subst (λ o. again_faults at again s o [] ≡ []) (ap (bound m) h) e))
+    where
+      by : (o : Option Binding) → again_faults at again s o [] ≡ [] → IfSome (option_map (meaning_of m) o) (λ b. b ≡ Scopes.AFunction)
+      by None e = tt
+      by (Some (B.Function g)) e = refl
+      by (Some B.Printf) e = refl
+      by (Some (B.Constant v)) e = absurd (none_left _ _ e)
+      by (Some (B.Global shape)) e = absurd (none_left _ _ e)
+      by (Some (B.Local k shape)) e = absurd (none_left _ _ e)
 
   globals_hold : (start : Scope) (z : AtEnd file ts start) (static : Bool) (k : Kinded) (ds : List Declarator) (env : Env) → Each (GlobalFact file ts (known []) start z) (globals static k ds env) → Each TopHolds (globals static k ds env)
   globals_hold start z static k [] env h = tt
@@ -219,35 +273,53 @@ module _ (file : File) (ts : List Top) (known : (slots : List Slot) → IsDefine
       head (s ∷ ss) = s
 
   form_holds : (done : List Top) (first : ℕ) (form : Form) (s : State) (p : Place file done s.scopes) → IsReadTopForm file.word form → (e : form_faults file form s [] ≡ [])
-      → (now : Scope) → Shaped (behind_form file form s).scopes now → (names : Scopes.Scope) → Same now names → (z : AtEnd file ts now) → Hold (form_tops file first form s)
-  form_holds done first Line s p r e now h names same z = ((tt, tt), (tt, tt))
-  form_holds done first (Enum es) s p r e now h names same z =
+      → (now : Scope) → Shaped (behind_form file form s).scopes now → (names : Scopes.Scope) → behind_tops (defined file) (tree_scopes p.rs) (form_tops file first form s) ≡ tree_scopes names → Same now names → (z : AtEnd file ts now)
+      → HoldFrom (tree_scopes p.rs) (form_tops file first form s)
+  form_holds done first Line s p r e now h names tree same z = (((tt, tt), (tt, tt)), (tt, tt))
+  form_holds done first (Enum es) s p r e now h names tree same z =
       let v = values_have file ts (known []) now z es (Some (negsuc 0)) (negsuc 0) refl s.scopes done p.fs p.rs p.shaped r.1 e p.inv (λ fs k. subst (λ a. Grows a z.last) (same_head _ now fs h k) z.grows) in
-      ((v.0, tt), (v.1, tt))
-  form_holds done first (Globals static d) s p r e now h names same z =
+      (((v.0, tt), (v.1, tt)), (v.2, tt))
+  form_holds done first (Globals static d) s p r e now h names tree same z =
       let k = kinded file.word d in
       let v = globals_are file ts (known []) now z static k d.names s.scopes done p.fs p.rs p.shaped r e p.inv (λ fs k. subst (λ a. Grows a z.last) (same_head _ now fs h k) z.grows) in
-      (globals_hold now z static k d.names (env_of file s) v.0, v.1)
-  form_holds done first (Defines f) s p r e now h names same z =
+      ((globals_hold now z static k d.names (env_of file s) v.0, v.1), v.2)
+  form_holds done first (Defines f) s p r e now h names tree same z =
       let q = function_parts file f s e in
       let scopes = (function_declared file f s).scopes in
-      let t = function_of file.word file.notes f scopes in
-      ((resolves file.flat file.word file.notes f scopes ts r q.1
-        (λ slots. (tree_scopes names, subst (λ sc. Knows (record { tops = ts; slots = slots }) (tree_scopes names) (record { word = file.word; scopes = sc })) (sym h) (place_knows file ts slots (known slots) now z now names z.grows same))), tt),
-       (λ m. main_by file.word file.notes f scopes f.body (either_true (bytes_eq (file.word f.name) (codes "main")) (is_main_form file.word f) q.0.main (ap (λ w. bytes_eq w (codes "main")) (sym (function_name file.word file.notes f scopes f.body)) ∙ m)), tt))
-  form_holds done first Unread s p r e now h names same z = absurd r
+      let m = file.word f.name in
+      let named = function_name file.word file.notes f scopes f.body in
+      let knows : (slots : List Slot) → Knows (record { tops = ts; slots = slots }) (tree_scopes names) (record { word = file.word; scopes = scopes })
+          = λ slots. subst (λ sc. Knows (record { tops = ts; slots = slots }) (tree_scopes names) (record { word = file.word; scopes = sc })) (sym h) (place_knows file ts slots (known slots) now z now names z.grows same) in
+      let b = function_is_bound file.flat file.word file.notes f scopes ts (tree_scopes names) knows r q.1 in
+      ((((resolves file.flat file.word file.notes f scopes ts r q.1 (λ slots. (tree_scopes names, knows slots))), tt),
+        (λ k. main_by file.word file.notes f scopes f.body (either_true (bytes_eq m (codes "main")) (is_main_form file.word f) q.0.main (ap (λ w. bytes_eq w (codes "main")) (sym named) ∙ k)), tt)),
+       (record {
+         named = subst (λ w. IsFunctionName w (tree_scopes p.rs)) (sym named) (function_named f.name (has_body f && has_function s.bodies m) (signature_in file.bodies file.word f) m s.scopes p.fs p.rs p.shaped p.inv.same q.0.again);
+         unknown = ap is_known named ∙ q.0.unknown;
+         parameters = subst (λ ss. AreNewParameters (function_of file.word file.notes f scopes).params 0 (function_of file.word file.notes f scopes).slots (Scopes.inside ss)) (sym tree) b.0;
+         body = subst (λ ss. BodyIsBound (function_of file.word file.notes f scopes) ss (function_of file.word file.notes f scopes).body) (sym tree) b.1;
+       }, tt))
+  form_holds done first Unread s p r e now h names tree same z = absurd r
 
-  pub file_holds : (xs : List tops.Top) (s : State) (done : List Top) (p : Place file done s.scopes) → IsReadFile file.word xs → file_faults file xs s [] ≡ [] → ts ≡ done ++ tops_of file xs s → Hold (tops_of file xs s)
-  file_holds [] s done p r e a = notes_hold (file.notes Last)
+  pub file_holds : (xs : List tops.Top) (s : State) (done : List Top) (p : Place file done s.scopes) → IsReadFile file.word xs → file_faults file xs s [] ≡ [] → ts ≡ done ++ tops_of file xs s → HoldFrom (tree_scopes p.rs) (tops_of file xs s)
+  file_holds [] s done p r e a = notes_hold (tree_scopes p.rs) (file.notes Last)
   file_holds (tops.From first after form ∷ xs) s done p r e a =
       let q = file_parts file first after form xs s e in
       let bs = file.notes (Before first) in
       let noted_done = done ++ map T.Note bs in
       let v = form_step file noted_done first form s (noted file done s.scopes bs p) r.0 q.0 in
-      let new = notes_tops file (Before first) ++ form_tops file first form s in
+      let forms = form_tops file first form s in
+      let new = notes_tops file (Before first) ++ forms in
       let rest = tops_of file xs (behind_form file form s) in
       let place = stepped_place file done first form s p r.0 q.0 in
       let a' = a ∙ sym (append_assoc done new rest) in
       let z = subst (λ l. AtEnd file l v.fs') (sym a') (at_end file xs (behind_form file form s) (done ++ new) place r.1 q.1) in
-      hold_both new rest (hold_both (map T.Note bs) (form_tops file first form s) (notes_hold bs) (form_holds noted_done first form s (noted file done s.scopes bs p) r.0 q.0 v.fs' v.shaped v.rs' v.inv.same z))
-      (file_holds xs (behind_form file form s) (done ++ new) place r.1 q.1 a')
+      let ss = tree_scopes p.rs in
+      let quiet = notes_behind (defined file) ss bs in
+      let here = form_holds noted_done first form s (noted file done s.scopes bs p) r.0 q.0 v.fs' v.shaped v.rs' v.tree v.inv.same z in
+      let front = hold_both ss (map T.Note bs) forms (notes_hold ss bs) (subst (λ x. HoldFrom x forms) (sym quiet) here) in
+      hold_both ss new rest front (subst (λ x. HoldFrom x rest) (sym (behind_both ss (map T.Note bs) forms ∙ (ap (λ x. behind_tops (defined file) x forms) quiet ∙ v.tree))) (file_holds xs (behind_form file form s) (done ++ new) place r.1 q.1 a'))
+    where
+      behind_both : (ss : List Scopes.Scope) (xs ys : List Top) → behind_tops (defined file) ss (xs ++ ys) ≡ behind_tops (defined file) (behind_tops (defined file) ss xs) ys
+      behind_both ss [] ys = refl
+      behind_both ss (x ∷ xs) ys = behind_both (Scopes.behind_top ss x) xs ys

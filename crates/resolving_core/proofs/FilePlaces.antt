@@ -35,7 +35,7 @@ pub notes_unnamed : (m : List ℕ) (bs : List (List ℕ)) → Unnamed m (map T.N
 notes_unnamed m [] = tt
 notes_unnamed m (b ∷ bs) = (tt, notes_unnamed m bs)
 
-notes_behind : (defined : List ℕ → Bool) (ss : List Scopes.Scope) (bs : List (List ℕ)) → behind_tops defined ss (map T.Note bs) ≡ ss
+pub notes_behind : (defined : List ℕ → Bool) (ss : List Scopes.Scope) (bs : List (List ℕ)) → behind_tops defined ss (map T.Note bs) ≡ ss
 notes_behind defined ss [] = refl
 notes_behind defined ss (b ∷ bs) = notes_behind defined ss bs
 

@@ -19,7 +19,7 @@ use Rattle.c_kinds.specs.Scopes.{Scope, Faults, fault_if, is_bound, bind, bind_f
 use Rattle.c_statements.specs.declared.extents.Kinded.{Kinded}
 use Rattle.c_statements.specs.Context.{Anchor, AtEnd, Context, Walk, env_at, env_in, notes_at, no_construct}
 use Rattle.c_statements.specs.Declarations.{placeholder, is_array, size_faults, slot_of, local_faults}
-use Rattle.c_statements.specs.Functions.{FlatCounts, parameter_name, parameter_slot, parameter_shape, bind_parameter, bind_parameters, parameter_fault, parameters_faults, body_items, behind_body, body_faults, context, inside, defined, function_of}
+use Rattle.c_statements.specs.Functions.{FlatCounts, parameter_name, parameter_slot, parameter_shape, bind_parameter, bind_parameters, parameter_fault, parameters_faults, body_items, behind_body, body_faults, context, prototype_context, inside, defined, function_of}
 use Rattle.c_statements.specs.Labels.{body_labels}
 use Rattle.c_statements.specs.Statements.{list_items, item_items, behind_item, behind_items}
 use Rattle.c_resolved.specs.Files.{IsLength, IsParameterLength, AreLengths}
@@ -29,10 +29,12 @@ use Rattle.c_resolved.specs.Names.{Names}
 use Rattle.c_resolved.specs.PrintableExpressions.{IsName}
 use Rattle.c_resolved.specs.Resolved.{names_in, HasLengths, IsInitialised}
 use Rattle.c_resolved.specs.Scopes as Scopes
-use Rattle.c_resolved.specs.Scopes.{AVariable}
+use Rattle.c_resolved.specs.Scopes.{AVariable, AreBound, IsNew, IsNewParameter, AreNewParameters, with_parameters, BodyIsBound}
+use Rattle.c_types.specs.Words.{is_word}
 use Rattle.c_resolved.specs.Within.{Each, AllDiffer}
 use Rattle.resolving_core.proofs.Arrays.{array_fine}
 use Rattle.resolving_core.proofs.Bindings.{names_same, knows_bound, knows_inside, look_up_tree}
+use Rattle.resolving_core.proofs.Bound.{Nearest, nearest_new, nearest_bound, At, binds_both, place_binds, item_binds, list_binds}
 use Rattle.resolving_core.proofs.Declared.{slot_there}
 use Rattle.resolving_core.proofs.FileParts.{BodyParts, DefinedParts, parameters_clean, parameters_parts}
 use Rattle.resolving_core.proofs.FunctionTrees.{Behind, inside_slots, take_all, drop_all, body_grown, behind_parameters}
@@ -48,7 +50,7 @@ use Rattle.resolving_core.proofs.ItemReturns.{Anywhere, AnyConstant, returns_clo
 use Rattle.resolving_core.proofs.Known.{HasShape, IsKnown, Knows}
 use Rattle.resolving_core.proofs.Lists.{clean_if, is_some_and, each_map}
 use Rattle.resolving_core.proofs.Parts.{local_parts}
-use Rattle.resolving_core.specs.Read.{IsReadTerm, IsReadDeclarator, IsReadBody, IsReadFunction}
+use Rattle.resolving_core.specs.Read.{IsReadTerm, IsReadDeclarator, IsReadBody, IsReadParameter, IsReadFunction}
 use Rattle.resolving_core.proofs.Values.{Sound}
 use Rattle.resolving_core.proofs.Walk.{Begins, Closed, Holds, hold_none, hold_both}
 use Rattle.resolving_core.proofs.Walked.{list_holds, item_holds, notes_hold}
@@ -248,3 +250,107 @@ module _ (flat : FlatCounts) (word : ℕ → List ℕ) (notes : Anchor → List 
 
   pub resolves : IsReadFunction word f → BodyParts flat word notes f f.body scopes → KnownOutside → Resolves ts (function_of word notes f scopes)
   resolves r p k = resolves_by f.body r.body p k
+
+-- ---- the names of a function
+
+word_nonempty : (m : List ℕ) (i : ℕ) (ss : List Scopes.Scope) → is_word m ≡ true → Scopes.bind_parameter m i ss ≡ Scopes.bind m (AVariable (H.Slot i)) ss
+word_nonempty [] i ss e = absurd (true≢false (sym e))
+word_nonempty (c ∷ cs) i ss e = refl
+
+new_parameter : (m : List ℕ) (ss : List Scopes.Scope) → IsNew m ss → IsNewParameter m ss
+new_parameter [] ss h = tt
+new_parameter (c ∷ cs) ss h = h
+
+at_same : {ctx : Context} {n : Names} (v w : Walk) (s t : List Scopes.Scope) → v.scopes ≡ w.scopes → s ≡ t → At ctx n w t → At ctx n v s
+at_same {ctx = ctx} {n = n} v w s t e f a =
+    let b = subst (At ctx n w) (sym f) a in
+    record { knows = subst (λ sc. Knows n s (record { word = ctx.word; scopes = sc })) (sym e) b.knows; nearest = subst (λ sc. Nearest sc s) (sym e) b.nearest }
+
+module _ (ctx : Context) (n : Names) (defines : Bool) where
+  -- the scopes behind parameters, and that their names are new
+  pub record ParametersBound (i : ℕ) (xs : List Parameter) (w : Walk) (ss : List Scopes.Scope) (more : List Slot) : Type 0 where
+    pub ss' : List Scopes.Scope
+    pub same : with_parameters (length xs) i (map (parameter_slot ctx.word) xs ++ more) ss ≡ ss'
+    pub new : AreNewParameters (length xs) i (map (parameter_slot ctx.word) xs ++ more) ss
+    pub at : At ctx n (bind_parameters ctx.word xs w) ss'
+
+  -- one parameter
+  pub record ParameterBound (i : ℕ) (x : Parameter) (w : Walk) (ss : List Scopes.Scope) : Type 0 where
+    pub new : IsNewParameter (parameter_name ctx.word x.name) ss
+    pub at : At ctx n (bind_parameter ctx.word x w) (Scopes.bind_parameter (parameter_name ctx.word x.name) i ss)
+
+  one_parameter : (i : ℕ) (x : Parameter) (w : Walk) (ss : List Scopes.Scope) → i ≡ length w.slots → IfSome x.name (λ at. IsName (ctx.word at)) → parameter_fault ctx defines x w [] ≡ [] → Begins (bind_parameter ctx.word x w).slots n.slots
+      → At ctx n w ss → ParameterBound i x w ss
+  one_parameter i x w ss q r e b a = by x.name refl r (parameter_new ctx defines x w e)
+    where
+      by : (o : Option ℕ) → x.name ≡ o → IfSome o (λ at. IsName (ctx.word at)) → IsNewName ctx defines x w o → ParameterBound i x w ss
+      by None j r h = record {
+        new = subst (λ o. IsNewParameter (parameter_name ctx.word o) ss) (sym j) tt;
+        at = at_same (bind_parameter ctx.word x w) w (Scopes.bind_parameter (parameter_name ctx.word x.name) i ss) ss
+             (ap (λ (o : Option ℕ). elim o [ Some at ↦ bind (ctx.word at) (Local (length w.slots) (parameter_shape ctx.word x)) w.scopes | None ↦ w.scopes ]) j)
+             (ap (λ o. Scopes.bind_parameter (parameter_name ctx.word o) i ss) j) a;
+      }
+      by (Some at) j r h =
+          let m = ctx.word at in
+          let k = length w.slots in
+          let shape = parameter_shape ctx.word x in
+          let scopes = ap (λ (o : Option ℕ). elim o [ Some at ↦ bind (ctx.word at) (Local (length w.slots) (parameter_shape ctx.word x)) w.scopes | None ↦ w.scopes ]) j in
+          let bound : At ctx n (record { scopes = bind m (Local k shape) w.scopes; slots = (bind_parameter ctx.word x w).slots }) (Scopes.bind m (AVariable (H.Slot k)) ss) = record {
+            knows = knows_bound n ctx.word m (Local k shape) (AVariable (H.Slot k)) w.scopes ss h (parameter_known ctx n x w at ss j b) a.knows;
+            nearest = nearest_bound w.scopes ss m (Local k shape) a.nearest h;
+          } in
+          record {
+            new = subst (λ o. IsNewParameter (parameter_name ctx.word o) ss) (sym j) (new_parameter m ss (nearest_new w.scopes ss m a.nearest h));
+            at = at_same (bind_parameter ctx.word x w) _ (Scopes.bind_parameter (parameter_name ctx.word x.name) i ss) _ scopes
+                 (ap (λ o. Scopes.bind_parameter (parameter_name ctx.word o) i ss) j ∙ (word_nonempty m i ss r.0 ∙ ap (λ k. Scopes.bind m (AVariable (H.Slot k)) ss) q)) bound;
+          }
+
+  pub parameters_bound : (xs : List Parameter) (i : ℕ) (w : Walk) (ss : List Scopes.Scope) (more : List Slot) → i ≡ length w.slots → Each (IsReadParameter ctx.word) xs → parameters_faults ctx defines xs w [] ≡ []
+      → Begins (bind_parameters ctx.word xs w).slots n.slots → At ctx n w ss → ParametersBound i xs w ss more
+  parameters_bound [] i w ss more q r e b a = record { ss' = ss; same = refl; new = tt; at = a }
+  parameters_bound (x ∷ xs) i w ss more q r e b a =
+      let p = parameters_parts ctx defines x xs w e in
+      let v = bind_parameter ctx.word x w in
+      let one = one_parameter i x w ss q r.0.named p.0 (bound_begins ctx n xs v b) a in
+      let rest = parameters_bound xs (suc i) v (Scopes.bind_parameter (parameter_name ctx.word x.name) i ss) more (let h = length-append w.slots (parameter_slot ctx.word x ∷ []) in omega arith) r.1 p.1 b one.at in
+      record { ss' = rest.ss'; same = rest.same; new = (one.new, rest.new); at = rest.at }
+
+-- the names of a body
+body_is_bound : (ctx : Context) (n : Names) (b : Body) (w : Walk) (ss : List Scopes.Scope) → At ctx n w ss → IsReadBody ctx.word b → body_faults ctx b w [] ≡ [] → Begins (behind_body ctx b w).slots n.slots → AreBound n.slots ss (trees_of (body_items ctx b w))
+body_is_bound ctx n (Braces first after xs) w ss a r e z =
+    let l = list_binds ctx n no_construct xs w ss a r e z in (binds_both ctx n ss l.ss' l.ss' (list_items ctx xs w) (notes_at ctx (AtEnd first)) l.binds (place_binds ctx n l.ss' (AtEnd first))).bound
+body_is_bound ctx n (Lone first after x) w ss a r e z =
+    let l = item_binds ctx n no_construct x w ss a r e z in (binds_both ctx n ss l.ss' l.ss' (item_items ctx x w) (notes_at ctx (AtEnd first)) l.binds (place_binds ctx n l.ss' (AtEnd first))).bound
+
+module _ (flat : FlatCounts) (word : ℕ → List ℕ) (notes : Anchor → List (List ℕ)) (f : Function) (scopes : List Scope) (ts : List Top) (ss : List Scopes.Scope)
+    (knows : (slots : List Slot) → Knows (record { tops = ts; slots = slots }) ss (record { word = word; scopes = scopes })) where
+  abbrev at_start : Walk
+  at_start = record { scopes = [] ∷ scopes; slots = [] }
+
+  start_at : (ctx : Context) (n : Names) → ctx.word ≡ word → n.tops ≡ ts → Knows n ss (record { word = ctx.word; scopes = scopes }) → At ctx n at_start (Scopes.inside ss)
+  start_at ctx n e t k = record { knows = knows_inside n ctx.word scopes ss k; nearest = λ m. refl }
+
+  bound_by : (o : Option Body) → IfSome o (IsReadBody word) → Each (IsReadParameter word) f.parameters → BodyParts flat word notes f o scopes
+      → let t = defined word notes f o scopes in AreNewParameters t.params 0 t.slots (Scopes.inside ss) × BodyIsBound t ss t.body
+  bound_by None r q p =
+      let ctx = prototype_context word f in
+      let slots = (inside word f scopes).slots in
+      let n : Names = record { tops = ts; slots = slots } in
+      let whole = inside_slots word f scopes ∙ sym (append-nil (map (parameter_slot word) f.parameters)) in
+      let a = parameters_bound ctx n false f.parameters 0 at_start (Scopes.inside ss) [] refl q p ([], sym (append-nil slots)) (start_at ctx n refl refl (knows slots)) in
+      (subst (λ l. AreNewParameters (length f.parameters) 0 l (Scopes.inside ss)) (sym whole) a.new, tt)
+  bound_by (Some b) r q p =
+      let ctx = context word notes f b in
+      let w = inside word f scopes in
+      let slots = (behind_body ctx b w).slots in
+      let n : Names = record { tops = ts; slots = slots } in
+      let g = body_grown ctx IsFine (declared_fine ctx) b w r p.body in
+      let whole = g.whole ∙ ap (λ l. l ++ g.more) (inside_slots word f scopes) in
+      let a = parameters_bound ctx n true f.parameters 0 at_start (Scopes.inside ss) g.more refl q p.parameters (g.more, g.whole) (start_at ctx n refl refl (knows slots)) in
+      let all : Begins slots slots = ([], sym (append-nil slots)) in
+      (subst (λ l. AreNewParameters (length f.parameters) 0 l (Scopes.inside ss)) (sym whole) a.new,
+       subst (λ x. AreBound slots x (trees_of (body_items ctx b w))) (sym (ap (λ l. with_parameters (length f.parameters) 0 l (Scopes.inside ss)) whole ∙ a.same)) (body_is_bound ctx n b w a.ss' a.at r p.body all))
+
+  pub function_is_bound : IsReadFunction word f → BodyParts flat word notes f f.body scopes
+      → let t = function_of word notes f scopes in AreNewParameters t.params 0 t.slots (Scopes.inside ss) × BodyIsBound t ss t.body
+  function_is_bound r p = bound_by f.body r.body r.parameters p

@@ -19,12 +19,14 @@ use Rattle.c_tree.specs.declared.tree.Slot.{Slot}
 use Rattle.c_scopes.specs.Files.{File, start, tops_of, file_faults}
 use Rattle.c_scopes.specs.Resolving.{is_before, earlier, least, file_at, program_of, violation_of, answer, refused, resolved}
 use Rattle.c_resolved.specs.Files.{MainIsFormed, DeclarationsAgree}
+use Rattle.c_resolved.specs.Scopes.{NamesAreBound}
 use Rattle.c_resolved.specs.Within.{Each}
 use Rattle.resolving_core.specs.Laws.{Gives, OfFunction, HasConstants, ResolvingLaws}
 use Rattle.resolving_core.specs.Read.{IsReadFile}
 use Rattle.resolving_core.proofs.Bodies.{file_bodies}
 use Rattle.resolving_core.proofs.Declarations.{file_once, settled, declarations_agree}
-use Rattle.resolving_core.proofs.FileFacts.{TopHolds, Hold, file_holds}
+use Rattle.resolving_core.proofs.FileFacts.{TopHolds, HoldFrom, file_holds}
+use Rattle.resolving_core.proofs.FileWalk.{tree_scopes}
 use Rattle.resolving_core.proofs.FileNames.{Unnamed, Same, library_same, IsDefined}
 use Rattle.resolving_core.proofs.FilePlaces.{defined, Place, at_end}
 use Rattle.resolving_core.proofs.Functions.{Resolves}
@@ -65,7 +67,7 @@ module _ (file : File) (xs : List tops.Top) (bodies : (m : List ℕ) → defined
   pub known : (slots : List Slot) → IsDefined (defined file) all slots
   known slots m = file_bodies file m xs start ∙ sym (bodies m)
 
-  pub held : Hold file all known all
+  pub held : HoldFrom file all known (tree_scopes []) all
   held = file_holds file all known xs start [] first_place r e refl
 
   pub declared : DeclarationsAgree all
@@ -78,6 +80,7 @@ pub record Answered (p : Program) : Type 0 where
   pub main : Each MainIsFormed p.tops
   pub declarations : DeclarationsAgree p.tops
   pub constants : Each (HasConstants p.tops) p.tops
+  pub bound : NamesAreBound p.tops
   pub functions : Each (OfFunction (Resolves p.tops)) p.tops
 
 module _ (file : File) (ts : List Top) (known : (slots : List Slot) → IsDefined (defined file) ts slots) where
@@ -101,10 +104,11 @@ file_answered file xs bodies r e =
     let k = known file xs bodies r e in
     let h = held file xs bodies r e in
     record {
-      main = h.1;
+      main = h.0.1;
+      bound = h.1;
       declarations = declared file xs bodies r e;
-      constants = each_map (TopHolds file ts k) (HasConstants ts) (one_constant file ts k) ts h.0;
-      functions = each_map (TopHolds file ts k) (OfFunction (Resolves ts)) (one_function file ts k) ts h.0;
+      constants = each_map (TopHolds file ts k) (HasConstants ts) (one_constant file ts k) ts h.0.0;
+      functions = each_map (TopHolds file ts k) (OfFunction (Resolves ts)) (one_function file ts k) ts h.0.0;
     }
 
 pub all_answered : Gives Answered
@@ -130,6 +134,7 @@ pub resolving_laws : ResolvingLaws
 resolving_laws = record {
   main = λ flat text tokens comments x p r e. (all_answered flat text tokens comments x p r e).main;
   declarations = λ flat text tokens comments x p r e. (all_answered flat text tokens comments x p r e).declarations;
+  bound = λ flat text tokens comments x p r e. (all_answered flat text tokens comments x p r e).bound;
   constants = λ flat text tokens comments x p r e. (all_answered flat text tokens comments x p r e).constants;
   kinds = each_function _ (λ ts f h. h.kinds);
   consts = each_function _ (λ ts f h. h.consts);

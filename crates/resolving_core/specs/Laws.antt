@@ -19,7 +19,7 @@ use Rattle.c_resolved.specs.Files.{HaveValues, IsGlobal, DeclarationsAgree, Main
 use Rattle.c_resolved.specs.Form.{gathered, declared_slot, marked_label, numbers_from, HasNoLoose, HasBodyOrNone}
 use Rattle.c_resolved.specs.Kinds.{ItemAgrees, KeepsConsts, ReturnFits}
 use Rattle.c_resolved.specs.Resolved.{names_in, HasLengths, IsInitialised}
-use Rattle.c_resolved.specs.Spelling.{AreNamed}
+use Rattle.c_resolved.specs.Scopes.{NamesAreBound}
 use Rattle.c_resolved.specs.Within.{Each, AllDiffer}
 use Rattle.resolving_core.specs.Read.{IsReadFile}
 
@@ -57,6 +57,9 @@ pub record ResolvingLaws : Type 0 where
   -- nothing is called `main` but `int main(void)`, and the declarations of each function agree
   pub main : Gives (λ p. Each MainIsFormed p.tops)
   pub declarations : Gives (λ p. DeclarationsAgree p.tops)
+  -- each name is bound to what the tree has there, and none is declared twice in a scope
+  pub bound : Gives (λ p. NamesAreBound p.tops)
+  -- enum constants have the values that are written, and variables have constant initialisers
   pub constants : Gives (λ p. Each (HasConstants p.tops) p.tops)
   -- kinds agree, values stand where they are used, calls have the right arguments
   pub kinds : Gives (λ p. Functions (λ ts f. Everywhere (ItemAgrees (names_in ts f)) (body_of f)) p)
