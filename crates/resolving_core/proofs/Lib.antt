@@ -34,3 +34,4 @@ pub mod SlotNumbers
 pub mod LabelNumbers
 pub mod TheLaws
 pub mod Bound
+pub mod Sectioned
