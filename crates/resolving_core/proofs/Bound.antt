@@ -341,7 +341,7 @@ module _ (ctx : Context) (n : Names) where
   outside_by around w ls p xs true q s t o cs ds h f g = closed_bound s t o cs h (f q)
   outside_by around w ls p xs false q s t o cs ds h f g = g q.1
 
-  outside_later : (ls : List Label) (p : Plain) (xs : Items) (around : Around) (w : Walk) → AreReadItems ctx.word xs → (b : Bool) → Outside ctx around w b ls p xs
+  outside_later : (ls : List Label) (p : Plain) (xs : Items) (around : Around) (w : Walk) → AreReadItems ctx.word ctx.notes xs → (b : Bool) → Outside ctx around w b ls p xs
       → Grown Any (behind_plain ctx p w).slots (behind_items ctx xs (behind_plain ctx p w)).slots
   outside_later ls p xs around w r true o = list_grows ctx Any (λ k d w r e. tt) around xs (behind_plain ctx p w) r o
   outside_later ls p xs around w r false o = outside_grows ctx Any (λ k d w r e. tt) around xs (behind_plain ctx p w) r o.1
@@ -351,7 +351,7 @@ module _ (ctx : Context) (n : Names) where
   end_by false ss xs ys f g = g
 
   mutual
-    pub item_binds : (around : Around) (x : Item) (w : Walk) (ss : List Scopes.Scope) → At w ss → IsReadItem ctx.word x → item_faults ctx around x w [] ≡ [] → Ends (behind_item ctx x w)
+    pub item_binds : (around : Around) (x : Item) (w : Walk) (ss : List Scopes.Scope) → At w ss → IsReadItem ctx.word ctx.notes x → item_faults ctx around x w [] ≡ [] → Ends (behind_item ctx x w)
         → Leads ss (item_items ctx x w) (behind_item ctx x w)
     item_binds around (Declares first after d) w ss a r e z =
         let l = locals_bind (kinded ctx.word d) d.names w ss a r e z in
@@ -360,10 +360,10 @@ module _ (ctx : Context) (n : Names) where
         let q = states_parts ctx around w ls p e in
         record { ss' = ss; binds = binds_both ss ss ss (labels_items ctx (env_at ctx w) ls) (plain_items ctx p w) (labels_bind w ss around.switch ls a r.0 q.0) (plain_binds around p w ss a r.1 q.1 z); at = at_scopes (behind_plain ctx p w) w ss (plain_scopes ctx p w) a }
 
-    plain_binds : (around : Around) (p : Plain) (w : Walk) (ss : List Scopes.Scope) → At w ss → IsReadPlain ctx.word p → plain_faults ctx around p w [] ≡ [] → Ends (behind_plain ctx p w) → Binds ss ss (plain_items ctx p w)
+    plain_binds : (around : Around) (p : Plain) (w : Walk) (ss : List Scopes.Scope) → At w ss → IsReadPlain ctx.word ctx.notes p → plain_faults ctx around p w [] ≡ [] → Ends (behind_plain ctx p w) → Binds ss ss (plain_items ctx p w)
     plain_binds around (From first after s) w ss a r e z = behind_notes ss ss (Before first) (statement_items ctx s w) (statement_binds around first s w ss a r e z)
 
-    statement_binds : (around : Around) (first : ℕ) (s : Statement) (w : Walk) (ss : List Scopes.Scope) → At w ss → IsReadStatement ctx.word s → statement_faults ctx around first s w [] ≡ [] → Ends (statements.behind_statement ctx s w)
+    statement_binds : (around : Around) (first : ℕ) (s : Statement) (w : Walk) (ss : List Scopes.Scope) → At w ss → IsReadStatement ctx.word ctx.notes s → statement_faults ctx around first s w [] ≡ [] → Ends (statements.behind_statement ctx s w)
         → Binds ss ss (statement_items ctx s w)
     statement_binds around first Null w ss a r e z = binds_none ss
     statement_binds around first (Evaluate t) w ss a r e z = let x = dropped_at (env_at ctx w) t in binds_one ss ss (item.Evaluate x) _ (tree-Evaluate x) (dropped_bound w ss t a r e) refl
@@ -421,7 +421,7 @@ module _ (ctx : Context) (n : Names) where
     statement_binds around first (Return t) w ss a r e z = let x = option_map (value_at (env_at ctx w)) t in binds_one ss ss (item.Return x) _ (tree-Return x) (returned_bound ctx.result w ss first t a r e) refl
     statement_binds around first Unread w ss a r e z = absurd r
 
-    body_bound : (around : Around) (b : Body) (w : Walk) (ss : List Scopes.Scope) → At w ss → IsReadBody ctx.word b → body_faults ctx around b w [] ≡ [] → Ends (behind_body ctx b w) → AreBound n.slots (inside ss) (trees_of (body_items ctx b w))
+    body_bound : (around : Around) (b : Body) (w : Walk) (ss : List Scopes.Scope) → At w ss → IsReadBody ctx.word ctx.notes b → body_faults ctx around b w [] ≡ [] → Ends (behind_body ctx b w) → AreBound n.slots (inside ss) (trees_of (body_items ctx b w))
     body_bound around (Braces first after xs) w ss a r e z =
         let l = list_binds around xs (enter w) (inside ss) (at_inside w ss a) r e z in
         (binds_both (inside ss) l.ss' l.ss' (list_items ctx xs (enter w)) (notes_at ctx (AtEnd first)) l.binds (place_binds l.ss' (AtEnd first))).bound
@@ -429,7 +429,7 @@ module _ (ctx : Context) (n : Names) where
         let l = item_binds around x (enter w) (inside ss) (at_inside w ss a) r e z in
         (binds_both (inside ss) l.ss' l.ss' (item_items ctx x (enter w)) (notes_at ctx (AtEnd first)) l.binds (place_binds l.ss' (AtEnd first))).bound
 
-    pub list_binds : (around : Around) (xs : Items) (w : Walk) (ss : List Scopes.Scope) → At w ss → AreReadItems ctx.word xs → list_faults ctx around xs w [] ≡ [] → Ends (behind_items ctx xs w) → Leads ss (list_items ctx xs w) (behind_items ctx xs w)
+    pub list_binds : (around : Around) (xs : Items) (w : Walk) (ss : List Scopes.Scope) → At w ss → AreReadItems ctx.word ctx.notes xs → list_faults ctx around xs w [] ≡ [] → Ends (behind_items ctx xs w) → Leads ss (list_items ctx xs w) (behind_items ctx xs w)
     list_binds around NoItem w ss a r e z = record { ss' = ss; binds = binds_none ss; at = a }
     list_binds around (items.Then x xs) w ss a r e z =
         let p = list_parts ctx around w x xs e in
@@ -439,12 +439,12 @@ module _ (ctx : Context) (n : Names) where
         let l = list_binds around xs v h.ss' h.at r.1 p.1 z in
         record { ss' = l.ss'; binds = binds_both ss h.ss' l.ss' (item_items ctx x w) (list_items ctx xs v) h.binds l.binds; at = l.at }
 
-    sections_bound : (around : Around) (b : Body) (w : Walk) (ss : List Scopes.Scope) → At w ss → IsReadBody ctx.word b → switch_body_faults ctx around b w [] ≡ [] → Ends (behind_body ctx b w) → SectionsBound (inside ss) (switch_sections ctx b w)
+    sections_bound : (around : Around) (b : Body) (w : Walk) (ss : List Scopes.Scope) → At w ss → IsReadBody ctx.word ctx.notes b → switch_body_faults ctx around b w [] ≡ [] → Ends (behind_body ctx b w) → SectionsBound (inside ss) (switch_sections ctx b w)
     sections_bound around (Braces first after xs) w ss a r e z =
         outside_bound around None xs (notes_at ctx (AtEnd first)) (enter w) (inside ss) (inside ss) refl (λ q. place_binds q (AtEnd first)) (at_inside w ss a) r e z
     sections_bound around (Lone first after x) w ss a r e z = lone_bound around x (notes_at ctx (AtEnd first)) (enter w) (inside ss) (λ q. place_binds q (AtEnd first)) (at_inside w ss a) r e z
 
-    outside_bound : (around : Around) (o : Option Reading) (xs : Items) (notes : List item.Item) (w : Walk) (s t : List Scopes.Scope) → ReadingBound s t o → ((q : List Scopes.Scope) → Binds q q notes) → At w t → AreReadItems ctx.word xs
+    outside_bound : (around : Around) (o : Option Reading) (xs : Items) (notes : List item.Item) (w : Walk) (s t : List Scopes.Scope) → ReadingBound s t o → ((q : List Scopes.Scope) → Binds q q notes) → At w t → AreReadItems ctx.word ctx.notes xs
         → outside_faults ctx around xs w [] ≡ [] → Ends (behind_items ctx xs w) → SectionsBound s (sections_from ctx o xs notes w)
     outside_bound around o NoItem notes w s t h k a r e z = end_bound s t o notes h k
     outside_bound around o (items.Then (Declares first after d) xs) notes w s t h k a r e z = absurd (outside_declares ctx around w first after d xs e)
@@ -462,7 +462,7 @@ module _ (ctx : Context) (n : Names) where
         (λ y. inside_bound around (begun ctx env ls (plain_items ctx p w)) xs notes v t t (begun_bound w t around.switch ls (plain_items ctx p w) a r.0.0 f.0 m) k b r.1 y z)
         (λ y. outside_bound around (extended o new) xs notes v s t (extended_bound s t t o new h l) k b r.1 y z)
 
-    inside_bound : (around : Around) (o : Option Reading) (xs : Items) (notes : List item.Item) (w : Walk) (s t : List Scopes.Scope) → ReadingBound s t o → ((q : List Scopes.Scope) → Binds q q notes) → At w t → AreReadItems ctx.word xs
+    inside_bound : (around : Around) (o : Option Reading) (xs : Items) (notes : List item.Item) (w : Walk) (s t : List Scopes.Scope) → ReadingBound s t o → ((q : List Scopes.Scope) → Binds q q notes) → At w t → AreReadItems ctx.word ctx.notes xs
         → list_faults ctx around xs w [] ≡ [] → Ends (behind_items ctx xs w) → SectionsBound s (sections_from ctx o xs notes w)
     inside_bound around o NoItem notes w s t h k a r e z = end_bound s t o notes h k
     inside_bound around o (items.Then (Declares first after d) xs) notes w s t h k a r e z =
@@ -486,7 +486,7 @@ module _ (ctx : Context) (n : Names) where
         (inside_bound around (begun ctx env ls (plain_items ctx p w)) xs notes v t t (begun_bound w t around.switch ls (plain_items ctx p w) a r.0.0 f.0 m) k b r.1 q.1 z)
         (inside_bound around (extended o new) xs notes v s t (extended_bound s t t o new h l) k b r.1 q.1 z)
 
-    lone_bound : (around : Around) (x : Item) (notes : List item.Item) (w : Walk) (ss : List Scopes.Scope) → ((q : List Scopes.Scope) → Binds q q notes) → At w ss → IsReadItem ctx.word x → outside_fault ctx around x w [] ≡ [] → Ends (behind_item ctx x w)
+    lone_bound : (around : Around) (x : Item) (notes : List item.Item) (w : Walk) (ss : List Scopes.Scope) → ((q : List Scopes.Scope) → Binds q q notes) → At w ss → IsReadItem ctx.word ctx.notes x → outside_fault ctx around x w [] ≡ [] → Ends (behind_item ctx x w)
         → SectionsBound ss (sections_at ctx None x notes w)
     lone_bound around (Declares first after d) notes w ss k a r e z = absurd (none_left _ _ e)
     lone_bound around (States ls p) notes w ss k a r e z =

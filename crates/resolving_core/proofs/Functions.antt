@@ -126,7 +126,7 @@ module _ (ctx : Context) (n : Names) where
 
 module _ (ctx : Context) (final : List Slot) (I : List Scope → Type 0) (P : Tree → Type 0) (C : ExpressionTree → Type 0) (c : Closed ctx final I P C) where
   -- a fact of each item of a body
-  pub body_holds : (b : Body) (w : Walk) → IsReadBody ctx.word b → body_faults ctx b w [] ≡ [] → I w.scopes → Begins (behind_body ctx b w).slots final → Holds P (body_items ctx b w)
+  pub body_holds : (b : Body) (w : Walk) → IsReadBody ctx.word ctx.notes b → body_faults ctx b w [] ≡ [] → I w.scopes → Begins (behind_body ctx b w).slots final → Holds P (body_items ctx b w)
   body_holds (Braces first after xs) w r e i z =
       hold_both P (list_items ctx xs w) (notes_at ctx (AtEnd first)) (list_holds ctx final I P C c no_construct xs w r e i z) (notes_hold ctx final I P C c (AtEnd first))
   body_holds (Lone first after x) w r e i z =
@@ -192,7 +192,7 @@ module _ (flat : FlatCounts) (word : ℕ → List ℕ) (notes : Anchor → List 
   abbrev pub KnownOutside : Type 0
   KnownOutside = (slots : List Slot) → (ss : List Scopes.Scope) × Knows (record { tops = ts; slots = slots }) ss (record { word = word; scopes = scopes })
 
-  resolves_by : (o : Option Body) → IfSome o (IsReadBody word) → BodyParts flat word notes f o scopes → KnownOutside → Resolves ts (defined word notes f o scopes)
+  resolves_by : (o : Option Body) → IfSome o (IsReadBody word notes) → BodyParts flat word notes f o scopes → KnownOutside → Resolves ts (defined word notes f o scopes)
   resolves_by None r p k =
       let b = behind_parameters flat word notes f scopes None r p in
       let slots = (inside word f scopes).slots in
@@ -248,7 +248,7 @@ module _ (flat : FlatCounts) (word : ℕ → List ℕ) (notes : Anchor → List 
         };
       }
 
-  pub resolves : IsReadFunction word f → BodyParts flat word notes f f.body scopes → KnownOutside → Resolves ts (function_of word notes f scopes)
+  pub resolves : IsReadFunction word notes f → BodyParts flat word notes f f.body scopes → KnownOutside → Resolves ts (function_of word notes f scopes)
   resolves r p k = resolves_by f.body r.body p k
 
 -- ---- the names of a function
@@ -316,7 +316,7 @@ module _ (ctx : Context) (n : Names) (defines : Bool) where
       record { ss' = rest.ss'; same = rest.same; new = (one.new, rest.new); at = rest.at }
 
 -- the names of a body
-body_is_bound : (ctx : Context) (n : Names) (b : Body) (w : Walk) (ss : List Scopes.Scope) → At ctx n w ss → IsReadBody ctx.word b → body_faults ctx b w [] ≡ [] → Begins (behind_body ctx b w).slots n.slots → AreBound n.slots ss (trees_of (body_items ctx b w))
+body_is_bound : (ctx : Context) (n : Names) (b : Body) (w : Walk) (ss : List Scopes.Scope) → At ctx n w ss → IsReadBody ctx.word ctx.notes b → body_faults ctx b w [] ≡ [] → Begins (behind_body ctx b w).slots n.slots → AreBound n.slots ss (trees_of (body_items ctx b w))
 body_is_bound ctx n (Braces first after xs) w ss a r e z =
     let l = list_binds ctx n no_construct xs w ss a r e z in (binds_both ctx n ss l.ss' l.ss' (list_items ctx xs w) (notes_at ctx (AtEnd first)) l.binds (place_binds ctx n l.ss' (AtEnd first))).bound
 body_is_bound ctx n (Lone first after x) w ss a r e z =
@@ -330,7 +330,7 @@ module _ (flat : FlatCounts) (word : ℕ → List ℕ) (notes : Anchor → List 
   start_at : (ctx : Context) (n : Names) → ctx.word ≡ word → n.tops ≡ ts → Knows n ss (record { word = ctx.word; scopes = scopes }) → At ctx n at_start (Scopes.inside ss)
   start_at ctx n e t k = record { knows = knows_inside n ctx.word scopes ss k; nearest = λ m. refl }
 
-  bound_by : (o : Option Body) → IfSome o (IsReadBody word) → Each (IsReadParameter word) f.parameters → BodyParts flat word notes f o scopes
+  bound_by : (o : Option Body) → IfSome o (IsReadBody word notes) → Each (IsReadParameter word) f.parameters → BodyParts flat word notes f o scopes
       → let t = defined word notes f o scopes in AreNewParameters t.params 0 t.slots (Scopes.inside ss) × BodyIsBound t ss t.body
   bound_by None r q p =
       let ctx = prototype_context word f in
@@ -351,6 +351,6 @@ module _ (flat : FlatCounts) (word : ℕ → List ℕ) (notes : Anchor → List 
       (subst (λ l. AreNewParameters (length f.parameters) 0 l (Scopes.inside ss)) (sym whole) a.new,
        subst (λ x. AreBound slots x (trees_of (body_items ctx b w))) (sym (ap (λ l. with_parameters (length f.parameters) 0 l (Scopes.inside ss)) whole ∙ a.same)) (body_is_bound ctx n b w a.ss' a.at r p.body all))
 
-  pub function_is_bound : IsReadFunction word f → BodyParts flat word notes f f.body scopes
+  pub function_is_bound : IsReadFunction word notes f → BodyParts flat word notes f f.body scopes
       → let t = function_of word notes f scopes in AreNewParameters t.params 0 t.slots (Scopes.inside ss) × BodyIsBound t ss t.body
   function_is_bound r p = bound_by f.body r.body r.parameters p

@@ -41,7 +41,7 @@ use Rattle.resolving_core.proofs.Grown.{Grown, locals_grow, start_grows, item_gr
 use Rattle.resolving_core.proofs.SectionTrees.{section_of, ended_tree, has_entry, without_end, passes, with_entries, passed_trees, passed_same, ended_same, sections_are}
 
 
-use Rattle.resolving_core.specs.Quiet.{IsQuietFront, IsQuietSwitch}
+use Rattle.resolving_core.specs.Read.{IsQuietFront, IsQuietSwitch}
 
 -- ---- lists without nested case labels
 
@@ -241,11 +241,11 @@ module _ (ctx : Context) where
       by false e f g = g e
 
   -- a null statement without labels and comments is no item
-  nothing : (ls : List Label) (p : Plain) (w : Walk) (xs : Items) → is_null ls p ≡ true → IsQuietFront ctx.notes (items.Then (States ls p) xs) → (labels_items ctx (env_at ctx w) ls ++ plain_items ctx p w ≡ []) × IsQuietFront ctx.notes xs
+  nothing : (ls : List Label) (p : Plain) (w : Walk) (xs : Items) → is_null ls p ≡ true → IsQuietFront ctx.word ctx.notes (items.Then (States ls p) xs) → (labels_items ctx (env_at ctx w) ls ++ plain_items ctx p w ≡ []) × IsQuietFront ctx.word ctx.notes xs
   nothing [] (From first after Null) w xs e q = (ap (λ bs. map item.Note bs ++ []) q.0, q.1)
   nothing ls p w xs e q = absurd (true≢false (sym e))
 
-  outside_raw : (around : Around) (xs : Items) (notes : List item.Item) (w : Walk) → Free notes → outside_faults ctx around xs w [] ≡ [] → IsQuietFront ctx.notes xs → RawSections (sections_from ctx None xs notes w)
+  outside_raw : (around : Around) (xs : Items) (notes : List item.Item) (w : Walk) → Free notes → outside_faults ctx around xs w [] ≡ [] → IsQuietFront ctx.word ctx.notes xs → RawSections (sections_from ctx None xs notes w)
   outside_raw around NoItem notes w k e q = tt
   outside_raw around (items.Then (Declares first after d) xs) notes w k e q = absurd (outside_declares ctx around w first after d xs e)
   outside_raw around (items.Then (States ls p) xs) notes w k e q =
@@ -254,7 +254,7 @@ module _ (ctx : Context) where
       (λ o l. outside_raw around xs notes (behind_plain ctx p w) k o l)
     where
       outside_by : (b : Bool) → has_case ls ≡ b → Outside ctx around w b ls p xs → (has_case ls ≡ true → RawSections (sections_from ctx (begun ctx (env_at ctx w) ls (plain_items ctx p w)) xs notes (behind_plain ctx p w)))
-          → (outside_faults ctx around xs (behind_plain ctx p w) [] ≡ [] → IsQuietFront ctx.notes xs → RawSections (sections_from ctx None xs notes (behind_plain ctx p w)))
+          → (outside_faults ctx around xs (behind_plain ctx p w) [] ≡ [] → IsQuietFront ctx.word ctx.notes xs → RawSections (sections_from ctx None xs notes (behind_plain ctx p w)))
           → RawSections (elim b [ true ↦ closed None ++ sections_from ctx (begun ctx (env_at ctx w) ls (plain_items ctx p w)) xs notes (behind_plain ctx p w)
                                 | false ↦ sections_from ctx (extended None (labels_items ctx (env_at ctx w) ls ++ plain_items ctx p w)) xs notes (behind_plain ctx p w) ])
       outside_by true c o f g = f c
@@ -262,7 +262,7 @@ module _ (ctx : Context) where
           let n = nothing ls p w xs o.0 q in
           subst (λ l. RawSections (sections_from ctx (extended None l) xs notes (behind_plain ctx p w))) (sym n.0) (g o.1 n.1)
 
-  lone_raw : (around : Around) (x : Item) (notes : List item.Item) (w : Walk) → Free notes → outside_fault ctx around x w [] ≡ [] → IsQuietFront ctx.notes (items.Then x NoItem) → RawSections (sections_at ctx None x notes w)
+  lone_raw : (around : Around) (x : Item) (notes : List item.Item) (w : Walk) → Free notes → outside_fault ctx around x w [] ≡ [] → IsQuietFront ctx.word ctx.notes (items.Then x NoItem) → RawSections (sections_at ctx None x notes w)
   lone_raw around (Declares first after d) notes w k e q = absurd (none_left _ _ e)
   lone_raw around (States ls p) notes w k e q = by (has_case ls) refl (outside_one ctx around w ls p e).1
     where
@@ -271,7 +271,7 @@ module _ (ctx : Context) where
       by true c o = end_raw (begun ctx (env_at ctx w) ls (plain_items ctx p w)) notes (begun_raw w ls (plain_items ctx p w) c (free_plain p w)) k
       by false c o = subst (λ l. RawSections (statements.sections_of (extended None l) notes)) (sym (nothing ls p w NoItem o q).0) tt
 
-  switch_raw : (around : Around) (b : Body) (w : Walk) → switch_body_faults ctx around b w [] ≡ [] → IsQuietSwitch ctx.notes b → RawSections (switch_sections ctx b w)
+  switch_raw : (around : Around) (b : Body) (w : Walk) → switch_body_faults ctx around b w [] ≡ [] → IsQuietSwitch ctx.word ctx.notes b → RawSections (switch_sections ctx b w)
   switch_raw around (Braces first after xs) w e q = outside_raw around xs (notes_at ctx (AtEnd first)) (enter w) (free_notes (AtEnd first)) e q
   switch_raw around (Lone first after x) w e q = lone_raw around x (notes_at ctx (AtEnd first)) (enter w) (free_notes (AtEnd first)) e q
 
@@ -280,7 +280,7 @@ module _ (ctx : Context) where
   raw_trees (c ∷ cs) h = (h.0, raw_trees cs h.1)
 
   -- the sections of a switch
-  pub are_sections : (around : Around) (b : Body) (w : Walk) → switch_body_faults ctx around b w [] ≡ [] → IsQuietSwitch ctx.notes b → AreSections (sections_of (passed_on [] false (switch_sections ctx b w)))
+  pub are_sections : (around : Around) (b : Body) (w : Walk) → switch_body_faults ctx around b w [] ≡ [] → IsQuietSwitch ctx.word ctx.notes b → AreSections (sections_of (passed_on [] false (switch_sections ctx b w)))
   are_sections around b w e q =
       subst AreSections (sym (sections_are (passed_on [] false (switch_sections ctx b w)) ∙ ap sections (passed_same [] false (switch_sections ctx b w))))
       (passed_are [] false (map section_tree (switch_sections ctx b w)) (raw_trees (switch_sections ctx b w) (switch_raw around b w e q)))

@@ -54,7 +54,7 @@ answered text tokens q p (Some v) e = absurd (true≢false (sym (ap is_ok e)))
 -- ---- the whole file
 
 module _ (file : File) (xs : List tops.Top) (bodies : (m : List ℕ) → defined file m ≡ has_function (bodies_of file.word xs) m)
-    (r : IsReadFile file.word xs) (e : file_faults file xs start [] ≡ []) where
+    (r : IsReadFile file.word file.notes xs) (e : file_faults file xs start [] ≡ []) where
   abbrev all : List Top
   all = tops_of file xs start
 
@@ -98,7 +98,7 @@ module _ (file : File) (ts : List Top) (known : (slots : List Slot) → IsDefine
   one_function (T.Include bs) h = tt
   one_function (T.Note bs) h = tt
 
-file_answered : (file : File) (xs : List tops.Top) → ((m : List ℕ) → defined file m ≡ has_function (bodies_of file.word xs) m) → IsReadFile file.word xs → file_faults file xs start [] ≡ [] → Answered (program_of file xs)
+file_answered : (file : File) (xs : List tops.Top) → ((m : List ℕ) → defined file m ≡ has_function (bodies_of file.word xs) m) → IsReadFile file.word file.notes xs → file_faults file xs start [] ≡ [] → Answered (program_of file xs)
 file_answered file xs bodies r e =
     let ts = tops_of file xs start in
     let k = known file xs bodies r e in

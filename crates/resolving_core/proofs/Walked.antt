@@ -170,7 +170,7 @@ module _ (ctx : Context) (final : List Slot) (I : List Scope → Type 0) (P : Tr
   outside_by ls p xs around w true o reading ss ts h f g = each_append _ (closed reading) ss (closed_holds P C reading h) (f o)
   outside_by ls p xs around w false o reading ss ts h f g = g o.1
 
-  outside_later : (ls : List Label) (p : Plain) (xs : Items) (around : Around) (w : Walk) → AreReadItems ctx.word xs → (b : Bool) → Outside ctx around w b ls p xs
+  outside_later : (ls : List Label) (p : Plain) (xs : Items) (around : Around) (w : Walk) → AreReadItems ctx.word ctx.notes xs → (b : Bool) → Outside ctx around w b ls p xs
       → Grown Any (behind_plain ctx p w).slots (behind_items ctx xs (behind_plain ctx p w)).slots
   outside_later ls p xs around w r true o = list_grows ctx Any (λ k d w r e. tt) around xs (behind_plain ctx p w) r o
   outside_later ls p xs around w r false o = outside_grows ctx Any (λ k d w r e. tt) around xs (behind_plain ctx p w) r o.1
@@ -180,7 +180,7 @@ module _ (ctx : Context) (final : List Slot) (I : List Scope → Type 0) (P : Tr
   end_by false xs ys f g = g
 
   mutual
-    pub item_holds : (around : Around) (x : Item) (w : Walk) → IsReadItem ctx.word x → item_faults ctx around x w [] ≡ [] → Here w → Ends (behind_item ctx x w)
+    pub item_holds : (around : Around) (x : Item) (w : Walk) → IsReadItem ctx.word ctx.notes x → item_faults ctx around x w [] ≡ [] → Here w → Ends (behind_item ctx x w)
         → Holds P (item_items ctx x w) × Here (behind_item ctx x w)
     item_holds around (Declares first after d) w r e i z =
         let h = locals_hold (kinded ctx.word d) d.names w r e i z in
@@ -189,10 +189,10 @@ module _ (ctx : Context) (final : List Slot) (I : List Scope → Type 0) (P : Tr
         let q = states_parts ctx around w ls p e in
         (hold_both P (labels_items ctx (env_at ctx w) ls) (plain_items ctx p w) (labels_hold w around.switch ls r.0 i q.0) (plain_holds around p w r.1 q.1 i z), plain_here p w i)
 
-    pub plain_holds : (around : Around) (p : Plain) (w : Walk) → IsReadPlain ctx.word p → plain_faults ctx around p w [] ≡ [] → Here w → Ends (behind_plain ctx p w) → Holds P (plain_items ctx p w)
+    pub plain_holds : (around : Around) (p : Plain) (w : Walk) → IsReadPlain ctx.word ctx.notes p → plain_faults ctx around p w [] ≡ [] → Here w → Ends (behind_plain ctx p w) → Holds P (plain_items ctx p w)
     plain_holds around (From first after s) w r e i z = behind_notes (Before first) (statement_items ctx s w) (statement_holds around first s w r e i z)
 
-    statement_holds : (around : Around) (first : ℕ) (s : Statement) (w : Walk) → IsReadStatement ctx.word s → statement_faults ctx around first s w [] ≡ [] → Here w → Ends (statements.behind_statement ctx s w)
+    statement_holds : (around : Around) (first : ℕ) (s : Statement) (w : Walk) → IsReadStatement ctx.word ctx.notes s → statement_faults ctx around first s w [] ≡ [] → Here w → Ends (statements.behind_statement ctx s w)
         → Holds P (statement_items ctx s w)
     statement_holds around first Null w r e i z = hold_none P
     statement_holds around first (Evaluate t) w r e i z =
@@ -243,7 +243,7 @@ module _ (ctx : Context) (final : List Slot) (I : List Scope → Type 0) (P : Tr
         let ss = passed_on [] false (switch_sections ctx b w) in
         let h = switch_holds P C (switch_sections ctx b w) (sections_hold around b w r.1 p.1 i z) in
         hold_one P (item.Switch (selector.Source v) ss) (hold_as P _ _ (tree-Switch (selector.Source v) ss ∙ ap (λ x. tree.Switch x (sections_of ss)) (selector-Source v))
-          (c.switches around w t b i r.0 r.1 p.0 p.1 p.2 h.1, h.0))
+          (c.switches around w t b i r.0 r.1 r.2 p.0 p.1 p.2 h.1, h.0))
     statement_holds around first (Block b) w r e i z =
         let a = body_items ctx b w in
         hold_one P (item.Block a) (hold_as P _ _ (tree-Block a) (c.block (trees_of a), body_holds around b w r e i z))
@@ -257,11 +257,11 @@ module _ (ctx : Context) (final : List Slot) (I : List Scope → Type 0) (P : Tr
         hold_one P (item.Return x) (hold_as P _ _ (tree-Return x) (c.returns w first t i r e))
     statement_holds around first Unread w r e i z = absurd r
 
-    body_holds : (around : Around) (b : Body) (w : Walk) → IsReadBody ctx.word b → body_faults ctx around b w [] ≡ [] → Here w → Ends (behind_body ctx b w) → Holds P (body_items ctx b w)
+    body_holds : (around : Around) (b : Body) (w : Walk) → IsReadBody ctx.word ctx.notes b → body_faults ctx around b w [] ≡ [] → Here w → Ends (behind_body ctx b w) → Holds P (body_items ctx b w)
     body_holds around (Braces first after xs) w r e i z = hold_both P (list_items ctx xs (enter w)) (notes_at ctx (AtEnd first)) (list_holds around xs (enter w) r e (c.into w.scopes i) z) (notes_hold (AtEnd first))
     body_holds around (Lone first after x) w r e i z = hold_both P (item_items ctx x (enter w)) (notes_at ctx (AtEnd first)) (item_holds around x (enter w) r e (c.into w.scopes i) z).0 (notes_hold (AtEnd first))
 
-    pub list_holds : (around : Around) (xs : Items) (w : Walk) → AreReadItems ctx.word xs → list_faults ctx around xs w [] ≡ [] → Here w → Ends (behind_items ctx xs w) → Holds P (list_items ctx xs w)
+    pub list_holds : (around : Around) (xs : Items) (w : Walk) → AreReadItems ctx.word ctx.notes xs → list_faults ctx around xs w [] ≡ [] → Here w → Ends (behind_items ctx xs w) → Holds P (list_items ctx xs w)
     list_holds around NoItem w r e i z = hold_none P
     list_holds around (items.Then x xs) w r e i z =
         let p = list_parts ctx around w x xs e in
@@ -270,12 +270,12 @@ module _ (ctx : Context) (final : List Slot) (I : List Scope → Type 0) (P : Tr
         let h = item_holds around x w r.0 p.0 i g in
         hold_both P (item_items ctx x w) (list_items ctx xs v) h.0 (list_holds around xs v r.1 p.1 h.1 z)
 
-    sections_hold : (around : Around) (b : Body) (w : Walk) → IsReadBody ctx.word b → switch_body_faults ctx (in_switch around) b w [] ≡ [] → Here w → Ends (behind_body ctx b w) → SectionsHold P C (switch_sections ctx b w)
+    sections_hold : (around : Around) (b : Body) (w : Walk) → IsReadBody ctx.word ctx.notes b → switch_body_faults ctx (in_switch around) b w [] ≡ [] → Here w → Ends (behind_body ctx b w) → SectionsHold P C (switch_sections ctx b w)
     sections_hold around (Braces first after xs) w r e i z = outside_hold (in_switch around) None xs (notes_at ctx (AtEnd first)) (enter w) tt (notes_hold (AtEnd first)) r e (c.into w.scopes i) z
     sections_hold around (Lone first after x) w r e i z = lone_holds (in_switch around) x (notes_at ctx (AtEnd first)) (enter w) (notes_hold (AtEnd first)) r e (c.into w.scopes i) z
 
     -- in front of the first section
-    outside_hold : (around : Around) (reading : Option Reading) (xs : Items) (notes : List item.Item) (w : Walk) → ReadingHolds P C reading → Holds P notes → AreReadItems ctx.word xs
+    outside_hold : (around : Around) (reading : Option Reading) (xs : Items) (notes : List item.Item) (w : Walk) → ReadingHolds P C reading → Holds P notes → AreReadItems ctx.word ctx.notes xs
         → outside_faults ctx around xs w [] ≡ [] → Here w → Ends (behind_items ctx xs w) → SectionsHold P C (sections_from ctx reading xs notes w)
     outside_hold around reading NoItem notes w h k r e i z = sections_end reading notes h k
     outside_hold around reading (items.Then (Declares first after d) xs) notes w h k r e i z = absurd (outside_declares ctx around w first after d xs e)
@@ -293,7 +293,7 @@ module _ (ctx : Context) (final : List Slot) (I : List Scope → Type 0) (P : Tr
         (λ q. outside_hold around (extended reading new) xs notes v (extended_holds P C reading new h l) k r.1 q (plain_here p w i) z)
 
     -- in the sections
-    inside_hold : (around : Around) (reading : Option Reading) (xs : Items) (notes : List item.Item) (w : Walk) → ReadingHolds P C reading → Holds P notes → AreReadItems ctx.word xs
+    inside_hold : (around : Around) (reading : Option Reading) (xs : Items) (notes : List item.Item) (w : Walk) → ReadingHolds P C reading → Holds P notes → AreReadItems ctx.word ctx.notes xs
         → list_faults ctx around xs w [] ≡ [] → Here w → Ends (behind_items ctx xs w) → SectionsHold P C (sections_from ctx reading xs notes w)
     inside_hold around reading NoItem notes w h k r e i z = sections_end reading notes h k
     inside_hold around reading (items.Then (Declares first after d) xs) notes w h k r e i z =
@@ -316,7 +316,7 @@ module _ (ctx : Context) (final : List Slot) (I : List Scope → Type 0) (P : Tr
         (λ b. inside_hold around (begun ctx env ls (plain_items ctx p w)) xs notes v (begun_holds w around.switch ls (plain_items ctx p w) r.0.0 i s.0 m) k r.1 q.1 (plain_here p w i) z)
         (λ b. inside_hold around (extended reading new) xs notes v (extended_holds P C reading new h l) k r.1 q.1 (plain_here p w i) z)
 
-    lone_holds : (around : Around) (x : Item) (notes : List item.Item) (w : Walk) → Holds P notes → IsReadItem ctx.word x → outside_fault ctx around x w [] ≡ [] → Here w → Ends (behind_item ctx x w)
+    lone_holds : (around : Around) (x : Item) (notes : List item.Item) (w : Walk) → Holds P notes → IsReadItem ctx.word ctx.notes x → outside_fault ctx around x w [] ≡ [] → Here w → Ends (behind_item ctx x w)
         → SectionsHold P C (sections_at ctx None x notes w)
     lone_holds around (Declares first after d) notes w k r e i z = absurd (none_left _ _ e)
     lone_holds around (States ls p) notes w k r e i z =

@@ -14,6 +14,7 @@ use Rattle.c_tree.specs.InRange.{body_of}
 use Rattle.c_source.specs.Words.{word_of}
 use Rattle.c_source.specs.Parts.{file_of}
 use Rattle.c_statements.specs.Functions.{FlatCounts}
+use Rattle.c_scopes.specs.Notes.{notes_of}
 use Rattle.c_scopes.specs.Resolving.{resolved}
 use Rattle.c_resolved.specs.Files.{HaveValues, IsGlobal, DeclarationsAgree, MainIsFormed}
 use Rattle.c_resolved.specs.Form.{gathered, declared_slot, marked_label, numbers_from, HasNoLoose, HasBodyOrNone}
@@ -27,7 +28,7 @@ use Rattle.resolving_core.specs.Read.{IsReadFile}
 abbrev pub Gives : (Program → Type 0) → Type 0
 Gives P =
     (flat : FlatCounts) (text : List ℕ) (tokens : List Token) (comments : List Span) (x : Syntax) (p : Program)
-    → let word = word_of text tokens in IsReadFile word (file_of word x) → resolved flat text tokens comments x ≡ Ok p → P p
+    → let word = word_of text tokens in let xs = file_of word x in IsReadFile word (notes_of text tokens comments xs) xs → resolved flat text tokens comments x ≡ Ok p → P p
 
 -- a fact of each function
 abbrev pub OfFunction : (Function → Type 0) → Top → Type 0

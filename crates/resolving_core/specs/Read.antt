@@ -9,6 +9,7 @@ use Rattle.c_source.specs.Items as items
 use Rattle.c_source.specs.Tops.{Enumerator, Parameter, Function, Top, Line, Enum, Globals, Defines}
 use Rattle.c_source.specs.Tops as tops
 use Rattle.c_kinds.specs.Marks.{step_of}
+use Rattle.c_statements.specs.Context.{Anchor, Before}
 use Rattle.c_resolved.specs.PrintableExpressions.{IsName}
 use Rattle.c_resolved.specs.Within.{Each}
 
@@ -86,28 +87,46 @@ module _ (word : ℕ → List ℕ) where
   IsReadStart (StartValue t) = IsReadTerm t
   IsReadStart (StartNames d) = IsReadDeclaration d
 
+  pub record IsReadEnumerator (e : Enumerator) : Type 0 where
+    pub named : IsNameAt e.name
+    pub value : IfSome e.value IsReadTerm
+
+  pub record IsReadParameter (x : Parameter) : Type 0 where
+    pub named : IfSome x.name IsNameAt
+    pub size : IsReadSize x.size
+
+module _ (word : ℕ → List ℕ) (notes : Anchor → List (List ℕ)) where
+  -- the null statements that the list of a switch begins with: the comments before them belong to the switch
+  abbrev pub IsQuietFront : Items → Type 0
+  IsQuietFront (items.Then (States [] (From first after Null)) xs) = (notes (Before first) ≡ []) × IsQuietFront xs
+  IsQuietFront _ = Unit {0}
+
+  abbrev pub IsQuietSwitch : Body → Type 0
+  IsQuietSwitch (Braces first after xs) = IsQuietFront xs
+  IsQuietSwitch (Lone first after x) = IsQuietFront (items.Then x NoItem)
+
   abbrev mutual
     pub IsReadItem : Item → Type 0
-    IsReadItem (Declares first after d) = IsReadDeclaration d
-    IsReadItem (States ls p) = Each IsReadLabel ls × IsReadPlain p
+    IsReadItem (Declares first after d) = IsReadDeclaration word d
+    IsReadItem (States ls p) = Each (IsReadLabel word) ls × IsReadPlain p
 
     pub IsReadPlain : Plain → Type 0
     IsReadPlain (From first after s) = IsReadStatement s
 
     pub IsReadStatement : Statement → Type 0
     IsReadStatement Null = Unit {0}
-    IsReadStatement (Evaluate t) = IsReadTerm t
-    IsReadStatement (If t b) = IsReadTerm t × IsReadBody b
-    IsReadStatement (IfElse t b c) = IsReadTerm t × IsReadBody b × IsReadBody c
-    IsReadStatement (While t b) = IsReadTerm t × IsReadBody b
-    IsReadStatement (DoWhile b t) = IsReadBody b × IsReadTerm t
-    IsReadStatement (For start t u b) = IsReadStart start × IfSome t IsReadTerm × IfSome u IsReadTerm × IsReadBody b
-    IsReadStatement (Switch t b) = IsReadTerm t × IsReadBody b
+    IsReadStatement (Evaluate t) = IsReadTerm word t
+    IsReadStatement (If t b) = IsReadTerm word t × IsReadBody b
+    IsReadStatement (IfElse t b c) = IsReadTerm word t × IsReadBody b × IsReadBody c
+    IsReadStatement (While t b) = IsReadTerm word t × IsReadBody b
+    IsReadStatement (DoWhile b t) = IsReadBody b × IsReadTerm word t
+    IsReadStatement (For start t u b) = IsReadStart word start × IfSome t (IsReadTerm word) × IfSome u (IsReadTerm word) × IsReadBody b
+    IsReadStatement (Switch t b) = IsReadTerm word t × IsReadBody b × IsQuietSwitch b
     IsReadStatement (Block b) = IsReadBody b
-    IsReadStatement (Goto at) = IsNameAt at
+    IsReadStatement (Goto at) = IsNameAt word at
     IsReadStatement Break = Unit {0}
     IsReadStatement Continue = Unit {0}
-    IsReadStatement (Return t) = IfSome t IsReadTerm
+    IsReadStatement (Return t) = IfSome t (IsReadTerm word)
     IsReadStatement Unread = ⊥
 
     pub IsReadBody : Body → Type 0
@@ -120,23 +139,15 @@ module _ (word : ℕ → List ℕ) where
 
   -- ---- file scope
 
-  pub record IsReadEnumerator (e : Enumerator) : Type 0 where
-    pub named : IsNameAt e.name
-    pub value : IfSome e.value IsReadTerm
-
-  pub record IsReadParameter (x : Parameter) : Type 0 where
-    pub named : IfSome x.name IsNameAt
-    pub size : IsReadSize x.size
-
   pub record IsReadFunction (f : Function) : Type 0 where
-    pub named : IsNameAt f.name
-    pub parameters : Each IsReadParameter f.parameters
+    pub named : IsNameAt word f.name
+    pub parameters : Each (IsReadParameter word) f.parameters
     pub body : IfSome f.body IsReadBody
 
   abbrev pub IsReadTopForm : tops.Form → Type 0
   IsReadTopForm Line = Unit {0}
-  IsReadTopForm (Enum es) = (0 < length es) × Each IsReadEnumerator es
-  IsReadTopForm (Globals static d) = IsReadDeclaration d
+  IsReadTopForm (Enum es) = (0 < length es) × Each (IsReadEnumerator word) es
+  IsReadTopForm (Globals static d) = IsReadDeclaration word d
   IsReadTopForm (Defines f) = IsReadFunction f
   IsReadTopForm tops.Unread = ⊥
 
