@@ -1,1 +1,4 @@
 pub mod Applied
+pub mod FirstPlaces
+pub mod SamePaths
+pub mod Lawfuls

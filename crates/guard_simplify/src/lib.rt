@@ -13,7 +13,8 @@ mod shapes;
 ghost use Rattle.guard_simplify.specs.Laws.{ChoiceLaws};
 
 pub use choice::{Choice, Repeat};
-pub use find::first_choice;
+pub use find::{first_choice, item_at, own_of_kind};
+pub use marks::barred_labels;
 pub use repeats::repeat_of;
 
 /// Simplifications keep a body well made, a steady program steady, and its behaviour.
