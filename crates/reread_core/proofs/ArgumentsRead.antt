@@ -1,5 +1,5 @@
 -- Calls: the arguments that fit in a resolved program fit where its text is read (ISO/IEC 9899:2011, 6.5.2.2 and 7.21.6.1).
-use Rattle.std.proofs.Common.{◌≡◌, ◌+◌, ◌&&◌, ◌||◌, ◌==◌, ◌⊎◌, inl, inr, ℕ, suc, Bool, true, false, not, cond, List, [], ◌∷◌, ◌++◌, map, length, Option, Some, None, refl, ap, sym, subst, ◌∙◌, eq-eqb}
+use Rattle.std.proofs.Common.{◌≡◌, ◌+◌, ◌&&◌, ◌||◌, inl, inr, ℕ, suc, Bool, true, false, not, cond, List, [], ◌∷◌, ◌++◌, map, length, Option, Some, None, refl, ap, sym, subst, ◌∙◌, eq-eqb}
 use Rattle.std.specs.Prelude.{is_some, option_map, IsSomeAnd}
 use Rattle.c_types.specs.declared.kinds.IntKind.{IntKind}
 use Rattle.c_types.specs.declared.kinds.IntKind.TheVariants as K
@@ -10,23 +10,21 @@ use Rattle.c_tree.specs.declared.tree.Node as node
 use Rattle.c_tree.specs.ExpressionTrees.{ExpressionTree, Arguments, NoArgument, Argument}
 use Rattle.c_tree.specs.ExpressionTrees as t
 use Rattle.c_tree.specs.Constants.{kind_of}
-use Rattle.c_grammar.specs.Expressions as g
 use Rattle.c_grammar.specs.ExpressionSyntax.{argument_end}
-use Rattle.c_source.specs.Terms.{Form, Terms, At, NoTerm, Call}
-use Rattle.c_source.specs.Terms as s
+use Rattle.c_source.specs.Terms.{Form, Terms, NoTerm, Call}
 use Rattle.c_kinds.specs.declared.binding.Want.{Want}
 use Rattle.c_kinds.specs.declared.binding.Want.TheVariants as want
 use Rattle.c_kinds.specs.declared.binding.Binding.{Binding}
 use Rattle.c_kinds.specs.declared.binding.Binding.TheVariants as binding
 use Rattle.c_kinds.specs.declared.typed.Typed.{Typed}
-use Rattle.c_kinds.specs.declared.typed.Typed.TheVariants.{Value, Void, Text, Array, Wrong}
+use Rattle.c_kinds.specs.declared.typed.Typed.TheVariants.{Text, Array, Wrong}
 use Rattle.c_kinds.specs.declared.typed.ArrayName.{ArrayName}
 use Rattle.c_kinds.specs.declared.typed.Given.{Given}
 use Rattle.c_kinds.specs.Scopes.{Env, Faults, meaning, fault, fault_if}
 use Rattle.c_kinds.specs.Marks.{is_wide}
-use Rattle.c_kinds.specs.Values.{expression, of_result}
+use Rattle.c_kinds.specs.Values.{of_result}
 use Rattle.c_kinds.specs.Formats as read
-use Rattle.c_kinds.specs.Calls.{same_kind, same_truth, fits, each_fits, all_fit, handed, all_handed, call, text_of, printing, formatted, called, array_fault, argument_fault, argument_faults, wanted_faults, text_faults, printing_faults, format_faults, call_faults}
+use Rattle.c_kinds.specs.Calls.{same_kind, same_truth, fits, each_fits, handed, all_handed, call, text_of, printing, formatted, called, argument_fault, argument_faults, wanted_faults, text_faults, printing_faults, format_faults, call_faults}
 use Rattle.c_kinds.specs.Typing.{form_typed, form_faults, given, given_faults}
 use Rattle.c_resolved.specs.Names.{Names, Callee, Plain, Printf, Unknown, callee}
 use Rattle.c_resolved.specs.Names as names
@@ -35,9 +33,9 @@ use Rattle.c_resolved.specs.Kinds as resolved
 use Rattle.printed_syntax.specs.ExpressionDerivations.{listed, call_of, argument_of, derivation_of, arguments_of}
 use Rattle.reread_core.specs.WrittenExpressions.{unary_form, arguments_terms, argument_form}
 use Rattle.reread_core.specs.Bindings.{want_of, function_of}
-use Rattle.reread_core.proofs.Mirrors.{expression_of, expression_in, node_in, arguments_in}
+use Rattle.reread_core.proofs.Mirrors.{expression_of, expression_in, arguments_in}
 use Rattle.reread_core.proofs.Formats.{format_is}
-use Rattle.reread_core.proofs.Readings.{typed_of, HasValued, has_valued, There, there, holds_of}
+use Rattle.reread_core.proofs.Readings.{typed_of, has_valued, there, holds_of}
 
 -- ---- tests
 

@@ -1,10 +1,10 @@
 -- Characters and texts as they are printed are decoded to their bytes.
-use Rattle.std.proofs.Common.{◌≡◌, ◌≤◌, ◌<◌, ◌+◌, ◌-◌, ◌==◌, ◌⊎◌, inl, inr, ℕ, zero, suc, Bool, true, false, not, ◌&&◌, nat_le, List, [], ◌∷◌, ◌++◌, map, length, take, drop, get_or, refl, ap, sym, ◌∙◌, arith, append_assoc, length-append}
+use Rattle.std.proofs.Common.{◌≡◌, ◌≤◌, ◌-◌, ◌==◌, ◌⊎◌, inl, inr, ℕ, Bool, true, false, ◌&&◌, nat_le, List, [], ◌∷◌, ◌++◌, map, length, take, refl, ap, sym, ◌∙◌, arith, append_assoc, length-append}
 use Rattle.std.proofs.lemmas.Bool.{eqb-true, leb-true}
 use Rattle.std.specs.List.{list_all}
 use Rattle.c_source.specs.declared.decoding.Decoding.{Decoding}
 use Rattle.c_source.specs.declared.decoding.Decoding.TheVariants.{Plain, Backslash, Octal, Hexadecimal}
-use Rattle.c_source.specs.Words.{Taken, decode, left, decoded_from, within_quotes, decoded, character}
+use Rattle.c_source.specs.Words.{Taken, decode, decoded_from, within_quotes, decoded, character}
 use Rattle.c_lexer.specs.Characters.{Character, written, written_all}
 use Rattle.c_lexer.specs.Characters as ch
 use Rattle.c_lexer.specs.Pieces as l

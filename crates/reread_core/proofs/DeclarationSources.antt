@@ -1,20 +1,20 @@
 -- The syntax of the derivation of a declaration writes the declaration.
-use Rattle.std.proofs.Common.{◌≡◌, ◌≤◌, ◌+◌, ◌==◌, ℕ, suc, Bool, true, false, cond, nat_le, List, [], ◌∷◌, ◌++◌, length, map, Option, Some, None, refl, ap, sym, ◌∙◌, arith}
-use Rattle.std.proofs.lemmas.Bool.{ne_eqb, le-leb}
+use Rattle.std.proofs.Common.{◌≡◌, ◌+◌, ℕ, suc, Bool, true, false, cond, List, [], ◌∷◌, ◌++◌, length, map, Option, Some, None, ap, ◌∙◌, arith}
+use Rattle.std.proofs.lemmas.Bool.{le-leb}
 use Rattle.c_grammar.specs.declared.syntax.Syntax.{Syntax}
 use Rattle.c_grammar.specs.declared.syntax.Production.{Production}
 use Rattle.c_grammar.specs.declared.syntax.Production.TheVariants as p
 use Rattle.c_grammar.specs.Nodes.{node, leaf}
 use Rattle.c_grammar.specs.Expressions.{Expression, Assignment, NumberType}
-use Rattle.c_grammar.specs.ExpressionSyntax.{type_end, type_node, expression_end, expression_node, assignment_end, assignment_node, conditional_end, conditional_node}
+use Rattle.c_grammar.specs.ExpressionSyntax.{type_end, type_node, expression_node, assignment_end, assignment_node, conditional_end, conditional_node}
 use Rattle.c_grammar.specs.Statements.{Size, NoSize, Unsized, Sized, Initialiser, OneValue, ValueList, Declarator, Declared, Local, Locals}
-use Rattle.c_grammar.specs.StatementSyntax.{word_end, more_end, rest_end, size_end, initialiser_end, value_end, declarator_end, local_end, word_parts, more_parts, rest_parts, size_parts, initialiser_parts, initialiser_node, value_parts, declarator_node, local_node, optional_parts, optional_end}
-use Rattle.c_source.specs.Parts.{Part, Content, Leaf, OfType, OfTerm, OfInitialiser, OfDeclarator, OfLocal, part_of, content, at, term_in, term_at, term_list, is_token, token_at, gathered, initialiser, initialiser_in, declarator, declarator_in, declared, declaration}
-use Rattle.c_source.specs.Terms.{Term, At}
+use Rattle.c_grammar.specs.StatementSyntax.{word_end, more_end, size_end, initialiser_end, value_end, declarator_end, local_end, word_parts, more_parts, rest_parts, size_parts, initialiser_parts, initialiser_node, value_parts, declarator_node, local_node}
+use Rattle.c_source.specs.Parts.{Part, Content, Leaf, OfType, OfInitialiser, OfDeclarator, OfLocal, part_of, content, at, term_in, term_list, is_token, gathered, initialiser, initialiser_in, declarator, declarator_in, declaration}
+use Rattle.c_source.specs.Terms.{At}
 use Rattle.c_source.specs.Items as s
-use Rattle.reread_core.specs.WrittenExpressions.{type_words, expression_form, assignment_form, conditional_form}
-use Rattle.reread_core.specs.WrittenStatements.{written_size, further_terms, written_initialiser, written_value, written_declarator, further_declarators, written_declaration}
-use Rattle.reread_core.proofs.ExpressionSources.{part_node, token, token_rule, token_first, Writes, term_is, expression_writes, assignment_writes, conditional_writes, type_writes, type_rule, not_one}
+use Rattle.reread_core.specs.WrittenExpressions.{expression_form, assignment_form, conditional_form}
+use Rattle.reread_core.specs.WrittenStatements.{further_terms, written_initialiser, written_declarator, further_declarators, written_declaration}
+use Rattle.reread_core.proofs.ExpressionSources.{part_node, token, token_rule, token_first, term_is, expression_writes, assignment_writes, conditional_writes, type_writes, type_rule, not_one}
 
 -- what a node is known to be
 pub record Known (word : ℕ → List ℕ) (x : Syntax) (rule : Production) (first after : ℕ) (c : Content) : Type 0 where

@@ -1,47 +1,39 @@
 -- The printed text of a declared variable of a function reads back as the variable (ISO/IEC 9899:2011, 6.7).
-use Rattle.std.proofs.Common.{◌≡◌, ◌≤◌, ◌<◌, ◌+◌, ◌^◌, ℕ, zero, suc, ℤ, pos, Bool, true, false, cond, not, ◌&&◌, ◌||◌, nat_le, nat_lt, List, [], ◌∷◌, ◌++◌, map, length, take, Option, Some, None, is_some, refl, ap, sym, subst, ◌∙◌, arith, length-append}
-use Rattle.std.specs.Prelude.{codes, option_map, slice_get, IfSome, IsSomeAnd}
+use Rattle.std.proofs.Common.{◌≡◌, ◌≤◌, ◌+◌, ℕ, zero, suc, ℤ, pos, Bool, true, false, cond, not, ◌&&◌, ◌||◌, nat_lt, List, [], ◌∷◌, ◌++◌, map, length, take, Option, Some, None, is_some, refl, ap, sym, subst, ◌∙◌, arith, length-append}
+use Rattle.std.specs.Prelude.{codes, option_map, slice_get, IfSome}
 use Rattle.std.proofs.lemmas.Bool.{le-leb, le-ltb}
-use Rattle.c_types.specs.declared.kinds.IntKind.{IntKind}
 use Rattle.c_types.specs.declared.kinds.IntKind.TheVariants as K
 use Rattle.c_tree.specs.declared.tree.Slot.{Slot}
 use Rattle.c_tree.specs.declared.tree.Home.TheVariants as H
 use Rattle.c_tree.specs.declared.tree.Item as item
-use Rattle.c_tree.specs.declared.tree.Node as node
-use Rattle.c_tree.specs.declared.tree.Expression.{Expression}
 use Rattle.c_tree.specs.ExpressionTrees.{ExpressionTree, expression_tree}
 use Rattle.c_tree.specs.ExpressionTrees as t
 use Rattle.c_tree.specs.Constants.{kind_of, HasKind, constant_value}
 use Rattle.c_tree.specs.TextPieces.{Piece, Text, ◌⨾◌, space, word, punctuator, number, only_if, spaced, more, listed}
-use Rattle.c_tree.specs.TextExpressions.{kind_text, expression_text, operands, expressions_text}
+use Rattle.c_tree.specs.TextExpressions.{kind_text, operands}
 use Rattle.c_tree.specs.TextPieces as p
-use Rattle.c_tree.specs.TextItems.{kind_words, length_text, values_text, initialisers_text, declarator_text}
+use Rattle.c_tree.specs.TextItems.{kind_words, length_text, initialisers_text, declarator_text}
 use Rattle.c_grammar.specs.ExpressionSyntax.{assignment_end, type_end}
-use Rattle.c_grammar.specs.Statements.{NoSize, Sized}
 use Rattle.c_grammar.specs.StatementSyntax.{word_end, rest_end, size_end, value_end, declarator_end}
-use Rattle.c_source.specs.Terms.{Term, At, Constant}
+use Rattle.c_source.specs.Terms.{At}
 use Rattle.c_source.specs.Items as s
 use Rattle.c_kinds.specs.declared.binding.Binding.TheVariants as binding
-use Rattle.c_kinds.specs.declared.typed.Typed.TheVariants.{Value}
 use Rattle.c_kinds.specs.Scopes.{Env, Faults, fault, fault_if, is_bound}
 use Rattle.c_kinds.specs.Scopes as scopes
 use Rattle.c_source.specs.Words.{kind_of as kind_of_words}
-use Rattle.c_kinds.specs.Values.{value_of, use_fault, expression}
-use Rattle.c_kinds.specs.Typing.{typed, constant, form_typed, form_faults}
-use Rattle.c_kinds.specs.Constants.{is_constant, with_value, constant_of, constant_fault}
+use Rattle.c_kinds.specs.Typing.{constant}
+use Rattle.c_kinds.specs.Constants.{is_constant, constant_of}
 use Rattle.c_statements.specs.declared.extents.Kinded.{Kinded}
 use Rattle.c_statements.specs.declared.extents.Length.{Length}
 use Rattle.c_statements.specs.declared.extents.Length.TheVariants as lengths
-use Rattle.c_statements.specs.declared.extents.Extent.TheVariants as extent
 use Rattle.c_statements.specs.Context.{Walk, env_in}
-use Rattle.c_statements.specs.Declarations.{or_placeholder, value_at, value_faults, each_faults, in_bounds, length_in, of_length, constant_extent, extent_of, cells_of, is_array, is_out_of_bounds, is_bad_length, is_bad_value, is_bad_shape, size_faults, initial, initial_faults, shape_of, slot_of, declared, local, local_faults}
+use Rattle.c_statements.specs.Declarations.{or_placeholder, value_at, value_faults, each_faults, in_bounds, length_in, of_length, extent_of, cells_of, is_array, is_bad_value, is_bad_shape, size_faults, initial, initial_faults, shape_of, slot_of, declared, local, local_faults}
 use Rattle.c_resolved.specs.Names.{Names}
-use Rattle.c_resolved.specs.Scopes.{Scope, AVariable, IsNew, bind}
+use Rattle.c_resolved.specs.Scopes.{Scope, AVariable}
 use Rattle.c_resolved.specs.Within.{Each}
 use Rattle.c_resolved.specs.Files.{IsLength, AreInitialisers}
-use Rattle.c_resolved.specs.PrintableExpressions.{IsConstant}
-use Rattle.c_resolved.specs.PrintableStatements.{LengthPrints, ValuesPrint, DeclaratorPrints}
-use Rattle.printed_syntax.specs.Reread.{Spelling, number_text}
+use Rattle.c_resolved.specs.PrintableStatements.{LengthPrints, ValuesPrint}
+use Rattle.printed_syntax.specs.Reread.{Spelling}
 use Rattle.printed_syntax.specs.Standing.{Stands}
 use Rattle.printed_syntax.specs.ExpressionDerivations.{type_of}
 use Rattle.printed_syntax.specs.StatementDerivations.{assignment_of, size_of, value_of as given_of, declarator_of}
@@ -50,26 +42,15 @@ use Rattle.reread_core.specs.WrittenExpressions.{type_words, assignment_form}
 use Rattle.reread_core.specs.WrittenStatements.{further_terms, written_size, written_value, written_declarator}
 use Rattle.reread_core.specs.Words.{AreWords}
 use Rattle.reread_core.specs.Bindings.{IsInScope, AreSameScopes, shape_of as shape_in}
-use Rattle.reread_core.specs.Laws.{IsPlace, IsExpressionOf}
-use Rattle.reread_core.proofs.Mirrors.{expression_in, tree_text, again, text_in, texts_in}
+use Rattle.reread_core.specs.Places.{IsPlace, Standing}
+use Rattle.reread_core.specs.GoodItems.{IsValueOf, IsVariable, with_slot}
+use Rattle.reread_core.proofs.Mirrors.{expression_in, tree_text, again, texts_in}
 use Rattle.reread_core.proofs.ExpressionWords.{word_here, mark_here, kind_here}
 use Rattle.reread_core.proofs.Marks.{kind_is}
 use Rattle.reread_core.proofs.Readings.{typed_of, has_valued, Reads, value_is, used_clear}
 use Rattle.reread_core.proofs.ExpressionsRead.{number_typed}
-use Rattle.reread_core.proofs.FullExpressions.{FullReads, assigned_full}
+use Rattle.reread_core.proofs.FullExpressions.{assigned_full}
 use Rattle.reread_core.proofs.SameScopes.{scopes_agree, bind_same, new_unbound}
-
--- an expression of which the value is used
-pub record IsValueOf (n : Names) (ss : List Scope) (x : ExpressionTree) : Type 0 where
-  pub good : IsExpressionOf n ss x
-  pub kind : HasKind (kind_of x)
-
--- a place in a function: its scopes, and the slots that are declared before it
-pub record Standing (n : Names) (ss : List Scope) (k : ℕ) (w : Walk) : Type 0 where
-  pub inside : IsInScope ss
-  pub same : AreSameScopes n ss w.scopes
-  pub slots_are : w.slots ≡ take k n.slots
-  pub count : length w.slots ≡ k
 
 -- ---- values
 
@@ -250,19 +231,6 @@ module _ (n : Names) (word : ℕ → List ℕ) (tokens : List Spelling) (words :
   pub place_at : (ss : List Scope) (k : ℕ) (w : Walk) → Standing n ss k w → IsPlace n ss (env_in word w) tokens
   place_at ss k w h = record { words = words; scopes = scopes_agree n ss w.scopes h.same }
 
-  -- the scopes behind the name of slot k
-  abbrev pub with_slot : ℕ → Slot → List Scope → List Scope
-  with_slot k s ss = bind s.name (AVariable (H.Slot k)) ss
-
-  -- a variable of a resolved function, which prints
-  pub record IsVariable (ss : List Scope) (k : ℕ) (s : Slot) (given : Option (List ExpressionTree)) : Type 0 where
-    pub slot_is : slice_get n.slots k ≡ Some s
-    pub prints : DeclaratorPrints n.slots s given
-    pub length : IsLength s.cells
-    pub fits : IfSome given (AreInitialisers 1024 s.cells)
-    pub new : IsNew s.name ss
-    pub values : IfSome given (Each (IsValueOf n (with_slot k s ss)))
-
   abbrev declarator_at : ℕ → Slot → Option (List ExpressionTree) → s.Declarator
   declarator_at at s given = written_declarator at (declarator_of s given)
 
@@ -273,7 +241,7 @@ module _ (n : Names) (word : ℕ → List ℕ) (tokens : List Spelling) (words :
     pub clear : (vs : Faults) → local_faults word (kinds_of s) (declarator_at at s given) w vs ≡ vs
 
   -- the walk behind the name
-  walked : (ss : List Scope) (k : ℕ) (w : Walk) (at : ℕ) (s : Slot) (given : Option (List ExpressionTree)) → Standing n ss k w → IsVariable ss k s given → word at ≡ s.name
+  walked : (ss : List Scope) (k : ℕ) (w : Walk) (at : ℕ) (s : Slot) (given : Option (List ExpressionTree)) → Standing n ss k w → IsVariable n ss k s given → word at ≡ s.name
       → length_in (env_in word w) (written_size (at + 1) (size_of s.cells)) ≡ length_of s.cells → Standing n (with_slot k s ss) (suc k) (declared word (kinds_of s) (declarator_at at s given) w)
   walked ss k w at s given here v named e =
       let d = declarator_at at s given in
@@ -295,7 +263,7 @@ module _ (n : Names) (word : ℕ → List ℕ) (tokens : List Spelling) (words :
       one_more : (k : ℕ) → k + 1 ≡ suc k
       one_more k = omega arith
 
-  pub declarator_read : (ss : List Scope) (k : ℕ) (w : Walk) (at : ℕ) (s : Slot) (given : Option (List ExpressionTree)) (ps : List Piece) → Standing n ss k w → IsVariable ss k s given
+  pub declarator_read : (ss : List Scope) (k : ℕ) (w : Walk) (at : ℕ) (s : Slot) (given : Option (List ExpressionTree)) (ps : List Piece) → Standing n ss k w → IsVariable n ss k s given
       → Stands tokens at (declarator_text n.slots s (option_map (map expression_in) given) ps) → DeclaratorRead ss k w at s given ps
   declarator_read ss k w at s given ps here v h =
       let d = declarator_at at s given in

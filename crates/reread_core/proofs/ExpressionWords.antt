@@ -1,5 +1,5 @@
 -- The words of the tokens of a printed expression are those of its plain tree, each at its place.
-use Rattle.std.proofs.Common.{◌≡◌, ◌≤◌, ◌+◌, ℕ, ℤ, Bool, true, false, nat_lt, List, [], ◌∷◌, map, Option, Some, None, refl, ap, sym, subst, ◌∙◌, arith}
+use Rattle.std.proofs.Common.{◌≡◌, ◌≤◌, ◌+◌, ℕ, Bool, true, false, nat_lt, List, [], map, Option, Some, None, refl, ap, sym, subst, ◌∙◌, arith}
 use Rattle.std.specs.Prelude.{codes}
 use Rattle.std.proofs.lemmas.Bool.{le-ltb}
 use Rattle.c_types.specs.declared.kinds.IntKind.{IntKind}
@@ -11,17 +11,15 @@ use Rattle.c_tree.specs.declared.tree.UnaryOp.{UnaryOp}
 use Rattle.c_tree.specs.declared.tree.UnaryOp.TheVariants.{Plus, Minus, Not, Flip}
 use Rattle.c_tree.specs.ExpressionTrees.{ExpressionTree, PlaceTree, NodeTree, Typed, Arguments, NoArgument, Argument}
 use Rattle.c_tree.specs.ExpressionTrees as t
-use Rattle.c_tree.specs.TextPieces.{Piece, Text, ◌⨾◌, space, word, punctuator, literal, only_if, spaced, comma, more, listed, begins_with}
-use Rattle.c_tree.specs.TextPieces as p
-use Rattle.c_tree.specs.TextExpressions.{home_name, kind_text, result_text, unary_spelling, binary_spelling, update_spelling, count_spelling, binary_level, operands, gap, bracketed}
+use Rattle.c_tree.specs.TextPieces.{Piece, Text, ◌⨾◌, space, word, punctuator, only_if, spaced, comma, more, listed, begins_with}
+use Rattle.c_tree.specs.TextExpressions.{home_name, kind_text, result_text, unary_spelling, binary_spelling, update_spelling, count_spelling, binary_level, operands, gap}
 use Rattle.c_grammar.specs.Expressions as g
 use Rattle.c_grammar.specs.ExpressionSyntax.{type_end, expression_end, assignment_end, conditional_end, binary_end, unary_end, target_end, arguments_end, argument_end}
-use Rattle.c_resolved.specs.PrintableExpressions.{level_of}
 use Rattle.printed_syntax.specs.Reread.{Spelling, mark_in, character_in, number_text}
 use Rattle.printed_syntax.specs.Standing.{Stands}
 use Rattle.printed_syntax.specs.ExpressionDerivations.{type_of, as_assignment, as_conditional, as_binary, as_unary, followed_by, cast_of, listed as listed_of, call_of, argument_of, derivation_of, target_of, arguments_of}
 use Rattle.printed_syntax.proofs.ExpressionFits.{mark_high, mark_low}
-use Rattle.printed_syntax.proofs.Standings.{Next, next, at_word, at_punctuator, at_number, at_character, past_gap}
+use Rattle.printed_syntax.proofs.Standings.{next, at_word, at_punctuator, at_number, at_character, past_gap}
 use Rattle.reread_core.specs.Words.{AreWords}
 use Rattle.reread_core.proofs.Mirrors.{tree_text, place_tree_text, argument_texts}
 use Rattle.reread_core.proofs.Operands.{past, beginning, bracketed_end, ending, opened, assigned, chosen, bound, tight}

@@ -1,6 +1,6 @@
 -- The source form of a printed expression is read as the expression (ISO/IEC 9899:2011, 6.5).
-use Rattle.std.proofs.Common.{◌≡◌, ◌≤◌, ◌+◌, ◌==◌, ℕ, ℤ, pos, negsuc, Bool, true, false, cond, List, [], ◌∷◌, ◌++◌, Option, Some, None, refl, ap, sym, subst, ◌∙◌, arith}
-use Rattle.std.specs.Prelude.{codes, get_or, option_map, IsSomeAnd}
+use Rattle.std.proofs.Common.{◌≡◌, ◌+◌, ℕ, ℤ, pos, negsuc, Bool, true, false, cond, List, [], ◌∷◌, ◌++◌, Option, Some, None, refl, ap, sym, subst, ◌∙◌, arith}
+use Rattle.std.specs.Prelude.{option_map, IsSomeAnd}
 use Rattle.c_types.specs.declared.kinds.IntKind.{IntKind}
 use Rattle.c_types.specs.declared.kinds.IntKind.TheVariants as K
 use Rattle.c_types.specs.Words.{is_digit}
@@ -13,22 +13,18 @@ use Rattle.c_tree.specs.declared.tree.Node.{Node}
 use Rattle.c_tree.specs.ExpressionTrees.{ExpressionTree, PlaceTree, NodeTree, Arguments, NoArgument, Argument}
 use Rattle.c_tree.specs.ExpressionTrees as t
 use Rattle.c_tree.specs.Constants.{kind_of, HasKind}
-use Rattle.c_tree.specs.TextExpressions.{unary_spelling, binary_spelling, update_spelling, count_spelling, binary_level}
+use Rattle.c_tree.specs.TextExpressions.{unary_spelling, binary_spelling, count_spelling, binary_level}
 use Rattle.c_lexer.specs.Marks.{mark_of}
 use Rattle.c_lexer.specs.Numbers.{is_run, integer_of}
-use Rattle.c_lexer.specs.Pieces as l
-use Rattle.c_grammar.specs.Expressions as g
-use Rattle.c_grammar.specs.ExpressionSyntax.{expression_end, binary_end, target_end, type_end}
+use Rattle.c_grammar.specs.ExpressionSyntax.{expression_end, target_end, type_end}
 use Rattle.c_source.specs.Terms.{Form, At, Prefix, Suffix, Assign}
 use Rattle.c_source.specs.Terms as source
-use Rattle.c_source.specs.Words.{is_character, character, decoded, kind_of as kind_of_words}
+use Rattle.c_source.specs.Words.{is_character, character, decoded}
 use Rattle.c_kinds.specs.declared.typed.Typed.{Typed}
-use Rattle.c_kinds.specs.declared.typed.Typed.TheVariants.{Value, Void, Text, Array}
-use Rattle.c_kinds.specs.declared.typed.Valued.{Valued}
-use Rattle.c_kinds.specs.declared.typed.Target.{Target}
+use Rattle.c_kinds.specs.declared.typed.Typed.TheVariants.{Text, Array}
 use Rattle.c_kinds.specs.Marks.{step_of, counts_up, unary_op, binary_op, update_op, unary_kind, binary_kind}
-use Rattle.c_kinds.specs.Scopes.{Env, Faults, Scope, meaning, look_up}
-use Rattle.c_kinds.specs.Values.{expression, of_kind, of_result, value_of, use_fault, number, character_constant, writable, unary, counting, cast, cast_void, binary, choice, stored, assignment}
+use Rattle.c_kinds.specs.Scopes.{Env, Faults}
+use Rattle.c_kinds.specs.Values.{of_kind, of_result, value_of, use_fault, number, character_constant, writable, unary, counting, cast, cast_void, binary, choice, assignment}
 use Rattle.c_kinds.specs.Names.{named, name_fault}
 use Rattle.c_kinds.specs.Typing.{constant, form_typed, form_faults, form_target, form_target_faults}
 use Rattle.c_resolved.specs.Names.{Names, home_of}
@@ -37,22 +33,22 @@ use Rattle.c_resolved.specs.Kinds.{IsOperand, HasValue, IsArray, of_both, PlaceA
 use Rattle.c_resolved.specs.Kinds as resolved
 use Rattle.c_resolved.specs.Scopes.{AConstant, AFunction, HomeIsBound, NameIsBound}
 use Rattle.c_resolved.specs.Scopes as scopes
-use Rattle.c_resolved.specs.Within.{Within, NodeWithin, PlaceWithin, ArgumentsWithin}
+use Rattle.c_resolved.specs.Within.{Within, PlaceWithin, ArgumentsWithin}
 use Rattle.c_resolved.specs.PrintableExpressions.{IsConstant, ArgumentPrints, Prints, PlacePrints, AllPrint}
-use Rattle.printed_syntax.specs.Reread.{character_in, number_text}
-use Rattle.printed_syntax.specs.ExpressionDerivations.{type_of, as_assignment, as_conditional, as_binary, as_unary, cast_of, count_of, argument_of, derivation_of, target_of, arguments_of}
+use Rattle.printed_syntax.specs.Reread.{number_text}
+use Rattle.printed_syntax.specs.ExpressionDerivations.{type_of, as_assignment, as_conditional, as_binary, as_unary, argument_of, derivation_of, target_of}
 use Rattle.printed_syntax.proofs.ExpressionFits.{mark_high}
 use Rattle.printed_syntax.proofs.Neighbours.{differs, first_of_and}
 use Rattle.printed_syntax.proofs.Numbers.{integer_in, number_is}
-use Rattle.reread_core.specs.WrittenExpressions.{type_words, expression_form, assignment_form, conditional_form, binary_form, unary_form, target_form, argument_form}
+use Rattle.reread_core.specs.WrittenExpressions.{expression_form, assignment_form, conditional_form, binary_form, unary_form, target_form, argument_form}
 use Rattle.reread_core.specs.Bindings.{ScopesAgree}
-use Rattle.reread_core.proofs.Mirrors.{expression_in, node_in, place_in, arguments_in}
+use Rattle.reread_core.proofs.Mirrors.{place_in}
 use Rattle.reread_core.proofs.Operands.{beginning, ending, opened, assigned, chosen, bound, tight}
-use Rattle.reread_core.proofs.ExpressionWords.{marked, ResultIsSpelled, Spelled, NodeIsSpelled, PlaceIsSpelled, AllAreSpelled, argument_end_is}
+use Rattle.reread_core.proofs.ExpressionWords.{marked, Spelled, PlaceIsSpelled, AllAreSpelled, argument_end_is}
 use Rattle.reread_core.proofs.Characters.{character_is, text_is}
 use Rattle.reread_core.proofs.Marks.{unary_steps, unary_is, binary_is, update_is, step_is, counts_is, unary_same, binary_same, kind_is}
-use Rattle.reread_core.proofs.Readings.{typed_of, HasValued, has_valued, Reads, reads_as, value_is, used_clear, dropped_clear, drops_is, There, there, holds_of, meaning_is, ReadsPlace, var_reads, cell_reads, names_variable, comma_reads}
-use Rattle.reread_core.proofs.ArgumentsRead.{PassedAs, Passes, AllPass, CallReads, call_reads}
+use Rattle.reread_core.proofs.Readings.{HasValued, has_valued, Reads, reads_as, value_is, used_clear, dropped_clear, drops_is, there, holds_of, meaning_is, ReadsPlace, var_reads, cell_reads, names_variable, comma_reads}
+use Rattle.reread_core.proofs.ArgumentsRead.{Passes, AllPass, call_reads}
 
 -- ---- numbers
 

@@ -1,18 +1,15 @@
 -- The printed text of a whole expression reads back as the expression.
-use Rattle.std.proofs.Common.{◌≡◌, ◌≤◌, ◌+◌, ℕ, List, Option, refl, ap, sym, subst, ◌∙◌, arith}
-use Rattle.c_types.specs.declared.kinds.IntKind.{IntKind}
+use Rattle.std.proofs.Common.{◌≡◌, ◌≤◌, ℕ, List, ap, sym, subst, ◌∙◌, arith}
 use Rattle.c_tree.specs.declared.tree.Expression.{Expression, out-Expression, out-roll-Expression}
 use Rattle.c_tree.specs.ExpressionTrees.{ExpressionTree, PlaceTree, NodeTree, Arguments, NoArgument, Argument, expression_tree}
 use Rattle.c_tree.specs.ExpressionTrees as t
 use Rattle.c_tree.specs.TextPieces.{Piece}
 use Rattle.c_tree.specs.TextExpressions.{expression_text}
-use Rattle.c_grammar.specs.declared.syntax.Syntax.{Syntax}
 use Rattle.c_grammar.specs.ExpressionSyntax.{expression_end, assignment_end, conditional_end}
 use Rattle.c_source.specs.Terms.{Term, Form, At}
-use Rattle.c_source.specs.Parts.{term_of}
-use Rattle.c_kinds.specs.Scopes.{Env, Faults}
+use Rattle.c_kinds.specs.Scopes.{Env}
 use Rattle.c_kinds.specs.Values.{of_result}
-use Rattle.c_kinds.specs.Typing.{typed, faults, form_typed, form_faults}
+use Rattle.c_kinds.specs.Typing.{typed, faults}
 use Rattle.c_resolved.specs.Names.{Names}
 use Rattle.c_resolved.specs.Kinds.{KindAgrees, WritesNoConst}
 use Rattle.c_resolved.specs.Scopes.{Scope, NameIsBound}
@@ -22,12 +19,13 @@ use Rattle.printed_syntax.specs.Standing.{Stands}
 use Rattle.printed_syntax.specs.ExpressionDerivations.{derivation_of}
 use Rattle.printed_syntax.specs.StatementDerivations.{assignment_of, conditional_of}
 use Rattle.reread_core.specs.WrittenExpressions.{expression_form, assignment_form, conditional_form}
-use Rattle.reread_core.specs.Laws.{IsPlace, IsExpressionOf, ReadsAs}
+use Rattle.reread_core.specs.Places.{IsPlace, IsExpressionOf}
+use Rattle.reread_core.specs.Laws.{ReadsAs}
 use Rattle.reread_core.proofs.Mirrors.{expression_in, node_in, tree_text, whole, text_of_tree}
-use Rattle.reread_core.proofs.Operands.{Lying, beginning, ending, opened, assigned, chosen}
+use Rattle.reread_core.proofs.Operands.{Lying, beginning, opened, assigned, chosen}
 use Rattle.reread_core.proofs.ExpressionWords.{spelled, as_end}
 use Rattle.reread_core.proofs.Readings.{typed_of, Reads, reads_as}
-use Rattle.reread_core.proofs.ExpressionsRead.{Fact, expression_reads}
+use Rattle.reread_core.proofs.ExpressionsRead.{expression_reads}
 
 -- ---- three facts of each part of an expression
 

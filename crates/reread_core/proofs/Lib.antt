@@ -15,4 +15,11 @@ pub mod ItemMirrors
 pub mod Entries
 pub mod SameScopes
 pub mod DeclarationsRead
+pub mod ListsRead
+pub mod LeavesRead
+pub mod ConstructsRead
+pub mod ElseRead
+pub mod ForRead
+pub mod ItemsRead
+pub mod BodyRead
 pub mod TheLaws

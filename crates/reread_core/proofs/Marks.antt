@@ -1,5 +1,5 @@
 -- What the printed marks and the printed words of types are.
-use Rattle.std.proofs.Common.{◌≡◌, ◌+◌, ℕ, Bool, true, false, List, [], ◌∷◌, Option, Some, None, refl, ap, ◌∙◌}
+use Rattle.std.proofs.Common.{◌≡◌, ℕ, Bool, true, false, List, Some, None, refl}
 use Rattle.std.specs.Prelude.{codes}
 use Rattle.c_types.specs.declared.kinds.IntKind.{IntKind}
 use Rattle.c_types.specs.declared.kinds.IntKind.TheVariants as K
@@ -11,7 +11,7 @@ use Rattle.c_tree.specs.declared.tree.BinaryOp.{BinaryOp}
 use Rattle.c_tree.specs.declared.tree.BinaryOp.TheVariants.{Arith, Less, Greater, AtMost, AtLeast, Equal, Unequal, AndThen, OrElse}
 use Rattle.c_tree.specs.TextExpressions.{unary_spelling, binary_spelling, update_spelling, count_spelling}
 use Rattle.c_lexer.specs.Marks.{mark_of}
-use Rattle.c_source.specs.Words.{has_word, kind_of}
+use Rattle.c_source.specs.Words.{kind_of}
 use Rattle.c_kinds.specs.Marks.{step_of, counts_up, unary_op, binary_op, update_op, unary_kind, binary_kind}
 use Rattle.c_resolved.specs.Kinds as resolved
 use Rattle.printed_syntax.specs.ExpressionDerivations.{type_of}

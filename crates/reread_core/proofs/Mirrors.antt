@@ -1,9 +1,8 @@
 -- An expression by its plain tree: the expression itself, and its printed text.
-use Rattle.std.proofs.Common.{◌≡◌, ℕ, ℤ, List, [], ◌∷◌, map, Option, refl, ap, sym, subst, ◌∙◌}
+use Rattle.std.proofs.Common.{◌≡◌, List, [], ◌∷◌, map, Option, refl, ap, sym, subst, ◌∙◌}
 use Rattle.c_types.specs.declared.kinds.IntKind.{IntKind}
 use Rattle.c_tree.specs.declared.tree.Slot.{Slot}
-use Rattle.c_tree.specs.declared.tree.Home.{Home}
-use Rattle.c_tree.specs.declared.tree.Expression.{Expression, Expression-F, roll-Expression, map-Expression, ind-Expression, fold-roll-Expression}
+use Rattle.c_tree.specs.declared.tree.Expression.{Expression, Expression-F, roll-Expression, ind-Expression, fold-roll-Expression}
 use Rattle.c_tree.specs.declared.tree.Place.{Place, roll-Place, map-Place, fold-roll-Place}
 use Rattle.c_tree.specs.declared.tree.Place as place
 use Rattle.c_tree.specs.declared.tree.Place.TheVariants.{rolls-Var, rolls-Cell}

@@ -1,5 +1,5 @@
 -- An operand where the grammar needs a level: what it writes, and where it ends, with the brackets round it.
-use Rattle.std.proofs.Common.{◌≡◌, ◌<◌, ◌≤◌, ◌+◌, ℕ, Bool, true, false, cond, nat_lt, refl, ap, sym, ◌∙◌, arith}
+use Rattle.std.proofs.Common.{◌≡◌, ◌<◌, ◌≤◌, ◌+◌, ℕ, Bool, true, false, cond, nat_lt, refl, sym, ◌∙◌, arith}
 use Rattle.std.proofs.lemmas.Bool.{le-ltb, lt-ltb}
 use Rattle.c_grammar.specs.declared.class.Class.{Class}
 use Rattle.c_grammar.specs.declared.class.Class.TheVariants as c

@@ -1,6 +1,6 @@
 -- What it is that a form is read as an expression of the program; names, places and commas.
-use Rattle.std.proofs.Common.{◌≡◌, ◌+◌, ◌&&◌, ◌==◌, ℕ, Bool, true, false, cond, List, [], ◌∷◌, ◌++◌, Option, Some, None, refl, ap, sym, subst, ◌∙◌}
-use Rattle.std.specs.Prelude.{is_some, option_map, slice_get, IsSomeAnd}
+use Rattle.std.proofs.Common.{◌≡◌, ◌+◌, ℕ, Bool, true, false, cond, List, Option, Some, None, refl, ap, sym, subst, ◌∙◌}
+use Rattle.std.specs.Prelude.{is_some, option_map, IsSomeAnd}
 use Rattle.c_types.specs.declared.kinds.IntKind.{IntKind}
 use Rattle.c_tree.specs.declared.tree.Slot.{Slot}
 use Rattle.c_tree.specs.declared.tree.Home.{Home}
@@ -15,21 +15,18 @@ use Rattle.c_tree.specs.TextExpressions.{home_name}
 use Rattle.c_grammar.specs.Expressions as g
 use Rattle.c_grammar.specs.ExpressionSyntax.{expression_end, assignment_end}
 use Rattle.c_source.specs.Terms.{Form, At, Variable, Cell}
-use Rattle.c_kinds.specs.declared.binding.Shape.{Shape}
-use Rattle.c_kinds.specs.declared.binding.Binding.{Binding}
 use Rattle.c_kinds.specs.declared.binding.Binding.TheVariants as binding
 use Rattle.c_kinds.specs.declared.typed.Typed.{Typed}
-use Rattle.c_kinds.specs.declared.typed.Typed.TheVariants.{Value, Void, Array}
+use Rattle.c_kinds.specs.declared.typed.Typed.TheVariants.{Value, Array}
 use Rattle.c_kinds.specs.declared.typed.Valued.{Valued}
 use Rattle.c_kinds.specs.declared.typed.Variable as v
-use Rattle.c_kinds.specs.declared.typed.Target.{Target}
-use Rattle.c_kinds.specs.Scopes.{Env, Faults, look_up, meaning, fault_if}
-use Rattle.c_kinds.specs.Values.{expression, of_kind, of_result, value_of, dropped, use_fault, drop_fault, number_target, cell_target, writable, reading, variable, comma, with_left}
+use Rattle.c_kinds.specs.Scopes.{Env, Faults, look_up, meaning}
+use Rattle.c_kinds.specs.Values.{expression, of_kind, of_result, value_of, dropped, use_fault, drop_fault, number_target, cell_target, reading, variable, comma}
 use Rattle.c_kinds.specs.Names.{variable_of, named, name_fault, shape_fault, target_fault}
 use Rattle.c_kinds.specs.Typing.{form_typed, form_faults, form_target, form_target_faults, commas, unused_faults}
 use Rattle.c_resolved.specs.Names.{Names, home_of}
 use Rattle.c_resolved.specs.Names as names
-use Rattle.c_resolved.specs.Kinds.{HasValue, IsNumber, IsArray}
+use Rattle.c_resolved.specs.Kinds.{IsNumber, IsArray}
 use Rattle.c_resolved.specs.Scopes.{Meaning, AVariable, HomeIsBound}
 use Rattle.c_resolved.specs.Scopes as resolved
 use Rattle.printed_syntax.specs.ExpressionDerivations.{followed_by}

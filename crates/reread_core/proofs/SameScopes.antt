@@ -1,8 +1,8 @@
 -- Scopes that are the same in a resolved program and where its text is read.
-use Rattle.std.proofs.Common.{◌≡◌, ℕ, Bool, true, false, cond, List, [], ◌∷◌, Option, Some, None, is_some, refl, ap, sym, subst, ◌∙◌, bytes_eq}
+use Rattle.std.proofs.Common.{◌≡◌, ℕ, true, false, cond, List, [], ◌∷◌, Option, Some, None, is_some, refl, ap, sym, subst, ◌∙◌, bytes_eq}
 use Rattle.std.specs.Option.{option_or}
 use Rattle.c_kinds.specs.declared.binding.Binding.{Binding}
-use Rattle.c_kinds.specs.Scopes.{Scope, found, look_up, or_else, with_entry, with_name, bind, bound, is_bound}
+use Rattle.c_kinds.specs.Scopes.{Scope, found, look_up, or_else, with_name, bind, is_bound}
 use Rattle.c_resolved.specs.Names.{Names}
 use Rattle.c_resolved.specs.Scopes.{Meaning}
 use Rattle.c_resolved.specs.Scopes as resolved

@@ -1,24 +1,24 @@
 -- The syntax of the derivation of a statement writes the statement, where the words are keywords as the derivation has them.
-use Rattle.std.proofs.Common.{◌≡◌, ◌≤◌, ◌+◌, ◌-◌, ◌==◌, ℕ, suc, Bool, true, false, cond, nat_le, List, [], ◌∷◌, ◌++◌, length, map, drop, get_or, Option, Some, None, refl, ap, sym, ◌∙◌, arith, append_assoc}
+use Rattle.std.proofs.Common.{◌≡◌, ◌≤◌, ◌+◌, ◌-◌, ℕ, suc, cond, nat_le, List, [], ◌∷◌, ◌++◌, length, map, drop, Option, Some, None, ap, sym, ◌∙◌, arith, append_assoc}
 use Rattle.std.proofs.lemmas.Bool.{le-leb}
 use Rattle.c_grammar.specs.declared.class.Class.{Class}
 use Rattle.c_grammar.specs.declared.class.Class.TheVariants as c
 use Rattle.c_grammar.specs.declared.syntax.Syntax.{Syntax}
 use Rattle.c_grammar.specs.declared.syntax.Production.TheVariants as p
-use Rattle.c_grammar.specs.Nodes.{node, leaf}
+use Rattle.c_grammar.specs.Nodes.{leaf}
 use Rattle.c_grammar.specs.TokenClasses.{keyword_class}
 use Rattle.c_grammar.specs.Expressions.{Expression}
-use Rattle.c_grammar.specs.ExpressionSyntax.{expression_end, expression_parts, expression_node, conditional_end, conditional_node}
-use Rattle.c_grammar.specs.Statements.{Local, Label, NameLabel, CaseLabel, DefaultLabel, ForStart, StartLocal, StartValue, Block, Braces, Items, NoItems, LocalItem, StatementItem, Statement, Labelled, Unlabelled, Plain, Compound, Simple, If, IfElse, While, DoWhile, For, Switch, Goto, Break, Continue, Return}
-use Rattle.c_grammar.specs.StatementSyntax.{local_end, label_end, for_start_end, optional_end, block_end, items_end, statement_end, plain_end, local_node, label_parts, label_node, for_start_parts, optional_parts, block_node, items_parts, statement_parts, plain_parts, statement_node, plain_node}
-use Rattle.c_source.specs.Parts.{Part, Content, Leaf, OfTerm, OfLocal, OfLabel, OfPlain, OfItem, OfBlock, part_of, content, at, form_in, term_in, is_token, is_local, token_at, term_at, optional_at, behind_optional, start_of, behind_start, for_of, gathered, label, label_in, two_part_label, declaration_in, list_of_item, body_in, body_at, keyword_statement, other_statement, plain_statement, statement_in, labelled, items_in, item_in, block_in}
+use Rattle.c_grammar.specs.ExpressionSyntax.{expression_end, expression_parts, expression_node, conditional_end}
+use Rattle.c_grammar.specs.Statements.{Local, Label, NameLabel, CaseLabel, DefaultLabel, ForStart, StartLocal, StartValue, Braces, Items, NoItems, LocalItem, StatementItem, Statement, Labelled, Unlabelled, Plain, Compound, Simple, If, IfElse, While, DoWhile, For, Switch, Goto, Break, Continue, Return}
+use Rattle.c_grammar.specs.StatementSyntax.{local_end, label_end, for_start_end, optional_end, items_end, statement_end, plain_end, local_node, label_parts, label_node, for_start_parts, optional_parts, block_node, items_parts, statement_parts, plain_parts, statement_node, plain_node}
+use Rattle.c_source.specs.Parts.{Part, Content, OfTerm, OfLocal, OfLabel, OfPlain, OfItem, OfBlock, at, term_in, is_token, is_local, optional_at, behind_optional, start_of, behind_start, for_of, gathered, label, label_in, two_part_label, declaration_in, list_of_item, body_in, body_at, keyword_statement, other_statement, plain_statement, statement_in, items_in, item_in, block_in}
 use Rattle.c_source.specs.Terms.{Term, At}
 use Rattle.c_source.specs.Items as s
-use Rattle.reread_core.specs.WrittenExpressions.{expression_form, conditional_form}
-use Rattle.reread_core.specs.WrittenStatements.{expression_term, optional_term, written_declaration, written_label, written_start, written_labels, written_items, behind_labels, written_plain, written_statement, written_body}
+use Rattle.reread_core.specs.WrittenExpressions.{expression_form}
+use Rattle.reread_core.specs.WrittenStatements.{expression_term, optional_term, written_label, written_start, written_labels, written_items, behind_labels, written_plain, written_statement, written_body}
 use Rattle.reread_core.specs.Keywords.{LabelHasKeyword, ItemsHaveKeywords, HasKeywords, PlainHasKeywords}
-use Rattle.reread_core.proofs.ExpressionSources.{token, token_rule, token_first, Writes, parts_write, expression_writes}
-use Rattle.reread_core.proofs.DeclarationSources.{Known, known, token_content, gathered_none, gathered_some, q, expression_term_is, conditional_term_is, local_known}
+use Rattle.reread_core.proofs.ExpressionSources.{token, token_rule, token_first, parts_write, expression_writes}
+use Rattle.reread_core.proofs.DeclarationSources.{Known, known, gathered_none, gathered_some, q, expression_term_is, conditional_term_is, local_known}
 
 -- ---- parts
 

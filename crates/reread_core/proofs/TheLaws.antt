@@ -1,11 +1,9 @@
 -- The laws together.
-use Rattle.std.proofs.Common.{ℕ, List, ap}
+use Rattle.std.proofs.Common.{ap}
 use Rattle.c_tree.specs.ExpressionTrees.{expression_tree}
 use Rattle.c_grammar.specs.declared.syntax.Production.TheVariants as p
-use Rattle.c_grammar.specs.Expressions.{Expression, Assignment, Conditional}
 use Rattle.c_grammar.specs.ExpressionSyntax.{expression_node, assignment_node, conditional_node}
-use Rattle.c_source.specs.Terms.{At}
-use Rattle.c_source.specs.Parts.{term_of, declaration_in}
+use Rattle.c_source.specs.Parts.{declaration_in}
 use Rattle.printed_syntax.specs.ExpressionDerivations.{derivation_of}
 use Rattle.printed_syntax.specs.StatementDerivations.{assignment_of, conditional_of}
 use Rattle.reread_core.specs.Laws.{RereadLaws}
@@ -13,6 +11,7 @@ use Rattle.reread_core.specs.WrittenExpressions.{expression_form, assignment_for
 use Rattle.reread_core.proofs.ExpressionSources.{term_is, expression_writes, assignment_writes, conditional_writes}
 use Rattle.reread_core.proofs.DeclarationSources.{local_known}
 use Rattle.reread_core.proofs.StatementSources.{block_writes}
+use Rattle.reread_core.proofs.BodyRead.{body_reads}
 use Rattle.reread_core.proofs.FullExpressions.{open_full, assigned_full, chosen_full, reads_whole, stands_tree}
 
 pub reread_laws : RereadLaws
@@ -37,4 +36,5 @@ reread_laws = record {
       let d = conditional_of x in
       reads_whole n ss env tokens h _ at _ _ ps e (term_is env.word (conditional_node at d) p.Conditional at (conditional_form at d) (conditional_writes env.word at d))
       (chosen_full n ss env tokens h at ps x g (stands_tree n ss env tokens h 3 at ps e s));
+  bodies = λ ts f ctx tokens ss k w at depth xs ps words h g p b. body_reads ts f ctx tokens words ss k w at depth xs ps h g p b;
 }

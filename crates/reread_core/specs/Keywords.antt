@@ -1,10 +1,9 @@
 -- The words of a text are keywords where a derivation has them, and none where it has names and `;`.
-use Rattle.std.specs.Prelude.{◌≡◌, ℕ, ◌+◌, List, Option, Some, None}
-use Rattle.c_grammar.specs.declared.class.Class.{Class}
+use Rattle.std.specs.Prelude.{◌≡◌, ℕ, ◌+◌, List, Some, None}
 use Rattle.c_grammar.specs.declared.class.Class.TheVariants as c
 use Rattle.c_grammar.specs.TokenClasses.{keyword_class}
 use Rattle.c_grammar.specs.ExpressionSyntax.{expression_end}
-use Rattle.c_grammar.specs.Statements.{Label, NameLabel, CaseLabel, DefaultLabel, Block, Braces, Items, NoItems, LocalItem, StatementItem, Statement, Labelled, Unlabelled, Plain, Compound, Simple, If, IfElse, While, DoWhile, For, Switch, Goto, Break, Continue, Return}
+use Rattle.c_grammar.specs.Statements.{Label, NameLabel, CaseLabel, DefaultLabel, Braces, Items, NoItems, LocalItem, StatementItem, Statement, Labelled, Unlabelled, Plain, Compound, Simple, If, IfElse, While, DoWhile, For, Switch, Goto, Break, Continue, Return}
 use Rattle.c_grammar.specs.StatementSyntax.{local_end, label_end, for_start_end, optional_end, statement_end}
 
 abbrev pub LabelHasKeyword : (ℕ → List ℕ) → ℕ → Label → Type 0

@@ -1,7 +1,12 @@
 -- The laws of this crate: what is printed of a resolved program reads back as it was.
-use Rattle.std.specs.Prelude.{◌≡◌, ◌+◌, ℕ, List, Some}
+use Rattle.std.specs.Prelude.{◌≡◌, ◌+◌, ℕ, List, map, Some}
 use Rattle.c_tree.specs.declared.tree.Expression.{Expression, out-Expression}
 use Rattle.c_tree.specs.ExpressionTrees.{ExpressionTree, expression_tree}
+use Rattle.c_tree.specs.declared.tree.Function.{Function}
+use Rattle.c_tree.specs.declared.tree.Top.{Top}
+use Rattle.c_tree.specs.declared.tree.Item.{Item}
+use Rattle.c_tree.specs.Trees.{trees_of}
+use Rattle.c_tree.specs.TextItems.{braced, printed}
 use Rattle.c_tree.specs.TextPieces.{Piece}
 use Rattle.c_tree.specs.TextExpressions.{expression_text}
 use Rattle.c_grammar.specs.declared.syntax.Syntax.{Syntax}
@@ -9,42 +14,30 @@ use Rattle.c_grammar.specs.Expressions.{Assignment, Conditional}
 use Rattle.c_grammar.specs.Expressions as g
 use Rattle.c_grammar.specs.ExpressionSyntax.{expression_node, assignment_node, conditional_node, expression_end, assignment_end, conditional_end}
 use Rattle.c_source.specs.Terms.{Term, At}
-use Rattle.c_grammar.specs.Statements.{Local, Items, Braces}
-use Rattle.c_grammar.specs.StatementSyntax.{local_node, block_node, items_end}
-use Rattle.c_source.specs.Items as s
+use Rattle.c_grammar.specs.Statements.{Local, Items, NoItems, Braces}
+use Rattle.c_grammar.specs.StatementSyntax.{local_node, block_node, block_end}
 use Rattle.c_source.specs.Parts.{part_of, term_of, declaration_in, block_in}
 use Rattle.c_kinds.specs.Scopes.{Env, Faults}
 use Rattle.c_kinds.specs.Values.{of_result}
 use Rattle.c_kinds.specs.Typing.{typed, faults}
 use Rattle.c_resolved.specs.Names.{Names}
-use Rattle.c_resolved.specs.Kinds.{IsOperand, KindsAgree, WritesNoConst}
-use Rattle.c_resolved.specs.Scopes.{Scope, IsBound}
-use Rattle.c_resolved.specs.Within.{Within}
-use Rattle.c_resolved.specs.PrintableExpressions.{Prints}
+use Rattle.c_statements.specs.Context.{Context, Walk, no_construct}
+use Rattle.c_statements.specs.Functions.{body_items, behind_body, body_faults}
+use Rattle.c_resolved.specs.Resolved.{names_in}
+use Rattle.c_resolved.specs.Scopes.{Scope, behind_all}
 use Rattle.printed_syntax.specs.Reread.{Spelling}
 use Rattle.printed_syntax.specs.Standing.{Stands}
 use Rattle.printed_syntax.specs.ExpressionDerivations.{derivation_of}
-use Rattle.printed_syntax.specs.StatementDerivations.{assignment_of, conditional_of}
+use Rattle.printed_syntax.specs.StatementDerivations.{assignment_of, conditional_of, items_of}
 use Rattle.reread_core.specs.WrittenExpressions.{expression_form, assignment_form, conditional_form}
-use Rattle.reread_core.specs.WrittenStatements.{written_declaration, written_items}
+use Rattle.reread_core.specs.WrittenStatements.{written_declaration, written_block}
 use Rattle.reread_core.specs.Keywords.{ItemsHaveKeywords}
 use Rattle.reread_core.specs.Words.{AreWords}
-use Rattle.reread_core.specs.Bindings.{ScopesAgree}
+use Rattle.reread_core.specs.Places.{IsPlace, IsExpressionOf, Standing}
+use Rattle.reread_core.specs.GoodItems.{AreGood, slots_in}
+use Rattle.reread_core.specs.PlacedNotes.{NotesOfBody}
 
 -- ---- expressions
-
--- a place of a text where an expression may stand: the names of the program, their scopes there, and the words of the tokens
-pub record IsPlace (n : Names) (ss : List Scope) (env : Env) (tokens : List Spelling) : Type 0 where
-  pub words : AreWords env.word tokens
-  pub scopes : ScopesAgree n ss env.scopes
-
--- an expression of a resolved program at such a place, which prints
-pub record IsExpressionOf (n : Names) (ss : List Scope) (x : ExpressionTree) : Type 0 where
-  pub kinds : KindsAgree n x
-  pub bound : IsBound n.slots ss x
-  pub consts : Within (WritesNoConst n) x
-  pub operand : IsOperand x
-  pub prints : Prints n.slots x
 
 -- a source tree is read as an expression, without a violation, and these pieces stand behind it
 pub record ReadsAs (env : Env) (tokens : List Spelling) (term : Term) (end : ℕ) (ps : List Piece) (e : Expression) : Type 0 where
@@ -58,6 +51,16 @@ ReadsBackAt need syntax end =
     (n : Names) (ss : List Scope) (env : Env) (tokens : List Spelling) → IsPlace n ss env tokens → (e : Expression) (at : ℕ) (ps : List Piece) → IsExpressionOf n ss (expression_tree e)
     → Stands tokens at (expression_text n.slots e need ps) → ReadsAs env tokens (term_of env.word (syntax at (expression_tree e))) (end at (expression_tree e)) ps e
 
+-- ---- bodies
+
+-- the printed list of a body, from its brace on, reads back as the items, without a violation
+pub record BodyReads (ts : List Top) (f : Function) (ctx : Context) (tokens : List Spelling) (ss : List Scope) (k : ℕ) (w : Walk) (at : ℕ) (xs : List Item) (ps : List Piece) : Type 0 where
+  pub keywords : ItemsHaveKeywords ctx.word (at + 1) (items_of f.slots (trees_of xs) NoItems)
+  pub items : body_items ctx (written_block at (items_of f.slots (trees_of xs) NoItems)) w ≡ xs
+  pub standing : Standing (names_in ts f) (behind_all f.slots ss (trees_of xs)) (k + slots_in (trees_of xs)) (behind_body ctx (written_block at (items_of f.slots (trees_of xs) NoItems)) w)
+  pub clear : (vs : Faults) → body_faults ctx (written_block at (items_of f.slots (trees_of xs) NoItems)) w vs ≡ vs
+  pub behind : Stands tokens (block_end at (Braces (items_of f.slots (trees_of xs) NoItems))) ps
+
 pub record RereadLaws : Type 0 where
   -- what the syntax of a derivation writes
   pub expression : (word : ℕ → List ℕ) (at : ℕ) (e : g.Expression) → term_of word (expression_node at e) ≡ At at (expression_form at e)
@@ -65,8 +68,11 @@ pub record RereadLaws : Type 0 where
   pub conditional : (word : ℕ → List ℕ) (at : ℕ) (d : Conditional) → term_of word (conditional_node at d) ≡ At at (conditional_form at d)
   pub declaration : (word : ℕ → List ℕ) (at : ℕ) (x : Local) → declaration_in (part_of word (local_node at x)).content ≡ written_declaration at x
   -- a block's, where the words are keywords as its derivation has them
-  pub block : (word : ℕ → List ℕ) (at : ℕ) (xs : Items) → ItemsHaveKeywords word (at + 1) xs → block_in (part_of word (block_node at (Braces xs))) ≡ Some (s.Braces at (items_end (at + 1) xs + 1) (written_items (at + 1) xs))
+  pub block : (word : ℕ → List ℕ) (at : ℕ) (xs : Items) → ItemsHaveKeywords word (at + 1) xs → block_in (part_of word (block_node at (Braces xs))) ≡ Some (written_block at xs)
   -- the printed text of an expression reads back as the expression: by itself, where an assignment is needed, and where a constant is
   pub expressions : ReadsBackAt 1 (λ at x. expression_node at (derivation_of x)) (λ at x. expression_end at (derivation_of x))
   pub assignments : ReadsBackAt 2 (λ at x. assignment_node at (assignment_of x)) (λ at x. assignment_end at (assignment_of x))
   pub conditionals : ReadsBackAt 3 (λ at x. conditional_node at (conditional_of x)) (λ at x. conditional_end at (conditional_of x))
+  -- and that of a body without switches as the body, where the comments stand where its Notes are printed
+  pub bodies : (ts : List Top) (f : Function) (ctx : Context) (tokens : List Spelling) (ss : List Scope) (k : ℕ) (w : Walk) (at depth : ℕ) (xs : List Item) (ps : List Piece) → AreWords ctx.word tokens → Standing (names_in ts f) ss k w
+      → AreGood (names_in ts f) f ctx ss k no_construct (trees_of xs) → NotesOfBody f.slots ctx.notes at (trees_of xs) → Stands tokens at (braced (map (printed f) xs) depth ps) → BodyReads ts f ctx tokens ss k w at xs ps

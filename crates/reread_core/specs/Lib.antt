@@ -1,6 +1,9 @@
 pub mod WrittenExpressions
 pub mod Words
 pub mod Bindings
+pub mod Places
 pub mod WrittenStatements
 pub mod Keywords
+pub mod GoodItems
+pub mod PlacedNotes
 pub mod Laws

@@ -2,7 +2,7 @@
 use Rattle.std.specs.Prelude.{ℕ, ◌+◌, List, [], ◌∷◌, Option, Some, None}
 use Rattle.c_grammar.specs.Expressions.{Expression, Assignment}
 use Rattle.c_grammar.specs.ExpressionSyntax.{type_end, expression_end, assignment_end, conditional_end}
-use Rattle.c_grammar.specs.Statements.{Size, NoSize, Unsized, Sized, Initialiser, OneValue, ValueList, Declarator, Declared, Local, Locals, Label, NameLabel, CaseLabel, DefaultLabel, ForStart, StartLocal, StartValue, Block, Braces, Items, NoItems, LocalItem, StatementItem, Statement, Labelled, Unlabelled, Plain, Compound, Simple, If, IfElse, While, DoWhile, For, Switch, Goto, Break, Continue, Return}
+use Rattle.c_grammar.specs.Statements.{Size, NoSize, Unsized, Sized, Initialiser, OneValue, ValueList, Declarator, Declared, Local, Locals, Label, NameLabel, CaseLabel, DefaultLabel, ForStart, StartLocal, StartValue, Braces, Items, NoItems, LocalItem, StatementItem, Statement, Labelled, Unlabelled, Plain, Compound, Simple, If, IfElse, While, DoWhile, For, Switch, Goto, Break, Continue, Return}
 use Rattle.c_grammar.specs.StatementSyntax.{word_end, size_end, declarator_end, local_end, label_end, for_start_end, optional_end, items_end, statement_end, plain_end}
 use Rattle.c_source.specs.Terms.{Term, At}
 use Rattle.c_source.specs.Items as s
@@ -110,3 +110,6 @@ written_statement at t = s.States (written_labels at t) (behind_labels at t)
 -- a statement that is the list of a construct
 abbrev pub written_body : ℕ → Statement → s.Body
 written_body at t = list_of_item at (statement_end at t) (written_statement at t)
+
+abbrev pub written_block : ℕ → Items → s.Body
+written_block at xs = s.Braces at (items_end (at + 1) xs + 1) (written_items (at + 1) xs)
