@@ -1,5 +1,5 @@
 -- A function without a violation: its items, its slots, and what its parameters are bound to.
-use Rattle.std.proofs.Common.{ℕ, zero, suc, ◌+◌, ◌-◌, ◌≤◌, Bool, true, false, cond, not, List, [], ◌∷◌, ◌++◌, append_assoc, map, length, take, drop, Option, Some, None, is_some, ◌≡◌, refl, sym, ap, subst, ◌∙◌, true≢false, slice_get, arith, length-append}
+use Rattle.std.proofs.Common.{ℕ, zero, suc, ◌+◌, ◌-◌, ◌≤◌, ◌<◌, Bool, true, false, cond, not, List, [], ◌∷◌, ◌++◌, append_assoc, map, length, take, drop, Option, Some, None, is_some, ◌≡◌, refl, sym, ap, subst, ◌∙◌, true≢false, slice_get, arith, length-append}
 use Rattle.std.specs.Prelude.{IfSome, IsSomeAnd}
 use Rattle.std.proofs.lemmas.List.{append-nil, length-map}
 use Rattle.c_tree.specs.declared.tree.Slot.{Slot}
@@ -23,7 +23,7 @@ use Rattle.c_statements.specs.Functions.{FlatCounts, parameter_name, parameter_s
 use Rattle.c_statements.specs.Labels.{body_labels}
 use Rattle.c_statements.specs.Statements.{list_items, item_items, behind_item, behind_items}
 use Rattle.c_resolved.specs.Files.{IsLength, IsParameterLength, AreLengths}
-use Rattle.c_resolved.specs.Form.{gathered, declared_slot, marked_label, numbers_from}
+use Rattle.c_resolved.specs.Form.{gathered, declared_slot, marked_label, numbers_from, HasSourceForm, HasForm}
 use Rattle.c_resolved.specs.Kinds.{ItemAgrees, KeepsConsts, ReturnFits}
 use Rattle.c_resolved.specs.Names.{Names}
 use Rattle.c_resolved.specs.PrintableExpressions.{IsName}
@@ -38,7 +38,6 @@ use Rattle.resolving_core.proofs.Bound.{Nearest, nearest_new, nearest_bound, At,
 use Rattle.resolving_core.proofs.Declared.{slot_there}
 use Rattle.resolving_core.proofs.FileParts.{BodyParts, DefinedParts, parameters_clean, parameters_parts}
 use Rattle.resolving_core.proofs.FunctionTrees.{Behind, inside_slots, take_all, drop_all, body_grown, behind_parameters}
-use Rattle.resolving_core.specs.Laws.{HasOrder}
 use Rattle.resolving_core.proofs.Exits.{Exits, exits_surrounded}
 use Rattle.resolving_core.proofs.Gathered.{before_notes, list_numbers, item_numbers, of_list, of_item}
 use Rattle.resolving_core.proofs.LabelNumbers.{marks_gather, number_at, list_list, item_list, numbered_all}
@@ -46,6 +45,7 @@ use Rattle.resolving_core.proofs.SlotNumbers.{slots_gather, list_runs, item_runs
 use Rattle.resolving_core.proofs.Surroundings.{has_both, has_notes, has_list, has_item}
 use Rattle.resolving_core.proofs.Grown.{Grown}
 use Rattle.resolving_core.proofs.ItemKinds.{KnownAt, GoodItem, Good, kinds_closed}
+use Rattle.resolving_core.proofs.ItemForms.{forms_closed}
 use Rattle.resolving_core.proofs.ItemReturns.{Anywhere, AnyConstant, returns_closed, initialised_closed}
 use Rattle.resolving_core.proofs.Known.{HasShape, IsKnown, Knows}
 use Rattle.resolving_core.proofs.Lists.{clean_if, is_some_and, each_map}
@@ -155,7 +155,7 @@ pub record Resolves (ts : List Top) (t : tree.Function) : Type 0 where
   pub returns : Everywhere (ReturnFits t.result) (body_of t)
   pub initialised : Everywhere (IsInitialised t.slots) (body_of t)
   pub lengths : HasLengths t
-  pub order : HasOrder t
+  pub form : HasForm t
   pub labels : AllDiffer t.labels
 
 -- ---- slots, labels and exits
@@ -184,6 +184,9 @@ module _ (ctx : Context) where
   body_exits (Braces first after xs) w e = has_both ctx Exits exits_surrounded no_construct (list_items ctx xs w) (notes_at ctx (AtEnd first)) (has_list ctx Exits exits_surrounded no_construct xs w e) (has_notes ctx Exits exits_surrounded no_construct (AtEnd first))
   body_exits (Lone first after x) w e = has_both ctx Exits exits_surrounded no_construct (item_items ctx x w) (notes_at ctx (AtEnd first)) (has_item ctx Exits exits_surrounded no_construct x w e) (has_notes ctx Exits exits_surrounded no_construct (AtEnd first))
 
+none_before : (n : ℕ) → 0 + n ≡ n
+none_before n = omega arith
+
 begins_long : (a more slots : List Slot) (n : ℕ) → slots ≡ a ++ more → length a ≡ n → n ≤ length slots
 begins_long a more slots n e l = let h = ap length e ∙ length-append a more in omega arith
 
@@ -199,10 +202,11 @@ module _ (flat : FlatCounts) (word : ℕ → List ℕ) (notes : Anchor → List 
       let same = ap length (inside_slots word f scopes) ∙ length-map f.parameters (parameter_slot word) in
       record {
         kinds = tt; consts = tt; returns = tt; initialised = tt; labels = tt;
-        order = record {
+        form = record {
           unflat = refl;
           parameters = begins_long (map (parameter_slot word) f.parameters) [] slots (length f.parameters) (inside_slots word f scopes ∙ sym (append-nil (map (parameter_slot word) f.parameters))) (length-map f.parameters (parameter_slot word));
           prototype = λ e. (same, refl);
+          items = tt;
           slots = sym (nothing (length f.parameters) (length slots) same);
           labels = refl;
           cases = tt;
@@ -223,6 +227,8 @@ module _ (flat : FlatCounts) (word : ℕ → List ℕ) (notes : Anchor → List 
       let start = ap length (inside_slots word f scopes) ∙ length-map f.parameters (parameter_slot word) in
       let ls = numbered_all [] word (body_labels b []) p.labels in
       let x = body_exits ctx b w p.body in
+      let t = defined word notes f (Some b) scopes in
+      let count : length ctx.labels ≡ length t.labels = ls.count ∙ (none_before (length (body_labels b [])) ∙ sym (ap length ls.names ∙ length-map (body_labels b []) word)) in
       let all : Begins slots slots = ([], sym (append-nil slots)) in
       let o = k slots in
       let i = parameters_known ctx n true f.parameters (record { scopes = [] ∷ scopes; slots = [] }) p.parameters (g.more, g.whole) ([] ∷ o.0, knows_inside n word scopes o.0 o.1) in
@@ -232,10 +238,11 @@ module _ (flat : FlatCounts) (word : ℕ → List ℕ) (notes : Anchor → List 
         consts = everywhere_map (GoodItem n) (KeepsConsts n) (λ x h. h.consts) (trees_of (body_items ctx b w)) h;
         returns = body_holds ctx slots Anywhere (ReturnFits ctx.result) AnyConstant (returns_closed ctx slots) b w r p.body tt all;
         initialised = body_holds ctx slots Anywhere (IsInitialised slots) AnyConstant (initialised_closed ctx slots) b w r p.body tt all;
-        order = record {
+        form = record {
           unflat = refl;
           parameters = begins_long (map (parameter_slot word) f.parameters) g.more slots (length f.parameters) q (length-map f.parameters (parameter_slot word));
           prototype = λ e. absurd (true≢false e);
+          items = body_holds ctx slots Anywhere (HasSourceForm t) AnyConstant (forms_closed ctx t (λ m k h. subst (λ c. k < c) count (ls.below (λ q n e. absurd (true≢false (sym (ap is_some e)))) m k h))) b w r p.body tt all;
           slots = body_slots ctx b w ∙ ap (λ k. numbers_from k (length slots - k)) start;
           labels = body_marks ctx b w ∙ (ls.numbers ∙ ap (numbers_from 0) (sym (ap length ls.names ∙ length-map (body_labels b []) word)));
           cases = x.arriving refl;

@@ -144,7 +144,7 @@ below_next a known e b q n h =
     by true i = let j : length known ≡ n = ap value i in omega arith
     by false i = let k = b q n i in omega arith
 
-some_number : (o : Option ℕ) (n k : ℕ) → o ≡ Some n → ◌≡◌ {A = ℕ} (elim o [ Some n ↦ n | None ↦ k ]) n
+pub some_number : (o : Option ℕ) (n k : ℕ) → o ≡ Some n → ◌≡◌ {A = ℕ} (elim o [ Some n ↦ n | None ↦ k ]) n
 some_number o n k e = ap (λ (o : Option ℕ). elim o [ Some n ↦ n | None ↦ k ]) e
 
 -- what names without a repeated one are given

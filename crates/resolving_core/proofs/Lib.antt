@@ -35,3 +35,4 @@ pub mod LabelNumbers
 pub mod TheLaws
 pub mod Bound
 pub mod Sectioned
+pub mod ItemForms

@@ -141,6 +141,6 @@ resolving_laws = record {
   returns = each_function _ (λ ts f h. h.returns);
   lengths = each_function _ (λ ts f h. h.lengths);
   initialised = each_function _ (λ ts f h. h.initialised);
-  order = each_function _ (λ ts f h. h.order);
+  form = each_function _ (λ ts f h. h.form);
   labels = each_function _ (λ ts f h. h.labels);
 }

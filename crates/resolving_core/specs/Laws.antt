@@ -9,7 +9,6 @@ use Rattle.c_tree.specs.declared.tree.Top.TheVariants as T
 use Rattle.c_tree.specs.declared.tree.Program.{Program}
 use Rattle.c_tree.specs.Trees.{expression_trees}
 use Rattle.c_tree.specs.Everywhere.{Everywhere}
-use Rattle.c_tree.specs.Exits.{breaks, continues}
 use Rattle.c_tree.specs.InRange.{body_of}
 use Rattle.c_source.specs.Words.{word_of}
 use Rattle.c_source.specs.Parts.{file_of}
@@ -17,7 +16,7 @@ use Rattle.c_statements.specs.Functions.{FlatCounts}
 use Rattle.c_scopes.specs.Notes.{notes_of}
 use Rattle.c_scopes.specs.Resolving.{resolved}
 use Rattle.c_resolved.specs.Files.{HaveValues, IsGlobal, DeclarationsAgree, MainIsFormed}
-use Rattle.c_resolved.specs.Form.{gathered, declared_slot, marked_label, numbers_from, HasNoLoose, HasBodyOrNone}
+use Rattle.c_resolved.specs.Form.{HasForm}
 use Rattle.c_resolved.specs.Kinds.{ItemAgrees, KeepsConsts, ReturnFits}
 use Rattle.c_resolved.specs.Resolved.{names_in, HasLengths, IsInitialised}
 use Rattle.c_resolved.specs.Scopes.{NamesAreBound}
@@ -44,16 +43,6 @@ HasConstants ts (T.Enum xs) = HaveValues ts (negsuc 0) xs
 HasConstants ts (T.Global g) = IsGlobal ts g (option_map expression_trees g.init)
 HasConstants ts _ = Unit {0}
 
--- the form of a function: slots and labels in text order, exits and nested case labels in their constructs
-pub record HasOrder (f : Function) : Type 0 where
-  pub unflat : f.flat ≡ false
-  pub parameters : f.params ≤ length f.slots
-  pub prototype : HasBodyOrNone f
-  pub slots : gathered declared_slot (body_of f) ≡ numbers_from f.params (length f.slots - f.params)
-  pub labels : gathered marked_label (body_of f) ≡ numbers_from 0 (length f.labels)
-  pub cases : HasNoLoose (body_of f)
-  pub exits : breaks (body_of f) + continues (body_of f) ≡ 0
-
 pub record ResolvingLaws : Type 0 where
   -- nothing is called `main` but `int main(void)`, and the declarations of each function agree
   pub main : Gives (λ p. Each MainIsFormed p.tops)
@@ -71,6 +60,7 @@ pub record ResolvingLaws : Type 0 where
   -- arrays have lengths, and as many initialisers at most
   pub lengths : Gives (λ p. Functions (λ ts f. HasLengths f) p)
   pub initialised : Gives (λ p. Functions (λ ts f. Everywhere (IsInitialised f.slots) (body_of f)) p)
-  pub order : Gives (λ p. Functions (λ ts f. HasOrder f) p)
-  -- the labels of a function differ, and the parameters of a definition have names
+  -- slots and labels in text order, first parts of `for`, sections, and gotos, exits and nested case labels in their constructs
+  pub form : Gives (λ p. Functions (λ ts f. HasForm f) p)
+  -- the labels of a function differ
   pub labels : Gives (λ p. Functions (λ ts f. AllDiffer f.labels) p)
