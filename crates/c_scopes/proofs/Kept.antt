@@ -84,4 +84,3 @@ parameters-slots word (x ∷ xs) w = parameters-slots word xs (bind_parameter wo
 -- each parameter is a slot
 pub function_params : (word : ℕ → List ℕ) (f : Function) (scopes : List Scope) → length (inside word f scopes).slots ≡ length f.parameters
 function_params word f scopes = omega (arith, parameters-slots word f.parameters (functions.entered scopes))
-

@@ -201,9 +201,7 @@ fn add_form<'n, 'a, C: FlatCounter>(
             add_variables(alloc, file, state, is_static, d, out)?;
             Ok(())
         }
-        TopLayer::Defines(f) => {
-            add_function(alloc, counter, file, state, before, f, out)
-        },
+        TopLayer::Defines(f) => { add_function(alloc, counter, file, state, before, f, out) },
         TopLayer::Unread => Ok(()),
     }
 }

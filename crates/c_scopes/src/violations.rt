@@ -21,13 +21,7 @@ fn earlier(found: Option<Fault>, v: Fault) -> Fault
 {
     match found {
         None => v,
-        Some(found) => {
-            if is_before(v, found) {
-                v
-            } else {
-                found
-            }
-        }
+        Some(found) => { if is_before(v, found) { v } else { found } }
     }
 }
 

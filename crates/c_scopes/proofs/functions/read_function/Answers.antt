@@ -16,8 +16,8 @@ returns-clause-scopes g c =
     let form = function_form word c.args.f in
     let entry = c.in_ok-enter_function.ensures in
     let bound : walk_of c.read_parameters.new.state ≡ inside word form c.args.state.now.known.scopes
-        = c.in_ok-read_parameters.ensures.walk
-        ∙ (λ i. bind_parameters (words_of (entry.words i)) (parameters_of (words_of (entry.words i)) c.args.f.parameters.now) (entry.walk i)) in
+    = c.in_ok-read_parameters.ensures.walk
+    ∙ (λ i. bind_parameters (words_of (entry.words i)) (parameters_of (words_of (entry.words i)) c.args.f.parameters.now) (entry.walk i)) in
     c.leave_function-slots.ensures.scopes
     ∙ ap (λ w. drop 1 w.scopes) (c.in_ok-labels.ensures.walk ∙ ap (behind_within word notes form form.body) bound)
     ∙ function_kept word notes form c.args.state.now.known.scopes
@@ -30,8 +30,8 @@ returns-clause-value g c =
     let form = function_form word c.args.f in
     let entry = c.in_ok-enter_function.ensures in
     let bound : walk_of c.read_parameters.new.state ≡ inside word form c.args.state.now.known.scopes
-        = c.in_ok-read_parameters.ensures.walk
-        ∙ (λ i. bind_parameters (words_of (entry.words i)) (parameters_of (words_of (entry.words i)) c.args.f.parameters.now) (entry.walk i)) in
+    = c.in_ok-read_parameters.ensures.walk
+    ∙ (λ i. bind_parameters (words_of (entry.words i)) (parameters_of (words_of (entry.words i)) c.args.f.parameters.now) (entry.walk i)) in
     let name = c.in_ok-name.ensures ∙ c.get.ensures in
     let params = c.len-params.ensures.value ∙ ap (λ w. length w.slots) bound ∙ function_params word form c.args.state.now.known.scopes in
     let slots = c.leave_function-slots.ensures.slots ∙ ap (λ w. w.slots) (c.in_ok-labels.ensures.walk ∙ ap (behind_within word notes form form.body) bound) in
