@@ -20,6 +20,10 @@ pub mod LeavesRead
 pub mod ConstructsRead
 pub mod ElseRead
 pub mod ForRead
+pub mod SectionSources
+pub mod SectionFronts
+pub mod CaseConstants
+pub mod SectionsRead
 pub mod ItemsRead
 pub mod BodyRead
 pub mod TheLaws

@@ -1,19 +1,21 @@
 -- Items of a resolved function, by what reading their text needs at each place.
-use Rattle.std.specs.Prelude.{◌≡◌, ℕ, ◌+◌, suc, true, ◌||◌, List, Option, Some, None, is_some, IfSome, IsSomeAnd, slice_get}
+use Rattle.std.specs.Prelude.{◌≡◌, ◌<◌, ◌⊎◌, IsTrue, length, ℕ, ◌+◌, suc, true, ◌||◌, List, Option, Some, None, is_some, IfSome, IsSomeAnd, slice_get}
 use Rattle.c_tree.specs.declared.tree.Slot.{Slot}
 use Rattle.c_tree.specs.declared.tree.Home.TheVariants as H
 use Rattle.c_tree.specs.declared.tree.Function.{Function}
 use Rattle.c_tree.specs.ExpressionTrees.{ExpressionTree}
-use Rattle.c_tree.specs.TestTrees.{TestTree, Source}
+use Rattle.c_tree.specs.TestTrees.{TestTree, Source, SelectorTree, Selects}
 use Rattle.c_tree.specs.Trees.{Tree, Forest, Nil, Then, Sections, NoSection, Section}
 use Rattle.c_tree.specs.Trees as t
 use Rattle.c_tree.specs.Constants.{kind_of, HasKind}
 use Rattle.c_tree.specs.TextItems.{label_name}
 use Rattle.c_kinds.specs.Scopes.{found}
-use Rattle.c_statements.specs.Context.{Context, Around, in_loop}
+use Rattle.c_statements.specs.Context.{Context, Around, in_loop, in_switch}
 use Rattle.c_resolved.specs.Names.{Names}
 use Rattle.c_resolved.specs.Scopes.{Scope, AVariable, IsNew, bind, behind, behind_all, inside}
 use Rattle.c_resolved.specs.Within.{Each}
+use Rattle.c_resolved.specs.Form.{ends_with_break, IsKept}
+use Rattle.c_resolved.specs.Switches.{IsConstantValue, HasCases}
 use Rattle.c_resolved.specs.Files.{IsLength, AreInitialisers}
 use Rattle.c_resolved.specs.PrintableExpressions.{IsName}
 use Rattle.c_resolved.specs.PrintableStatements.{DeclaratorPrints}
@@ -91,6 +93,15 @@ module _ (n : Names) (f : Function) (ctx : Context) where
     pub name : IsName (label_name f l)
     pub number : found (label_name f l) ctx.labels ≡ Some l
 
+  -- the constant of a case label (6.8.4.2)
+  pub record IsCase (ss : List Scope) (e : ExpressionTree) : Type 0 where
+    pub good : IsExpressionOf n ss e
+    pub constant : IsConstantValue e
+
+  abbrev pub IsSelector : List Scope → SelectorTree → Type 0
+  IsSelector ss (Selects e) = IsValueOf n ss e
+  IsSelector ss _ = ⊥
+
   abbrev mutual
     pub IsGood : List Scope → ℕ → Around → Tree → Type 0
     IsGood ss k around (t.Evaluate e) = IsExpressionOf n ss e
@@ -108,9 +119,17 @@ module _ (n : Names) (f : Function) (ctx : Context) where
     IsGood ss k around (t.Goto l) = IsLabel l
     IsGood ss k around (t.Mark l) = IsLabel l
     IsGood ss k around (t.Note bytes) = IsComment bytes
-    -- a switch, and what the rewriting makes
+    IsGood ss k around (t.Switch s c) = IsSelector ss s × HasCases (t.Switch s c) × SectionsAreGood (inside ss) k (in_switch around) c
+    -- what the rewriting makes
     IsGood ss k around _ = ⊥
 
     pub AreGood : List Scope → ℕ → Around → Forest → Type 0
     AreGood ss k around Nil = Unit {0}
     AreGood ss k around (Then x xs) = IsGood ss k around x × AreGood (behind n.slots ss x) (k + slots_of x) around xs
+
+    -- the sections of a switch: each has a label, a `break` at its end is its end, and one that gives its cases on is the last
+    pub SectionsAreGood : List Scope → ℕ → Around → Sections → Type 0
+    SectionsAreGood ss k around NoSection = Unit {0}
+    SectionsAreGood ss k around (Section cases default a ends c) =
+        Each (IsCase ss) cases × ((0 < length cases) ⊎ IsTrue default) × AreGood ss k around a × (ends_with_break a ≡ true → ends ≡ true) × IsKept a ends c
+        × SectionsAreGood (behind_all n.slots ss a) (k + slots_in a) around c
