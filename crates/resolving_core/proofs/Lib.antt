@@ -36,3 +36,4 @@ pub mod TheLaws
 pub mod Bound
 pub mod Sectioned
 pub mod ItemForms
+pub mod Entries

@@ -46,7 +46,7 @@ mutual
       (constant_is a (and_left (is_constant a) (is_constant b) l), constant_is b (and_right (is_constant a) (is_constant b) l), constant_is c (and_right (is_constant a && is_constant b) (is_constant c) h))
   constant_node_is kind _ h = absurd (true≢false (sym h))
 
-value_found : (e : Expression) (x : ExpressionTree) → expression_tree e ≡ x → is_some (with_value e) ≡ true → (z : ℤ) × (with_value e ≡ Some (e, z)) × IsConstant x × (constant_value x ≡ Some z)
+pub value_found : (e : Expression) (x : ExpressionTree) → expression_tree e ≡ x → is_some (with_value e) ≡ true → (z : ℤ) × (with_value e ≡ Some (e, z)) × IsConstant x × (constant_value x ≡ Some z)
 value_found e x i h = subst (λ x. (z : ℤ) × (with_value e ≡ Some (e, z)) × IsConstant x × (constant_value x ≡ Some z)) i (by (is_constant (expression_tree e)) (constant_value (expression_tree e)) refl refl h)
   where
     by : (b : Bool) (o : Option ℤ) → is_constant (expression_tree e) ≡ b → constant_value (expression_tree e) ≡ o → is_some {T = Expression × ℤ} (cond b (option_map (λ n. (e, n)) o) None) ≡ true

@@ -1,6 +1,6 @@
 -- A fact of each item of a body without violations, from the fact of each statement at its place.
 use Rattle.std.proofs.Common.{ℕ, Bool, true, false, not, cond, ◌&&◌, ◌||◌, List, [], ◌∷◌, ◌++◌, append_assoc, map, length, Option, Some, None, option_map, ◌≡◌, refl, sym, ap, subst, ◌∙◌}
-use Rattle.std.specs.Prelude.{IfSome}
+use Rattle.std.specs.Prelude.{IfSome, ◌<◌}
 use Rattle.c_tree.specs.declared.tree.Slot.{Slot}
 use Rattle.c_tree.specs.declared.tree.Item as item
 use Rattle.c_tree.specs.declared.tree.Section.{Section}
@@ -34,7 +34,7 @@ use Rattle.c_statements.specs.Violations.{dropped_faults, optional_faults, start
 use Rattle.c_resolved.specs.Form.{ends_with_break}
 use Rattle.c_resolved.specs.Within.{Each, CaseExpressions}
 use Rattle.resolving_core.proofs.Lists.{none_left, clean_if, not_true, each_map, each_append}
-use Rattle.resolving_core.specs.Read.{IsQuietSwitch, IsReadTerm, IsReadDeclarator, IsReadDeclaration, IsReadLabel, IsReadStart, IsReadItem, IsReadPlain, IsReadStatement, IsReadBody, AreReadItems}
+use Rattle.resolving_core.specs.Read.{body_cases, IsQuietSwitch, IsReadTerm, IsReadDeclarator, IsReadDeclaration, IsReadLabel, IsReadStart, IsReadItem, IsReadPlain, IsReadStatement, IsReadBody, AreReadItems}
 use Rattle.resolving_core.proofs.Empty.{constant_empty, labels_empty}
 use Rattle.resolving_core.proofs.Parts.{parted, locals_parts, labels_parts, states_parts, list_parts, if_parts, if_else_parts, while_parts, do_parts, for_parts, switch_parts, Outside, outside_declares, outside_parts, outside_one}
 use Rattle.resolving_core.proofs.Grown.{Grown, locals_grow, start_grows, item_grows, plain_grows, body_grows, list_grows, switch_grows, outside_grows}
@@ -64,7 +64,7 @@ pub record Closed (ctx : Context) (final : List Slot) (I : List Scope → Type 0
       I w.scopes → I inner.scopes → Begins inner.slots final → IsReadStart ctx.word start → IfSome t (IsReadTerm ctx.word) → IfSome u (IsReadTerm ctx.word)
       → start_faults ctx start (enter w) [] ≡ [] → optional_faults (value_faults env) t [] ≡ [] → optional_faults (dropped_faults env) u [] ≡ []
       → P (tree.For (trees_of (start_items ctx start (enter w))) (option_map expression_tree (option_map (value_at env) t)) (option_map expression_tree (option_map (dropped_at env) u)) a)
-  pub switches : (around : Around) (w : Walk) (t : Term) (b : Body) → I w.scopes → IsReadTerm ctx.word t → IsReadBody ctx.word ctx.notes b → IsQuietSwitch ctx.word ctx.notes b → value_faults (env_at ctx w) t [] ≡ []
+  pub switches : (around : Around) (w : Walk) (t : Term) (b : Body) → I w.scopes → IsReadTerm ctx.word t → IsReadBody ctx.word ctx.notes b → IsQuietSwitch ctx.word ctx.notes b → body_cases b < 2147483648 → value_faults (env_at ctx w) t [] ≡ []
       → switch_body_faults ctx (in_switch around) b w [] ≡ [] → switch_faults (option_map (λ v. v.kind) (value_of (typed (env_at ctx w) t))) (body_entries ctx b w []) [] ≡ []
       → CaseExpressions C (sections_of (passed_on [] false (switch_sections ctx b w)))
       → P (tree.Switch (Selects (expression_tree (value_at (env_at ctx w) t))) (sections_of (passed_on [] false (switch_sections ctx b w))))

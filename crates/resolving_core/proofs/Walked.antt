@@ -243,7 +243,7 @@ module _ (ctx : Context) (final : List Slot) (I : List Scope → Type 0) (P : Tr
         let ss = passed_on [] false (switch_sections ctx b w) in
         let h = switch_holds P C (switch_sections ctx b w) (sections_hold around b w r.1 p.1 i z) in
         hold_one P (item.Switch (selector.Source v) ss) (hold_as P _ _ (tree-Switch (selector.Source v) ss ∙ ap (λ x. tree.Switch x (sections_of ss)) (selector-Source v))
-          (c.switches around w t b i r.0 r.1 r.2 p.0 p.1 p.2 h.1, h.0))
+          (c.switches around w t b i r.0 r.1 r.2 r.3 p.0 p.1 p.2 h.1, h.0))
     statement_holds around first (Block b) w r e i z =
         let a = body_items ctx b w in
         hold_one P (item.Block a) (hold_as P _ _ (tree-Block a) (c.block (trees_of a), body_holds around b w r e i z))

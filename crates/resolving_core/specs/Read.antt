@@ -1,6 +1,6 @@
 -- Source trees as derivations write them: each expression and each statement is one, targets stand where they are
 -- assigned or counted, and lists that the grammar asks for have an element.
-use Rattle.std.specs.Prelude.{ℕ, ◌≡◌, ◌<◌, Bool, true, false, List, [], ◌∷◌, Option, Some, None, IfSome, length}
+use Rattle.std.specs.Prelude.{ℕ, ◌≡◌, ◌<◌, ◌+◌, Bool, true, false, List, [], ◌∷◌, Option, Some, None, IfSome, length}
 use Rattle.c_lexer.specs.Marks.{mark_of}
 use Rattle.c_source.specs.Terms.{Term, Form, Terms, At, Constant, Variable, Cell, Prefix, Suffix, CastTo, CastVoid, Binary, Choice, Assign, Commas, Call, Texts, Unknown, NoTerm}
 use Rattle.c_source.specs.Terms as terms
@@ -95,6 +95,39 @@ module _ (word : ℕ → List ℕ) where
     pub named : IfSome x.name IsNameAt
     pub size : IsReadSize x.size
 
+-- ---- how many cases a statement has at most
+
+abbrev pub label_cases : List Label → ℕ
+label_cases [] = 0
+label_cases (Case first after t ∷ ls) = 1 + label_cases ls
+label_cases (_ ∷ ls) = label_cases ls
+
+abbrev mutual
+  pub item_cases : Item → ℕ
+  item_cases (Declares first after d) = 0
+  item_cases (States ls p) = label_cases ls + plain_cases p
+
+  pub plain_cases : Plain → ℕ
+  plain_cases (From first after s) = statement_cases s
+
+  pub statement_cases : Statement → ℕ
+  statement_cases (If t b) = body_cases b
+  statement_cases (IfElse t b c) = body_cases b + body_cases c
+  statement_cases (While t b) = body_cases b
+  statement_cases (DoWhile b t) = body_cases b
+  statement_cases (For start t u b) = body_cases b
+  statement_cases (Switch t b) = body_cases b
+  statement_cases (Block b) = body_cases b
+  statement_cases _ = 0
+
+  pub body_cases : Body → ℕ
+  body_cases (Braces first after xs) = list_cases xs
+  body_cases (Lone first after x) = item_cases x
+
+  pub list_cases : Items → ℕ
+  list_cases NoItem = 0
+  list_cases (items.Then x xs) = item_cases x + list_cases xs
+
 module _ (word : ℕ → List ℕ) (notes : Anchor → List (List ℕ)) where
   -- the null statements that the list of a switch begins with: the comments before them belong to the switch
   abbrev pub IsQuietFront : Items → Type 0
@@ -121,7 +154,7 @@ module _ (word : ℕ → List ℕ) (notes : Anchor → List (List ℕ)) where
     IsReadStatement (While t b) = IsReadTerm word t × IsReadBody b
     IsReadStatement (DoWhile b t) = IsReadBody b × IsReadTerm word t
     IsReadStatement (For start t u b) = IsReadStart word start × IfSome t (IsReadTerm word) × IfSome u (IsReadTerm word) × IsReadBody b
-    IsReadStatement (Switch t b) = IsReadTerm word t × IsReadBody b × IsQuietSwitch b
+    IsReadStatement (Switch t b) = IsReadTerm word t × IsReadBody b × IsQuietSwitch b × (body_cases b < 2147483648)
     IsReadStatement (Block b) = IsReadBody b
     IsReadStatement (Goto at) = IsNameAt word at
     IsReadStatement Break = Unit {0}
