@@ -1,5 +1,5 @@
 -- A body and a function after their simplifications.
-use Rattle.std.specs.Prelude.{◌≡◌, List, Some}
+use Rattle.std.specs.Prelude.{◌≡◌, List, Option, Some}
 use Rattle.c_tree.specs.declared.tree.Item.{Item}
 use Rattle.c_tree.specs.declared.tree.Function.{Function}
 use Rattle.c_tree.specs.Trees.{trees_of}
@@ -8,7 +8,8 @@ use Rattle.move_core.specs.Bodies.{with_body}
 use Rattle.move_core.specs.Laws.{Keeps}
 use Rattle.move_records.specs.declared.moves.Move.{Move}
 use Rattle.guard_simplify.specs.declared.choice.Choice.{Choice}
-use Rattle.guard_simplify.specs.Application.{Reaches, IsSimple}
+use Rattle.guard_simplify.specs.Choice.{choices, first}
+use Rattle.guard_simplify.specs.Application.{Reaches, IsSimple, IsNext}
 use Rattle.guard_simplify.specs.Naming.{choices_named}
 
 -- the body stands after some of the simplifications of the old one, each the next
@@ -43,3 +44,13 @@ pub record KeepsBody (f g : Function) : Type 0 where
   pub new_body : g.body ≡ Some new
   pub well_made : IsWellMade (trees_of body) → IsWellMade (trees_of new)
   pub keeps : Keeps body new
+
+-- the body stands after this simplification, which was the next
+pub record IsAfter (c : Choice) (body : List Item) : Type 0 where
+  pub old : List Item
+  pub next : IsNext c old body
+
+-- how far a body has come: the simplifications so far, and the next one
+pub record IsSimplifiedTo (old new : List Item) (cs : List Choice) (next : Option Choice) : Type 0 where
+  pub reaches : Reaches old cs new
+  pub next_is : next ≡ first (choices (trees_of new))

@@ -8,6 +8,7 @@ ghost use Rattle.guard_simplify.specs.Application.{Reaches, IsSimple};
 ghost use Rattle.body_simplify.specs.Simplified.{IsOnTheWay, IsSimplified, IsPartlySimplified, KeepsBody};
 
 use crate::naming::name_choices;
+use crate::next_choice::next_choice;
 use crate::one_choice::apply;
 use c_tree::{Function, Item};
 use c_types::{List, Memory};
@@ -27,8 +28,10 @@ pub fn simplify_body(alloc: Global, body: &mut List<Item>) -> Result<List<Choice
     ensures err { OnErr result (IsOnTheWay body.old body.new) }
 {
     let mut choices = List::new(alloc);
-    while let Some(choice) = first_choice(alloc, body)? {
+    let mut next = first_choice(alloc, body)?;
+    while let Some(choice) = next {
         apply(alloc, body, &choice)?;
+        next = next_choice(alloc, body, &choice)?;
         choices.push(choice)?;
     }
     Ok(choices)

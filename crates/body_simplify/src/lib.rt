@@ -6,6 +6,7 @@ mod all_choices;
 mod guard_places;
 mod lawful;
 mod naming;
+mod next_choice;
 mod one_choice;
 mod one_move;
 

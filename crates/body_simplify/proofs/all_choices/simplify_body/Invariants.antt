@@ -1,10 +1,10 @@
 use Rattle.c_tree.specs.Trees.{trees_of}
-use Rattle.guard_simplify.specs.Application.{Reaches}
 use Rattle.guard_simplify.proofs.Sizes.{size}
+use Rattle.body_simplify.specs.Simplified.{IsSimplifiedTo}
 use Rattle.body_simplify.proofs.all_choices.simplify_body.Given as goal
 
-abbrev pub invariant-loop-choices : goal.invariant-loop-choices
-invariant-loop-choices l = Reaches l.initial.body l.choices l.body
+abbrev pub invariant-loop-next : goal.invariant-loop-next
+invariant-loop-next l = IsSimplifiedTo l.initial.body l.body l.choices l.next
 
-abbrev pub decreases-loop-choices : goal.decreases-loop-choices
-decreases-loop-choices l = size (trees_of l.body)
+abbrev pub decreases-loop-next : goal.decreases-loop-next
+decreases-loop-next l = size (trees_of l.body)
