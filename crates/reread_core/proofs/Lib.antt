@@ -24,6 +24,8 @@ pub mod SectionSources
 pub mod SectionFronts
 pub mod CaseConstants
 pub mod SectionsRead
+pub mod SectionEnds
+pub mod SwitchRead
 pub mod ItemsRead
 pub mod BodyRead
 pub mod TheLaws

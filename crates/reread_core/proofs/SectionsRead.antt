@@ -57,11 +57,11 @@ use Rattle.reread_core.proofs.SectionSources.{DefaultStands, BeginsStated, Begin
 module _ (ts : List Top) (f : Function) (ctx : Context) (tokens : List Spelling) (words : AreWords ctx.word tokens) where
   -- ---- the labels
 
-  record LabelsRead (w : Walk) (at : ℕ) (cases : List ExpressionTree) (ps : List Piece) : Type 0 where
-    reads : CasesRead (env_at ctx w) at cases
-    behind_it : Stands tokens (cases_end at cases) ps
+  pub record LabelsRead (w : Walk) (at : ℕ) (cases : List ExpressionTree) (ps : List Piece) : Type 0 where
+    pub reads : CasesRead (env_at ctx w) at cases
+    pub behind_it : Stands tokens (cases_end at cases) ps
 
-  cases_read : (cases : List ExpressionTree) (ss : List Scope) (k : ℕ) (w : Walk) (at depth : ℕ) (ps : List Piece) → Standing (names_in ts f) ss k w → Each (IsCase (names_in ts f) f ctx ss) cases
+  pub cases_read : (cases : List ExpressionTree) (ss : List Scope) (k : ℕ) (w : Walk) (at depth : ℕ) (ps : List Piece) → Standing (names_in ts f) ss k w → Each (IsCase (names_in ts f) f ctx ss) cases
       → Stands tokens at (joined (map (case_line f.slots depth) (map expression_in cases)) ps) → LabelsRead w at cases ps
   cases_read [] ss k w at depth ps h g b = record { reads = tt; behind_it = b }
   cases_read (x ∷ xs) ss k w at depth ps h g b =
@@ -74,7 +74,7 @@ module _ (ts : List Top) (f : Function) (ctx : Context) (tokens : List Spelling)
       let r = cases_read xs ss k w (y + 1) depth ps h (g.1) (a_mark ts f ctx tokens words y (codes ":") (newline rest) (u.behind)) in
       record { reads = (u.reads, (g.0).constant, r.reads); behind_it = r.behind_it }
 
-  default_read : (default : Bool) (at depth : ℕ) (ps : List Piece) → Stands tokens at ((only_if default (default_line depth)) ps) → DefaultStands ctx.word at default × Stands tokens (default_end at default) ps
+  pub default_read : (default : Bool) (at depth : ℕ) (ps : List Piece) → Stands tokens at ((only_if default (default_line depth)) ps) → DefaultStands ctx.word at default × Stands tokens (default_end at default) ps
   default_read false at depth ps b = (tt, b)
   default_read true at depth ps b =
       let m = keyword_here ts f ctx tokens words at (codes "default") ((punctuator (codes ":") ⨾ newline) ps) (past_indentation tokens at ((word (codes "default") ⨾ punctuator (codes ":") ⨾ newline) ps) depth b) in
@@ -82,11 +82,11 @@ module _ (ts : List Top) (f : Function) (ctx : Context) (tokens : List Spelling)
 
   -- ---- a `;` that stands for no item
 
-  record NullRead (there : Bool) (at : ℕ) (ps : List Piece) : Type 0 where
-    behind_it : Stands tokens (optional_end_of there 1 at) ps
-    keywords : (xs : g.Items) → ItemsHaveKeywords ctx.word (optional_end_of there 1 at) xs → ItemsHaveKeywords ctx.word at (optional_item there null_statement xs)
+  pub record NullRead (there : Bool) (at : ℕ) (ps : List Piece) : Type 0 where
+    pub behind_it : Stands tokens (optional_end_of there 1 at) ps
+    pub keywords : (xs : g.Items) → ItemsHaveKeywords ctx.word (optional_end_of there 1 at) xs → ItemsHaveKeywords ctx.word at (optional_item there null_statement xs)
 
-  null_read : (there : Bool) (at depth : ℕ) (ps : List Piece) → Stands tokens at ((only_if there (null_line depth)) ps) → NullRead there at ps
+  pub null_read : (there : Bool) (at depth : ℕ) (ps : List Piece) → Stands tokens at ((only_if there (null_line depth)) ps) → NullRead there at ps
   null_read false at depth ps b = record { behind_it = b; keywords = λ xs h. h }
   null_read true at depth ps b =
       let m = mark_here f.slots tokens ctx.word words at (codes ";") (newline ps) (past_indentation tokens at ((punctuator (codes ";") ⨾ newline) ps) depth b) in
@@ -94,7 +94,7 @@ module _ (ts : List Top) (f : Function) (ctx : Context) (tokens : List Spelling)
 
   -- ---- the printed list is that of the tree
 
-  begins_same : (a : Forest) → text.begins_with_local (printed_forest f a) ≡ starts_with_local a
+  pub begins_same : (a : Forest) → text.begins_with_local (printed_forest f a) ≡ starts_with_local a
   begins_same Nil = refl
   begins_same (Then (t.Note bytes) xs) = begins_same xs
   begins_same (Then (t.Local k given) xs) = refl
@@ -122,7 +122,7 @@ module _ (ts : List Top) (f : Function) (ctx : Context) (tokens : List Spelling)
   empty_same Nil = refl
   empty_same (Then x xs) = refl
 
-  last_same : (c : Sections) → text.is_empty (printed_sections f c) ≡ is_last c
+  pub last_same : (c : Sections) → text.is_empty (printed_sections f c) ≡ is_last c
   last_same NoSection = refl
   last_same (Section cases default a ends c) = refl
 
@@ -131,11 +131,11 @@ module _ (ts : List Top) (f : Function) (ctx : Context) (tokens : List Spelling)
 
   -- ---- the end of a section
 
-  record EndRead (at : ℕ) (ends : Bool) (a : Forest) (last : Bool) (ps : List Piece) : Type 0 where
-    behind_it : Stands tokens (section_ends_at at ends a last) ps
-    keywords : (xs : g.Items) → ItemsHaveKeywords ctx.word (section_ends_at at ends a last) xs → ItemsHaveKeywords ctx.word at (section_end ends a last xs)
+  pub record EndRead (at : ℕ) (ends : Bool) (a : Forest) (last : Bool) (ps : List Piece) : Type 0 where
+    pub behind_it : Stands tokens (section_ends_at at ends a last) ps
+    pub keywords : (xs : g.Items) → ItemsHaveKeywords ctx.word (section_ends_at at ends a last) xs → ItemsHaveKeywords ctx.word at (section_end ends a last xs)
 
-  end_read : (ends : Bool) (a : Forest) (last : Bool) (at depth : ℕ) (ps : List Piece) → Stands tokens at (text.section_end ends (printed_forest f a) last depth ps) → EndRead at ends a last ps
+  pub end_read : (ends : Bool) (a : Forest) (last : Bool) (at depth : ℕ) (ps : List Piece) → Stands tokens at (text.section_end ends (printed_forest f a) last depth ps) → EndRead at ends a last ps
   end_read true a last at depth ps b =
       let m = keyword_here ts f ctx tokens words at (codes "break") ((punctuator (codes ";") ⨾ newline) ps) (past_indentation tokens at ((word (codes "break") ⨾ punctuator (codes ";") ⨾ newline) ps) depth b) in
       record { behind_it = a_mark ts f ctx tokens words (at + 1) (codes ";") (newline ps) (m.1); keywords = λ xs h. (m.0, h) }
@@ -150,9 +150,9 @@ module _ (ts : List Top) (f : Function) (ctx : Context) (tokens : List Spelling)
   only_notes (Then (t.Note bytes) xs) = only_notes xs
   only_notes (Then _ xs) = false
 
-  record Begins (xs : g.Items) : Type 0 where
-    stated : BeginsStated xs
-    named : (y : ℕ) → BeginsNamed (written_items y xs)
+  pub record Begins (xs : g.Items) : Type 0 where
+    pub stated : BeginsStated xs
+    pub named : (y : ℕ) → BeginsNamed (written_items y xs)
 
   list_begins : (a : Forest) (xs : g.Items) → starts_with_local a ≡ false → (only_notes a ≡ true → Begins xs) → Begins (items_of f.slots a xs)
   list_begins Nil xs e h = h refl
@@ -181,7 +181,7 @@ module _ (ts : List Top) (f : Function) (ctx : Context) (tokens : List Spelling)
   end_begins false (Then (t.Evaluate e) a) c xs k h = cc
   end_begins false (Then _ a) c xs k h = cc
 
-  section_begins : (a : Forest) (ends : Bool) (c : Sections) (xs : g.Items) → IsKept a ends c → Begins (optional_item (starts_with_local a) null_statement (items_of f.slots a (section_end ends a (is_last c) xs)))
+  pub section_begins : (a : Forest) (ends : Bool) (c : Sections) (xs : g.Items) → IsKept a ends c → Begins (optional_item (starts_with_local a) null_statement (items_of f.slots a (section_end ends a (is_last c) xs)))
   section_begins a ends c xs k = by_local (starts_with_local a) refl
     where
       by_local : (b : Bool) → starts_with_local a ≡ b → Begins (optional_item b null_statement (items_of f.slots a (section_end ends a (is_last c) xs)))

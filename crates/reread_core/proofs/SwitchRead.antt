@@ -1,0 +1,217 @@
+-- The sections of a printed switch, one after the other.
+use Rattle.std.proofs.Common.{◌≡◌, ◌≤◌, ◌<◌, ◌+◌, ◌⊎◌, inl, inr, ℕ, Bool, true, false, not, ◌&&◌, ◌||◌, cond, List, [], ◌∷◌, ◌++◌, map, length, Option, Some, None, refl, ap, sym, subst, ◌∙◌, arith, append_assoc}
+use Rattle.std.specs.Prelude.{codes, IsTrue, ◌-◌, suc, slice_get}
+use Rattle.std.specs.Option.{option_map_or}
+use Rattle.c_tree.specs.declared.tree.Function.{Function}
+use Rattle.c_tree.specs.declared.tree.Top.{Top}
+use Rattle.c_tree.specs.declared.tree.Expression.{Expression}
+use Rattle.c_tree.specs.declared.tree.Item.{Item, out-Item, out-roll-Item}
+use Rattle.c_tree.specs.declared.tree.Item as item
+use Rattle.c_tree.specs.declared.tree.Section.{Section as RealSection, out-Section, out-roll-Section}
+use Rattle.c_tree.specs.ExpressionTrees.{ExpressionTree}
+use Rattle.c_tree.specs.Trees.{Tree, Forest, Nil, Then, Sections, NoSection, Section}
+use Rattle.c_tree.specs.Trees as t
+use Rattle.c_tree.specs.TextPieces.{Piece, Text, ◌⨾◌, newline, space, indentation, word, punctuator, only_if, joined}
+use Rattle.c_tree.specs.TextExpressions.{Leveled}
+use Rattle.c_tree.specs.TextItems.{Printed, PrintedSection, deeper, list_text, sections_text, case_line, default_line, null_line}
+use Rattle.c_tree.specs.TextItems as text
+use Rattle.c_grammar.specs.declared.class.Class.TheVariants as c
+use Rattle.c_grammar.specs.TokenClasses.{keyword_class}
+use Rattle.c_grammar.specs.ExpressionSyntax.{conditional_end}
+use Rattle.c_grammar.specs.Statements.{NoItems}
+use Rattle.c_grammar.specs.Statements as g
+use Rattle.c_grammar.specs.StatementSyntax.{items_end}
+use Rattle.c_source.specs.Items as source
+use Rattle.c_kinds.specs.Scopes.{Faults}
+use Rattle.c_statements.specs.declared.entries.Entry.{Entry}
+use Rattle.c_statements.specs.Context.{Context, Walk, Around, Before, AtSection, env_at, notes_at}
+use Rattle.c_statements.specs.Sections.{Reading, closed, ended, section}
+use Rattle.c_statements.specs.Statements.{behind_items, list_items, sections_from}
+use Rattle.c_statements.specs.Violations.{list_faults}
+use Rattle.c_statements.specs.Cases.{list_entries}
+use Rattle.c_resolved.specs.Resolved.{names_in}
+use Rattle.c_resolved.specs.Scopes.{Scope, behind_all}
+use Rattle.c_resolved.specs.Within.{Each}
+use Rattle.c_resolved.specs.Form.{ends_with_break, IsKept}
+use Rattle.printed_syntax.specs.Reread.{Spelling}
+use Rattle.printed_syntax.specs.Standing.{Stands}
+use Rattle.printed_syntax.specs.StatementDerivations.{conditional_of, labels_of, labelled, null_statement, starts_with_local, is_nil, ends_with_note, is_last, optional_item, section_end, statement_of, items_of, sections_of}
+use Rattle.printed_syntax.proofs.Standings.{past_indentation}
+use Rattle.reread_core.specs.WrittenExpressions.{conditional_form}
+use Rattle.reread_core.specs.WrittenStatements.{written_items}
+use Rattle.reread_core.specs.Keywords.{ItemsHaveKeywords}
+use Rattle.reread_core.specs.Words.{AreWords}
+use Rattle.reread_core.specs.Places.{Standing}
+use Rattle.reread_core.specs.GoodItems.{IsCase, AreGood, SectionsAreGood, slots_in, slots_within}
+use Rattle.reread_core.specs.PlacedNotes.{list_end, trailing, cases_end, default_end, section_labels_end, optional_end_of, has_last, section_list_end, section_ends_at, WithNull, WithLast, NotesOfEnd, NotesOfList, NotesOfSections}
+use Rattle.reread_core.proofs.Mirrors.{expression_in, tree_text, text_in}
+use Rattle.reread_core.proofs.ItemMirrors.{a_section, tree_in, printed_tree, forest_in, sections_in, printed_forest, printed_sections}
+use Rattle.reread_core.proofs.ExpressionWords.{as_end, mark_here}
+use Rattle.reread_core.proofs.FullExpressions.{FullReads, chosen_full}
+use Rattle.reread_core.proofs.DeclarationsRead.{place_at}
+use Rattle.reread_core.proofs.ListsRead.{ReadsList, ListRead, settled, passed, front, all_settled, written_front, end_front, behind_front}
+use Rattle.reread_core.proofs.LeavesRead.{keyword_here, a_mark}
+use Rattle.reread_core.proofs.CaseConstants.{CasesRead}
+use Rattle.reread_core.proofs.SectionSources.{DefaultStands, BeginsStated, BeginsNamed}
+use Rattle.c_kinds.specs.Scopes.{fault_if}
+use Rattle.c_statements.specs.Violations.{outside_faults}
+use Rattle.c_resolved.specs.Switches.{switch_labels, section_labels, arrivals}
+use Rattle.reread_core.proofs.ListsRead.{still}
+use Rattle.reread_core.proofs.CaseConstants.{Match, match_both, section_match, section_entries, constants_are, cases_clear, entries_are}
+use Rattle.reread_core.proofs.SectionSources.{section_list, with_labels, case_constants, reading_of, labelled_written, labelled_end, labelled_keywords, sections_begin, faults_begin, outside_begin, entries_begin, walk_begin}
+use Rattle.reread_core.proofs.SectionFronts.{sections_front, entries_in, no_arrivals}
+use Rattle.reread_core.proofs.SectionEnds.{ended_here, ended_open, AllKept, all_passed_on}
+use Rattle.reread_core.proofs.SectionsRead.{LabelsRead, cases_read, default_read, NullRead, null_read, EndRead, end_read, Begins, section_begins, begins_same, last_same}
+
+-- ---- what the list and the end of a section write
+
+abbrev pub opt_null : Bool → ℕ → source.Items → source.Items
+opt_null true y rest = source.Then (source.States [] (source.From y (y + 1) source.Null)) rest
+opt_null false y rest = rest
+
+abbrev pub end_source : Bool → Bool → ℕ → source.Items → source.Items
+end_source true h z rest = source.Then (source.States [] (source.From z (z + 1 + 1) source.Break)) rest
+end_source false h z rest = opt_null h z rest
+
+written_opt : (b : Bool) (y : ℕ) (xs : g.Items) → written_items y (optional_item b null_statement xs) ≡ opt_null b y (written_items (optional_end_of b 1 y) xs)
+written_opt true y xs = refl
+written_opt false y xs = refl
+
+end_opt : (b : Bool) (y : ℕ) (xs : g.Items) → items_end y (optional_item b null_statement xs) ≡ items_end (optional_end_of b 1 y) xs
+end_opt true y xs = refl
+end_opt false y xs = refl
+
+written_end : (ends : Bool) (a : Forest) (last : Bool) (z : ℕ) (xs : g.Items) → written_items z (section_end ends a last xs) ≡ end_source ends (has_last a last) z (written_items (section_ends_at z ends a last) xs)
+written_end true a last z xs = refl
+written_end false a last z xs = written_opt (has_last a last) z xs
+
+end_end : (ends : Bool) (a : Forest) (last : Bool) (z : ℕ) (xs : g.Items) → items_end z (section_end ends a last xs) ≡ items_end (section_ends_at z ends a last) xs
+end_end true a last z xs = refl
+end_end false a last z xs = end_opt (has_last a last) z xs
+
+-- ---- no Notes are left at the end of a list that doesn't end with one
+
+no_trailing : (a : Forest) (ns : List (List ℕ)) → ends_with_note a ≡ false → is_nil a ≡ false → trailing ns a ≡ []
+no_trailing Nil ns e h = cc
+no_trailing (Then (t.Note bytes) Nil) ns e h = cc
+no_trailing (Then (t.Note bytes) (Then y ys)) ns e h = no_trailing (Then y ys) (ns ++ bytes ∷ []) e refl
+no_trailing (Then x Nil) ns e h = refl
+no_trailing (Then x (Then y ys)) ns e h = no_trailing (Then y ys) [] e refl
+
+none_left : (a : Forest) → ends_with_note a ≡ false → trailing [] a ≡ []
+none_left Nil e = refl
+none_left (Then x xs) e = no_trailing (Then x xs) [] e refl
+
+second_false : (a b : Bool) → (a || b) ≡ false → b ≡ false
+second_false false b h = h
+second_false true b h = cc
+
+not_true : (b : Bool) → (b ≡ true → false ≡ true) → b ≡ false
+not_true false h = refl
+not_true true h = let e = h refl in cc
+
+module _ (ts : List Top) (f : Function) (ctx : Context) (tokens : List Spelling) (words : AreWords ctx.word tokens) where
+  nothing_behind : (xs : List Item) → xs ++ [] ≡ xs
+  nothing_behind [] = refl
+  nothing_behind (x ∷ xs) = ap (λ l. x ∷ l) (nothing_behind xs)
+
+  pub record SectionsRead (ss : List Scope) (k : ℕ) (around : Around) (w : Walk) (at : ℕ) (cs : Sections) (ps : List Piece) : Type 0 where
+    pub behind_it : Stands tokens (items_end at (sections_of f.slots cs)) ps
+    pub keywords : ItemsHaveKeywords ctx.word at (sections_of f.slots cs)
+    pub sections : (reading : Option Reading) → sections_from ctx reading (written_items at (sections_of f.slots cs)) [] w ≡ closed reading ++ sections_in cs
+    pub after : List Scope
+    pub standing : Standing (names_in ts f) after (k + slots_within cs) (behind_items ctx (written_items at (sections_of f.slots cs)) w)
+    pub clear : (vs : Faults) → list_faults ctx around (written_items at (sections_of f.slots cs)) w vs ≡ vs
+    pub outside : (vs : Faults) → outside_faults ctx around (written_items at (sections_of f.slots cs)) w vs ≡ vs
+    pub entries : List Entry
+    pub entries_are : (found : List Entry) → list_entries ctx (written_items at (sections_of f.slots cs)) w found ≡ found ++ entries
+    pub matches : Match (switch_labels cs) entries
+
+  abbrev pub ReadsSections : Sections → Type 0
+  ReadsSections cs = (ss : List Scope) (k : ℕ) (around : Around) (w : Walk) (at depth : ℕ) (ps : List Piece) → around.switch ≡ true → Standing (names_in ts f) ss k w → SectionsAreGood (names_in ts f) f ctx ss k around cs
+      → NotesOfSections f.slots ctx.notes at cs → Stands tokens at (sections_text (printed_sections f cs) depth ps) → SectionsRead ss k around w at cs ps
+
+  pub no_section : ReadsSections NoSection
+  no_section ss k around w at depth ps sw h g p b = record {
+    behind_it = b;
+    keywords = tt;
+    sections = by_reading;
+    after = ss;
+    standing = still (names_in ts f) ss k w h;
+    clear = λ vs. refl;
+    outside = λ vs. refl;
+    entries = [];
+    entries_are = none_more;
+    matches = tt;
+  }
+    where
+      by_reading : (reading : Option Reading) → sections_from ctx reading source.NoItem [] w ≡ closed reading ++ []
+      by_reading None = refl
+      by_reading (Some r) = λ i. ended (reading_of r.cases r.default (nothing_behind r.list i)) ∷ []
+
+      none_more : (found : List Entry) → found ≡ found ++ []
+      none_more [] = refl
+      none_more (x ∷ xs) = ap (λ l. x ∷ l) (none_more xs)
+
+  -- ---- reading goes on with the list of a section
+
+  null_step : (b : Bool) (y : ℕ) (cases : List Expression) (default : Bool) (rest : source.Items) (w : Walk) → WithNull f.slots ctx.notes b y → sections_from ctx (Some (reading_of cases default [])) (opt_null b y rest) [] w ≡ sections_from ctx (Some (reading_of cases default [])) rest [] w
+  null_step false y cases default rest w h = refl
+  null_step true y cases default rest w h = λ i. sections_from ctx (Some (reading_of cases default (map item.Note (h i) ++ []))) rest [] w
+
+  null_walk : (b : Bool) (y : ℕ) (rest : source.Items) (w : Walk) → behind_items ctx (opt_null b y rest) w ≡ behind_items ctx rest w
+  null_walk true y rest w = refl
+  null_walk false y rest w = refl
+
+  null_clear : (b : Bool) (y : ℕ) (around : Around) (rest : source.Items) (w : Walk) (vs : Faults) → list_faults ctx around (opt_null b y rest) w vs ≡ list_faults ctx around rest w vs
+  null_clear true y around rest w vs = refl
+  null_clear false y around rest w vs = refl
+
+  null_entries : (b : Bool) (y : ℕ) (rest : source.Items) (w : Walk) (found : List Entry) → list_entries ctx (opt_null b y rest) w found ≡ list_entries ctx rest w found
+  null_entries true y rest w found = refl
+  null_entries false y rest w found = refl
+
+  end_walk : (ends h : Bool) (z : ℕ) (rest : source.Items) (w : Walk) → behind_items ctx (end_source ends h z rest) w ≡ behind_items ctx rest w
+  end_walk true h z rest w = refl
+  end_walk false h z rest w = null_walk h z rest w
+
+  end_clear : (ends h : Bool) (z : ℕ) (around : Around) (rest : source.Items) (w : Walk) (vs : Faults) → around.switch ≡ true → list_faults ctx around (end_source ends h z rest) w vs ≡ list_faults ctx around rest w vs
+  end_clear true h z around rest w vs sw = (λ i. list_faults ctx around rest w (fault_if (not (around.loop || sw i)) z 27 vs)) ∙ ap (λ b. list_faults ctx around rest w (fault_if (not b) z 27 vs)) (or_true around.loop)
+    where
+      or_true : (b : Bool) → (b || true) ≡ true
+      or_true true = refl
+      or_true false = refl
+  end_clear false h z around rest w vs sw = null_clear h z around rest w vs
+
+  end_entries : (ends h : Bool) (z : ℕ) (rest : source.Items) (w : Walk) (found : List Entry) → list_entries ctx (end_source ends h z rest) w found ≡ list_entries ctx rest w found
+  end_entries true h z rest w found = refl
+  end_entries false h z rest w found = null_entries h z rest w found
+
+  -- the list of a section as it is read, with a `break` that ends it
+  abbrev with_end : Bool → List Item → List Item
+  with_end true xs = xs ++ item.Break ∷ []
+  with_end false xs = xs
+
+  end_step : (ends : Bool) (a : Forest) (last : Bool) (z : ℕ) (cases : List Expression) (default : Bool) (rest : source.Items) (w : Walk) → NotesOfEnd f.slots ctx.notes z ends a last
+      → sections_from ctx (Some (reading_of cases default (settled ts f ctx tokens words [] a))) (end_source ends (has_last a last) z rest) [] w ≡ sections_from ctx (Some (reading_of cases default (with_end ends (forest_in a)))) rest [] w
+  end_step true a last z cases default rest w e =
+      let xs = settled ts f ctx tokens words [] a in
+      (λ i. sections_from ctx (Some (reading_of cases default (xs ++ (map item.Note (e i) ++ item.Break ∷ [])))) rest [] w)
+      ∙ (λ i. sections_from ctx (Some (reading_of cases default ((sym (append_assoc xs (map item.Note (trailing [] a)) (item.Break ∷ [])) ∙ ap (λ l. l ++ item.Break ∷ []) (all_settled ts f ctx tokens words a [])) i))) rest [] w)
+  end_step false a last z cases default rest w e = by_last (has_last a last) refl e
+    where
+      by_last : (b : Bool) → has_last a last ≡ b → WithLast f.slots ctx.notes b z a
+          → sections_from ctx (Some (reading_of cases default (settled ts f ctx tokens words [] a))) (opt_null b z rest) [] w ≡ sections_from ctx (Some (reading_of cases default (forest_in a))) rest [] w
+      by_last true h e =
+          let xs = settled ts f ctx tokens words [] a in
+          (λ i. sections_from ctx (Some (reading_of cases default (xs ++ (map item.Note (e i) ++ [])))) rest [] w)
+          ∙ (λ i. sections_from ctx (Some (reading_of cases default ((ap (λ l. xs ++ l) (nothing_behind (map item.Note (trailing [] a))) ∙ all_settled ts f ctx tokens words a []) i))) rest [] w)
+      by_last false h e =
+          let xs = settled ts f ctx tokens words [] a in
+          let none = none_left a (second_false (last && is_nil a) (ends_with_note a) h) in
+          (λ i. sections_from ctx (Some (reading_of cases default ((sym (nothing_behind xs) ∙ ap (λ l. xs ++ map item.Note l) (sym none) ∙ all_settled ts f ctx tokens words a []) i))) rest [] w)
+
+  section_ended : (ends : Bool) (cases : List ExpressionTree) (default : Bool) (a : Forest) → (0 < length cases) ⊎ IsTrue default → (ends_with_break a ≡ true → ends ≡ true)
+      → ended (reading_of (map expression_in cases) default (with_end ends (forest_in a))) ≡ a_section (map expression_in cases) default (forest_in a) ends
+  section_ended true cases default a h e = ended_here cases default (forest_in a) h
+  section_ended false cases default a h e = ended_open cases default a (not_true (ends_with_break a) e)
