@@ -79,26 +79,26 @@ others-append (Other at ∷ a) b = let h = others-append a b in omega arith
 
 -- ---- labels of the tree
 
-cases-append : (a b : List (Option ExpressionTree)) → cases_among (a ++ b) ≡ cases_among a ++ cases_among b
+pub cases-append : (a b : List (Option ExpressionTree)) → cases_among (a ++ b) ≡ cases_among a ++ cases_among b
 cases-append [] b = refl
 cases-append (Some e ∷ a) b = ap (λ l. e ∷ l) (cases-append a b)
 cases-append (None ∷ a) b = cases-append a b
 
-defaults-append : (a b : List (Option ExpressionTree)) → defaults_among (a ++ b) ≡ defaults_among a + defaults_among b
+pub defaults-append : (a b : List (Option ExpressionTree)) → defaults_among (a ++ b) ≡ defaults_among a + defaults_among b
 defaults-append [] b = omega arith
 defaults-append (Some e ∷ a) b = defaults-append a b
 defaults-append (None ∷ a) b = let h = defaults-append a b in omega arith
 
-arrivals-join : (a b : Forest) → arrivals (join a b) ≡ arrivals a ++ arrivals b
+pub arrivals-join : (a b : Forest) → arrivals (join a b) ≡ arrivals a ++ arrivals b
 arrivals-join Nil b = refl
 arrivals-join (tree.Then x a) b = ap (λ l. arrivals_of x ++ l) (arrivals-join a b) ∙ sym (append_assoc (arrivals_of x) (arrivals a) (arrivals b))
 
-own_cases : (cs : List ExpressionTree) (d : Bool) → cases_among (section_labels cs d) ≡ cs
+pub own_cases : (cs : List ExpressionTree) (d : Bool) → cases_among (section_labels cs d) ≡ cs
 own_cases [] true = refl
 own_cases [] false = refl
 own_cases (c ∷ cs) d = ap (λ l. c ∷ l) (own_cases cs d)
 
-own_defaults : (cs : List ExpressionTree) (d : Bool) → defaults_among (section_labels cs d) ≡ cond d 1 0
+pub own_defaults : (cs : List ExpressionTree) (d : Bool) → defaults_among (section_labels cs d) ≡ cond d 1 0
 own_defaults [] true = refl
 own_defaults [] false = refl
 own_defaults (c ∷ cs) d = own_defaults cs d
@@ -115,14 +115,14 @@ pub record Adds (found es : List Entry) (cs : List ExpressionTree) (d k : ℕ) :
   pub defaults : d ≤ count
   pub few : length cs ≤ k
 
-adds_none : (found : List Entry) → Adds found found [] 0 0
+pub adds_none : (found : List Entry) → Adds found found [] 0 0
 adds_none found = record { more = []; count = 0; values = sym (append-nil (vals found)); rest = omega arith; same = refl; constant = tt; defaults = omega arith; few = omega arith }
 
 map_both : {A B : Type 0} (g : A → B) (xs ys : List A) → map g (xs ++ ys) ≡ map g xs ++ map g ys
 map_both g [] ys = refl
 map_both g (x ∷ xs) ys = ap (λ l. g x ∷ l) (map_both g xs ys)
 
-adds_both : (a b c : List Entry) (cs ds : List ExpressionTree) (d e k l : ℕ) → Adds a b cs d k → Adds b c ds e l → Adds a c (cs ++ ds) (d + e) (k + l)
+pub adds_both : (a b c : List Entry) (cs ds : List ExpressionTree) (d e k l : ℕ) → Adds a b cs d k → Adds b c ds e l → Adds a c (cs ++ ds) (d + e) (k + l)
 adds_both a b c cs ds d e k l x y = record {
   more = x.more ++ y.more;
   count = x.count + y.count;
@@ -134,7 +134,7 @@ adds_both a b c cs ds d e k l x y = record {
   few = let h = x.few in let i = y.few in let j = length-append cs ds in omega arith;
 }
 
-adds_as : (a b : List Entry) (cs ds : List ExpressionTree) (d e k l : ℕ) → cs ≡ ds → e ≤ d → k ≤ l → Adds a b cs d k → Adds a b ds e l
+pub adds_as : (a b : List Entry) (cs ds : List ExpressionTree) (d e k l : ℕ) → cs ≡ ds → e ≤ d → k ≤ l → Adds a b cs d k → Adds a b ds e l
 adds_as a b cs ds d e k l p q r x = record {
   more = x.more; count = x.count; values = x.values; rest = x.rest;
   same = ap (map constant_value) (sym p) ∙ x.same;
@@ -182,22 +182,22 @@ given_constant env t h = by (typed env t) refl (constant_there env t h)
 module _ (ctx : Context) where
   -- ---- lists of items
 
-  abbrev C : List item.Item → List ExpressionTree
+  abbrev pub C : List item.Item → List ExpressionTree
   C xs = cases_among (arrivals (trees_of xs))
 
-  abbrev D : List item.Item → ℕ
+  abbrev pub D : List item.Item → ℕ
   D xs = defaults_among (arrivals (trees_of xs))
 
-  abbrev AddsItems : List Entry → List Entry → List item.Item → ℕ → Type 0
+  abbrev pub AddsItems : List Entry → List Entry → List item.Item → ℕ → Type 0
   AddsItems found es xs k = Adds found es (C xs) (D xs) k
 
   abbrev AddsTree : List Entry → List Entry → Tree → ℕ → Type 0
   AddsTree found es t k = Adds found es (cases_among (arrivals_of t)) (defaults_among (arrivals_of t)) k
 
-  none_of : (found : List Entry) → AddsItems found found [] 0
+  pub none_of : (found : List Entry) → AddsItems found found [] 0
   none_of found = subst (λ a. Adds found found (cases_among (arrivals a)) (defaults_among (arrivals a)) 0) (sym trees-none) (adds_none found)
 
-  both_of : (a b c : List Entry) (xs ys : List item.Item) (k l : ℕ) → AddsItems a b xs k → AddsItems b c ys l → AddsItems a c (xs ++ ys) (k + l)
+  pub both_of : (a b c : List Entry) (xs ys : List item.Item) (k l : ℕ) → AddsItems a b xs k → AddsItems b c ys l → AddsItems a c (xs ++ ys) (k + l)
   both_of a b c xs ys k l x y =
       let j = ap arrivals (trees-append xs ys) ∙ arrivals-join (trees_of xs) (trees_of ys) in
       subst (λ ls. Adds a c (cases_among ls) (defaults_among ls) (k + l)) (sym j)
@@ -205,44 +205,44 @@ module _ (ctx : Context) where
         (sym (cases-append (arrivals (trees_of xs)) (arrivals (trees_of ys)))) (let h = defaults-append (arrivals (trees_of xs)) (arrivals (trees_of ys)) in omega arith) (omega arith)
         (adds_both a b c (C xs) (C ys) (D xs) (D ys) k l x y))
 
-  one_of : (a b : List Entry) (x : item.Item) (t : Tree) (k : ℕ) → tree_of x ≡ t → AddsTree a b t k → AddsItems a b (x ∷ []) k
+  pub one_of : (a b : List Entry) (x : item.Item) (t : Tree) (k : ℕ) → tree_of x ≡ t → AddsTree a b t k → AddsItems a b (x ∷ []) k
   one_of a b x t k e h =
       let j = ap arrivals (trees-more x []) ∙ (ap (λ l. arrivals_of (tree_of x) ++ l) (ap arrivals trees-none) ∙ (append-nil (arrivals_of (tree_of x)) ∙ ap arrivals_of e)) in
       subst (λ ls. Adds a b (cases_among ls) (defaults_among ls) k) (sym j) h
 
   -- an item without labels of the switch
-  still : (found : List Entry) (x : item.Item) (t : Tree) → tree_of x ≡ t → arrivals_of t ≡ [] → AddsItems found found (x ∷ []) 0
+  pub still : (found : List Entry) (x : item.Item) (t : Tree) → tree_of x ≡ t → arrivals_of t ≡ [] → AddsItems found found (x ∷ []) 0
   still found x t e h = one_of found found x t 0 e (subst (λ ls. Adds found found (cases_among ls) (defaults_among ls) 0) (sym h) (adds_none found))
 
-  front : (a b : List Entry) (xs ys : List item.Item) (k : ℕ) → AddsItems a a xs 0 → AddsItems a b ys k → AddsItems a b (xs ++ ys) k
+  pub front : (a b : List Entry) (xs ys : List item.Item) (k : ℕ) → AddsItems a a xs 0 → AddsItems a b ys k → AddsItems a b (xs ++ ys) k
   front a b xs ys k x y = adds_as a b (C (xs ++ ys)) (C (xs ++ ys)) (D (xs ++ ys)) (D (xs ++ ys)) (0 + k) k refl (omega arith) (omega arith) (both_of a a b xs ys 0 k x y)
 
-  back : (a b : List Entry) (xs ys : List item.Item) (k : ℕ) → AddsItems a b xs k → AddsItems b b ys 0 → AddsItems a b (xs ++ ys) k
+  pub back : (a b : List Entry) (xs ys : List item.Item) (k : ℕ) → AddsItems a b xs k → AddsItems b b ys 0 → AddsItems a b (xs ++ ys) k
   back a b xs ys k x y = adds_as a b (C (xs ++ ys)) (C (xs ++ ys)) (D (xs ++ ys)) (D (xs ++ ys)) (k + 0) k refl (omega arith) (omega arith) (both_of a b b xs ys k 0 x y)
 
-  more_of : (a b : List Entry) (xs : List item.Item) (k l : ℕ) → k ≤ l → AddsItems a b xs k → AddsItems a b xs l
+  pub more_of : (a b : List Entry) (xs : List item.Item) (k l : ℕ) → k ≤ l → AddsItems a b xs k → AddsItems a b xs l
   more_of a b xs k l h x = adds_as a b (C xs) (C xs) (D xs) (D xs) k l refl (omega arith) h x
 
   note_list : (found : List Entry) (bs : List (List ℕ)) → AddsItems found found (map item.Note bs) 0
   note_list found [] = none_of found
   note_list found (b ∷ bs) = front found found (item.Note b ∷ []) (map item.Note bs) 0 (still found (item.Note b) (tree.Note b) (tree-Note b) refl) (note_list found bs)
 
-  notes_of : (found : List Entry) (a : Anchor) → AddsItems found found (notes_at ctx a) 0
+  pub notes_of : (found : List Entry) (a : Anchor) → AddsItems found found (notes_at ctx a) 0
   notes_of found a = note_list found (ctx.notes a)
 
-  behind_notes : (a b : List Entry) (x : Anchor) (xs : List item.Item) (k : ℕ) → AddsItems a b xs k → AddsItems a b (notes_at ctx x ++ xs) k
+  pub behind_notes : (a b : List Entry) (x : Anchor) (xs : List item.Item) (k : ℕ) → AddsItems a b xs k → AddsItems a b (notes_at ctx x ++ xs) k
   behind_notes a b x xs k h = front a b (notes_at ctx x) xs k (notes_of a x) h
 
-  mark_of : (found : List Entry) (at : ℕ) → AddsItems found found (mark ctx at) 0
+  pub mark_of : (found : List Entry) (at : ℕ) → AddsItems found found (mark ctx at) 0
   mark_of found at = let l = number_in ctx.labels (ctx.word at) in behind_notes found found (Before at) (item.Mark l ∷ []) 0 (still found (item.Mark l) (tree.Mark l) (tree-Mark l) refl)
 
-  marks_of : (found : List Entry) (ls : List Label) → AddsItems found found (section_marks ctx ls) 0
+  pub marks_of : (found : List Entry) (ls : List Label) → AddsItems found found (section_marks ctx ls) 0
   marks_of found [] = none_of found
   marks_of found (Named at after ∷ ls) = front found found (mark ctx at) (section_marks ctx ls) 0 (mark_of found at) (marks_of found ls)
   marks_of found (Case at after t ∷ ls) = marks_of found ls
   marks_of found (Default at after ∷ ls) = marks_of found ls
 
-  locals_of : (found : List Entry) (k : Kinded) (ds : List Declarator) (w : Walk) → AddsItems found found (locals ctx.word k ds w) 0
+  pub locals_of : (found : List Entry) (k : Kinded) (ds : List Declarator) (w : Walk) → AddsItems found found (locals ctx.word k ds w) 0
   locals_of found k [] w = none_of found
   locals_of found k (d ∷ ds) w =
       let v = declared ctx.word k d w in
@@ -256,7 +256,7 @@ module _ (ctx : Context) where
   case_entry w at after t found c = ap (λ (o : Option (Expression × ℤ)). elim o [ Some c ↦ found ++ Value at c.1 ∷ [] | None ↦ found ]) c.given
 
   -- labels as items, and as entries
-  labels_of : (w : Walk) (switch : Bool) (ls : List Label) (found : List Entry) → labels_faults (env_at ctx w) switch ls [] ≡ [] → AddsItems found (label_entries (env_at ctx w) ls found) (labels_items ctx (env_at ctx w) ls) (label_cases ls)
+  pub labels_of : (w : Walk) (switch : Bool) (ls : List Label) (found : List Entry) → labels_faults (env_at ctx w) switch ls [] ≡ [] → AddsItems found (label_entries (env_at ctx w) ls found) (labels_items ctx (env_at ctx w) ls) (label_cases ls)
   labels_of w switch [] found e = none_of found
   labels_of w switch (Named at after ∷ ls) found e =
       let p = labels_parts (env_at ctx w) switch (Named at after) ls e in
@@ -279,7 +279,7 @@ module _ (ctx : Context) where
         (behind_notes found next (Before at) (item.Arrival None ∷ []) 0 (one_of found next (item.Arrival None) (tree.Arrival None) 0 (tree-Arrival None) (one_default found at))) (labels_of w switch ls next p.1))
 
   -- of a section
-  section_of_labels : (w : Walk) (switch : Bool) (ls : List Label) (found : List Entry) → labels_faults (env_at ctx w) switch ls [] ≡ []
+  pub section_of_labels : (w : Walk) (switch : Bool) (ls : List Label) (found : List Entry) → labels_faults (env_at ctx w) switch ls [] ≡ []
       → Adds found (label_entries (env_at ctx w) ls found) (expression_trees (section_cases (env_at ctx w) ls)) (cond (has_default ls) 1 0) (label_cases ls)
   section_of_labels w switch [] found e = adds_none found
   section_of_labels w switch (Named at after ∷ ls) found e = section_of_labels w switch ls found (labels_parts (env_at ctx w) switch (Named at after) ls e).1

@@ -37,3 +37,4 @@ pub mod Bound
 pub mod Sectioned
 pub mod ItemForms
 pub mod Entries
+pub mod Compared

@@ -1,0 +1,562 @@
+-- The labels of a switch, nested ones among them: constants, one default at most, and distinct after conversion.
+use Rattle.std.proofs.Common.{ℕ, Bool, true, false, not, cond, ◌&&◌, ◌||◌, List, [], ◌∷◌, ◌++◌, append_assoc, map, length, Option, Some, None, option_map, is_some, append_assoc, true≢false, arith, length-append, ◌≡◌, refl, sym, ap, subst, ◌∙◌}
+use Rattle.std.specs.Prelude.{ℤ, ◌+◌, ◌≤◌}
+use Rattle.c_tree.specs.declared.tree.Slot.{Slot}
+use Rattle.c_tree.specs.declared.tree.Item as item
+use Rattle.c_tree.specs.declared.tree.Section.{Section}
+use Rattle.c_tree.specs.declared.tree.Expression.{Expression}
+use Rattle.c_tree.specs.declared.tree.Test as test
+use Rattle.c_tree.specs.declared.tree.Selector as selector
+use Rattle.c_tree.specs.ExpressionTrees.{ExpressionTree, expression_tree}
+use Rattle.c_tree.specs.TestTrees.{TestTree, SelectorTree}
+use Rattle.c_tree.specs.Trees.{Tree, Forest, SectionTree, Nil, join, expression_trees, tree_of, trees_of, section_tree, sections, sections_of}
+use Rattle.c_tree.specs.Trees as tree
+use Rattle.c_tree.specs.Everywhere.{Everywhere, EverywhereOf, EverywhereIn}
+use Rattle.c_tree.proofs.KeptLemmas.{everywhere_join}
+use Rattle.c_tree.proofs.ExpressionLaws.{test-Source, selector-Source}
+use Rattle.c_tree.proofs.TreeLaws.{tree-Evaluate, tree-Return, tree-If, tree-While, tree-Do, tree-For, tree-Switch, tree-Block, tree-Local, tree-Break, tree-Continue, tree-Goto, tree-Mark, tree-Arrival, tree-Note, trees-none, trees-more, trees-append}
+use Rattle.c_types.specs.declared.kinds.IntKind.{IntKind}
+use Rattle.c_source.specs.Terms.{Term}
+use Rattle.c_source.specs.Items.{Declarator, Declaration, Label, Named, Case, Default, Start, NoStart, StartValue, StartNames, Item, Declares, States, Plain, From, Statement, Null, Evaluate, If, IfElse, While, DoWhile, For, Switch, Block, Goto, Break, Continue, Return, Unread, Body, Braces, Lone, Items, NoItem}
+use Rattle.c_source.specs.Items as items
+use Rattle.c_kinds.specs.Scopes.{Scope, Faults, fault_if}
+use Rattle.c_kinds.specs.Typing.{typed, constant_faults}
+use Rattle.c_kinds.specs.Values.{value_of}
+use Rattle.c_statements.specs.declared.extents.Kinded.{Kinded}
+use Rattle.c_statements.specs.Context.{Anchor, Before, AtEnd, AtSection, Context, Walk, env_at, env_in, enter, leave, notes_at, number_in, has_label, Around, in_loop, in_switch}
+use Rattle.c_statements.specs.Declarations.{kinded, declared, all_declared, local, locals, initial, value_at, constant_at, value_faults, local_faults, locals_faults}
+use Rattle.c_statements.specs.Labels.{has_case, mark, label_items, labels_items, section_marks, section_cases, has_default, label_faults, labels_faults}
+use Rattle.c_statements.specs.Sections.{Reading, extended, ended, closed, passed_on}
+use Rattle.c_statements.specs.Statements.{behind_start, behind_item, behind_plain, behind_body, behind_items, declared_by, dropped_at, test_at, start_items, begun, a_switch, item_items, plain_items, statement_items, body_items, list_items, switch_sections, sections_from, sections_at}
+use Rattle.c_statements.specs.Statements as statements
+use Rattle.c_statements.specs.Violations.{dropped_faults, optional_faults, start_faults, return_faults, item_faults, plain_faults, statement_faults, body_faults, list_faults, switch_body_faults, outside_faults, outside_fault}
+use Rattle.c_resolved.specs.Form.{ends_with_break}
+use Rattle.c_resolved.specs.Within.{Each, CaseExpressions}
+use Rattle.resolving_core.proofs.Lists.{none_left, clean_if, not_true, each_map, each_append}
+use Rattle.resolving_core.specs.Read.{IsReadTerm, IsReadDeclarator, IsReadDeclaration, IsReadLabel, IsReadStart, IsReadItem, IsReadPlain, IsReadStatement, IsReadBody, AreReadItems}
+use Rattle.resolving_core.proofs.Empty.{constant_empty, labels_empty}
+use Rattle.resolving_core.proofs.Parts.{parted, locals_parts, labels_parts, states_parts, list_parts, if_parts, if_else_parts, while_parts, do_parts, for_parts, switch_parts, Outside, outside_declares, outside_parts, outside_one}
+use Rattle.resolving_core.proofs.Grown.{Grown, locals_grow, start_grows, item_grows, plain_grows, body_grows, list_grows, switch_grows, outside_grows}
+use Rattle.resolving_core.proofs.SectionTrees.{later_break, section_of, ended_tree, has_entry, without_end, passes, with_entries, passed_trees, passed_same, ended_same, sections_are}
+use Rattle.c_tree.specs.Constants.{constant_value}
+use Rattle.c_kinds.specs.Constants.{constant_of}
+use Rattle.c_kinds.specs.Scopes.{Env}
+use Rattle.c_kinds.specs.Values.{expression}
+use Rattle.c_kinds.specs.declared.typed.Typed as kinds
+use Rattle.c_kinds.specs.declared.typed.Typed.TheVariants as T
+use Rattle.c_statements.specs.declared.entries.Entry.{Entry}
+use Rattle.c_statements.specs.declared.entries.Entry.TheVariants.{Value, Other}
+use Rattle.c_statements.specs.Cases.{label_entries, item_entries, plain_entries, statement_entries, body_entries, list_entries}
+use Rattle.c_statements.specs.Declarations.{constant_or_placeholder}
+use Rattle.c_resolved.specs.Switches.{arrivals, arrivals_of, section_labels, switch_labels, cases_among, defaults_among, IsConstantValue}
+use Rattle.resolving_core.specs.Read.{label_cases, item_cases, plain_cases, statement_cases, body_cases, list_cases}
+use Rattle.resolving_core.proofs.Arrays.{constant_there}
+use Rattle.resolving_core.proofs.Uses.{value_found}
+use Rattle.resolving_core.proofs.Values.{value_tree, value_rolls}
+use Rattle.std.proofs.lemmas.List.{append-nil}
+
+use Rattle.std.specs.Prelude.{◌<ℤ◌, ◌≢◌, ◌<◌, IsSomeAnd}
+use Rattle.std.specs.Cmp.{int_ranks}
+use Rattle.std.specs.BTreeSet.{insert_key}
+use Rattle.std.specs.declared.cmp.Ordering.{Ordering}
+use Rattle.std.specs.declared.cmp.Ordering.TheVariants.{Less, Equal, Greater}
+use Rattle.std.specs.Ordering.{int_cmp, is_eq, match_ordering, MatchOrdering}
+use Rattle.std.proofs.lemmas.Int.{ints}
+use Rattle.c_types.specs.Numbers.{promoted, converted}
+use Rattle.c_tree.specs.Cases.{case_number}
+use Rattle.c_tree.specs.Constants.{kind_of}
+use Rattle.c_statements.specs.Cases.{is_among, with_value, entry_faults, switch_faults}
+use Rattle.c_resolved.specs.Switches.{AreLabels}
+use Rattle.c_resolved.specs.Within.{AllDiffer}
+use Rattle.resolving_core.specs.Read.{IsReadTerm}
+use Rattle.resolving_core.proofs.Empty.{entries_empty}
+use Rattle.resolving_core.proofs.Lists.{each_map, or_left, or_right}
+use Rattle.resolving_core.proofs.Entries.{vals, others, cases-append, defaults-append, arrivals-join, own_cases, own_defaults, Adds, adds_none, adds_both, adds_as, C, D, AddsItems, none_of, both_of, one_of, still, front, back, more_of, notes_of, behind_notes, mark_of, marks_of, locals_of, labels_of, section_of_labels}
+
+-- ---- numbers that differ
+
+not_itself : (q : ℤ) → is_eq (int_cmp q q) ≡ false → ⊥
+not_itself q e = by (int_cmp q q) (int_ranks q q) e
+  where
+    by : (o : Ordering) → MatchOrdering o (q <ℤ q) (q ≡ q) (q <ℤ q) → is_eq o ≡ false → ⊥
+    by Less m e = grind (arith, ints)
+    by Equal m e = true≢false e
+    by Greater m e = grind (arith, ints)
+
+differs : (q v : ℤ) → is_eq (int_cmp q v) ≡ false → q ≢ v
+differs q v e s = not_itself q (ap (λ w. is_eq (int_cmp q w)) s ∙ e)
+
+equal_is : (v x : ℤ) (o : Ordering) → MatchOrdering o (v <ℤ x) (v ≡ x) (x <ℤ v) → o ≡ Equal → v ≡ x
+equal_is v x Equal m e = m
+equal_is v x Less m e = absurd (true≢false (sym (ap is_eq e)))
+equal_is v x Greater m e = absurd (true≢false (sym (ap is_eq e)))
+
+-- a number that is not among these and one more
+apart : (q v : ℤ) (seen : List ℤ) → is_among q (with_value v seen) ≡ false → (is_among q seen ≡ false) × (q ≢ v)
+apart q v [] e = (refl, differs q v (or_left (is_eq (int_cmp q v)) false e))
+apart q v (x ∷ xs) e = by (int_cmp v x) refl e (apart q v xs)
+  where
+    by : (o : Ordering) → int_cmp v x ≡ o → is_among q (match_ordering o (v ∷ x ∷ xs) (x ∷ xs) (x ∷ with_value v xs)) ≡ false → (is_among q (with_value v xs) ≡ false → (is_among q xs ≡ false) × (q ≢ v)) → (is_among q (x ∷ xs) ≡ false) × (q ≢ v)
+    by Less i e r = (or_right (is_eq (int_cmp q v)) (is_among q (x ∷ xs)) e, differs q v (or_left (is_eq (int_cmp q v)) (is_among q (x ∷ xs)) e))
+    by Equal i e r = (e, λ s. differs q x (or_left (is_eq (int_cmp q x)) (is_among q xs) e) (s ∙ equal_is v x (int_cmp v x) (int_ranks v x) i))
+    by Greater i e r =
+        let p = r (or_right (is_eq (int_cmp q x)) (is_among q (with_value v xs)) e) in
+        (neither (is_eq (int_cmp q x)) (is_among q xs) (or_left (is_eq (int_cmp q x)) (is_among q (with_value v xs)) e) p.0, p.1)
+      where
+        neither : (a b : Bool) → a ≡ false → b ≡ false → (a || b) ≡ false
+        neither true b e f = absurd (true≢false e)
+        neither false b e f = f
+
+-- 1 for a default
+abbrev flag : Bool → ℕ
+flag b = cond b 1 0
+
+-- what entries without a violation are
+pub record Compared (K : IntKind) (seen : List ℤ) (default : Bool) (es : List Entry) : Type 0 where
+  pub single : others es + cond default 1 0 ≤ 1
+  pub new : Each (λ n. is_among n seen ≡ false) (map (converted K) (vals es))
+  pub differ : AllDiffer (map (converted K) (vals es))
+
+one_at_most : (b : Bool) → cond b 1 0 ≤ 1
+one_at_most true = omega arith
+one_at_most false = omega arith
+
+pub compared : (K : IntKind) (seen : List ℤ) (default : Bool) (es : List Entry) → entry_faults K seen default es [] ≡ [] → Compared K seen default es
+compared K seen default [] e = record { single = let h = one_at_most default in omega arith; new = tt; differ = tt }
+compared K seen default (Value at v ∷ es) e =
+    let n = converted K v in
+    let p = parted (entry_faults K (with_value n seen) default es) (fault_if (is_among n seen) at 30) (entries_empty K (with_value n seen) default es) e in
+    let c = clean_if (is_among n seen) at 30 [] p.0 in
+    let r = compared K (with_value n seen) default es p.1 in
+    record {
+      single = r.single;
+      new = (c.1, each_map (λ q. is_among q (with_value n seen) ≡ false) (λ q. is_among q seen ≡ false) (λ q h. (apart q n seen h).0) (map (converted K) (vals es)) r.new);
+      differ = (each_map (λ q. is_among q (with_value n seen) ≡ false) (λ q. q ≢ n) (λ q h. (apart q n seen h).1) (map (converted K) (vals es)) r.new, r.differ);
+    }
+compared K seen default (Other at ∷ es) e =
+    let p = parted (entry_faults K seen true es) (fault_if default at 31) (entries_empty K seen true es) e in
+    let c = clean_if default at 31 [] p.0 in
+    let r = compared K seen true es p.1 in
+    record { single = let h = r.single in let i : flag default ≡ 0 = ap flag c.1 in omega arith; new = r.new; differ = r.differ }
+
+-- ---- sections of the tree
+
+abbrev CS : List SectionTree → List ExpressionTree
+CS ts = cases_among (switch_labels (sections ts))
+
+abbrev DS : List SectionTree → ℕ
+DS ts = defaults_among (switch_labels (sections ts))
+
+abbrev CL : Forest → List ExpressionTree
+CL a = cases_among (arrivals a)
+
+abbrev DL : Forest → ℕ
+DL a = defaults_among (arrivals a)
+
+cs_cons : (s : SectionTree) (ts : List SectionTree) → CS (s ∷ ts) ≡ s.cases ++ (CL s.list ++ CS ts)
+cs_cons s ts =
+    cases-append (section_labels s.cases s.default) (arrivals s.list ++ switch_labels (sections ts))
+    ∙ (λ i. own_cases s.cases s.default i ++ cases-append (arrivals s.list) (switch_labels (sections ts)) i)
+
+ds_cons : (s : SectionTree) (ts : List SectionTree) → DS (s ∷ ts) ≡ cond s.default 1 0 + (DL s.list + DS ts)
+ds_cons s ts =
+    defaults-append (section_labels s.cases s.default) (arrivals s.list ++ switch_labels (sections ts))
+    ∙ (λ i. own_defaults s.cases s.default i + defaults-append (arrivals s.list) (switch_labels (sections ts)) i)
+
+either_default : (a b : Bool) → cond (a || b) 1 0 ≤ cond a 1 0 + cond b 1 0
+either_default true true = omega arith
+either_default true false = omega arith
+either_default false true = omega arith
+either_default false false = omega arith
+
+-- what sections have, behind these cases and a default
+record Passes (cs : List ExpressionTree) (d : Bool) (old new : List SectionTree) : Type 0 where
+  cases : CS new ≡ cs ++ CS old
+  defaults : DS new ≤ cond d 1 0 + DS old
+
+front_section : (cs : List ExpressionTree) (d : Bool) (s : SectionTree) (ts more : List SectionTree) → CS more ≡ CS ts → DS more ≤ DS ts → Passes cs d (s ∷ ts) (with_entries cs d s ∷ more)
+front_section cs d s ts more e l = record {
+  cases = cs_cons (with_entries cs d s) more ∙ (ap (λ x. (cs ++ s.cases) ++ (CL s.list ++ x)) e ∙ (append_assoc cs s.cases (CL s.list ++ CS ts) ∙ ap (λ x. cs ++ x) (sym (cs_cons s ts))));
+  defaults = let a = ds_cons (with_entries cs d s) more in let b = ds_cons s ts in let c = either_default d s.default in omega arith;
+}
+
+empty_section : (cs : List ExpressionTree) (d : Bool) (s : SectionTree) (ts new : List SectionTree) → passes s ≡ true → Passes (cs ++ s.cases) (d || s.default) ts new → Passes cs d (s ∷ ts) new
+empty_section cs d s ts new e p = record {
+  cases = p.cases ∙ (append_assoc cs s.cases (CS ts) ∙ ap (λ x. cs ++ x) (sym (cs_cons s ts ∙ ap (λ x. s.cases ++ (x ++ CS ts)) (ap cases_among (none s.list s.ends e)))));
+  defaults = let a = ds_cons s ts in let b = ap defaults_among (none s.list s.ends e) in let c = either_default d s.default in let h = p.defaults in omega arith;
+}
+  where
+    none : (a : Forest) (ends : Bool) → ◌≡◌ {A = Bool} (elim a [ Nil ↦ not ends | tree.Then x xs ↦ false ]) true → arrivals a ≡ []
+    none Nil ends e = refl
+    none (tree.Then x a) ends e = absurd (true≢false (sym e))
+
+passed_by : (cs : List ExpressionTree) (d : Bool) (s : SectionTree) (ts : List SectionTree) (b : Bool) → passes s ≡ b → ((es : List ExpressionTree) (e : Bool) → Passes es e ts (passed_trees es e ts))
+    → Passes cs d (s ∷ ts) (elim b [ true ↦ passed_trees (cs ++ s.cases) (d || s.default) ts | false ↦ with_entries cs d s ∷ passed_trees [] false ts ])
+passed_by cs d s ts true e f = empty_section cs d s ts (passed_trees (cs ++ s.cases) (d || s.default) ts) e (f (cs ++ s.cases) (d || s.default))
+passed_by cs d s ts false e f = let r = f [] false in front_section cs d s ts (passed_trees [] false ts) r.cases (let h = r.defaults in omega arith)
+
+passed_labels : (cs : List ExpressionTree) (d : Bool) (s : SectionTree) (ts : List SectionTree) → Passes cs d (s ∷ ts) (passed_trees cs d (s ∷ ts))
+passed_labels cs d s [] = front_section cs d s [] [] refl (omega arith)
+passed_labels cs d s (t ∷ ts) = passed_by cs d s (t ∷ ts) (passes s) refl (λ es e. passed_labels es e t ts)
+
+cut_arrivals : (a : Forest) → ends_with_break a ≡ true → arrivals (without_end a) ≡ arrivals a
+cut_arrivals Nil e = refl
+cut_arrivals (tree.Then tree.Break Nil) e = refl
+cut_arrivals (tree.Then x (tree.Then y a)) e = ap (λ l. arrivals_of x ++ l) (cut_arrivals (tree.Then y a) (sym (later_break x y a) ∙ e))
+cut_arrivals (tree.Then x Nil) e = absurd (true≢false (sym e))
+
+-- a section that is finished
+record Finished (cs : List ExpressionTree) (d : Bool) (a : Forest) (s : SectionTree) : Type 0 where
+  cases : s.cases ≡ cs
+  default : s.default ≡ d
+  list : arrivals s.list ≡ arrivals a
+
+finished : (cs : List ExpressionTree) (d : Bool) (a : Forest) → Finished cs d a (ended_tree cs d a)
+finished cs d a = by (has_entry cs d) (ends_with_break a) refl
+  where
+    by : (b e : Bool) → ends_with_break a ≡ e → Finished cs d a (cond (b && e) (section_of cs d (without_end a) true) (section_of cs d a false))
+    by true true e = record { cases = refl; default = refl; list = cut_arrivals a e }
+    by true false e = record { cases = refl; default = refl; list = refl }
+    by false f e = record { cases = refl; default = refl; list = refl }
+
+module _ (ctx : Context) where
+  -- ---- readings
+
+  RC : Option Reading → List ExpressionTree
+  RC None = []
+  RC (Some r) = expression_trees r.cases ++ C ctx r.list
+
+  RD : Option Reading → ℕ
+  RD None = 0
+  RD (Some r) = cond r.default 1 0 + D ctx r.list
+
+  abbrev SC : List Section → List ExpressionTree
+  SC cs = CS (map section_tree cs)
+
+  abbrev SD : List Section → ℕ
+  SD cs = DS (map section_tree cs)
+
+  closed_cases : (o : Option Reading) (more : List Section) → SC (closed o ++ more) ≡ RC o ++ SC more
+  unfolding RC
+  closed_cases None more = refl
+  closed_cases (Some r) more =
+      let f = finished (expression_trees r.cases) r.default (trees_of r.list) in
+      ap (λ s. CS (s ∷ map section_tree more)) (ended_same r)
+      ∙ (cs_cons (ended_tree (expression_trees r.cases) r.default (trees_of r.list)) (map section_tree more)
+      ∙ ((λ i. f.cases i ++ (cases_among (f.list i) ++ SC more)) ∙ sym (append_assoc (expression_trees r.cases) (C ctx r.list) (SC more))))
+
+  closed_defaults : (o : Option Reading) (more : List Section) → SD (closed o ++ more) ≡ RD o + SD more
+  unfolding RD
+  closed_defaults None more = omega arith
+  closed_defaults (Some r) more =
+      let f = finished (expression_trees r.cases) r.default (trees_of r.list) in
+      let x = ended_tree (expression_trees r.cases) r.default (trees_of r.list) in
+      let a = ap (λ s. DS (s ∷ map section_tree more)) (ended_same r) ∙ ds_cons x (map section_tree more) in
+      let b : flag x.default ≡ flag r.default = ap flag f.default in
+      let c : defaults_among (arrivals x.list) ≡ D ctx r.list = ap defaults_among f.list in
+      omega arith
+
+  C_both : (xs ys : List item.Item) → C ctx (xs ++ ys) ≡ C ctx xs ++ C ctx ys
+  C_both xs ys = ap cases_among (ap arrivals (trees-append xs ys) ∙ arrivals-join (trees_of xs) (trees_of ys)) ∙ cases-append (arrivals (trees_of xs)) (arrivals (trees_of ys))
+
+  D_both : (xs ys : List item.Item) → D ctx (xs ++ ys) ≡ D ctx xs + D ctx ys
+  D_both xs ys = ap defaults_among (ap arrivals (trees-append xs ys) ∙ arrivals-join (trees_of xs) (trees_of ys)) ∙ defaults-append (arrivals (trees_of xs)) (arrivals (trees_of ys))
+
+  C_none : C ctx [] ≡ []
+  C_none = ap (λ a. cases_among (arrivals a)) trees-none
+
+  D_none : D ctx [] ≡ 0
+  D_none = ap (λ a. defaults_among (arrivals a)) trees-none
+
+  none_first : (xs : List ExpressionTree) → RC None ++ xs ≡ xs
+  unfolding RC
+  none_first xs = refl
+
+  none_default : RD None ≡ 0
+  unfolding RD
+  none_default = refl
+
+  extended_cases : (o : Option Reading) (xs : List item.Item) → RC (extended o xs) ≡ RC o ++ C ctx xs
+  unfolding RC
+  extended_cases (Some r) xs = ap (λ l. expression_trees r.cases ++ l) (C_both r.list xs) ∙ sym (append_assoc (expression_trees r.cases) (C ctx r.list) (C ctx xs))
+  extended_cases None [] = sym C_none
+  extended_cases None (x ∷ xs) = refl
+
+  extended_defaults : (o : Option Reading) (xs : List item.Item) → RD (extended o xs) ≡ RD o + D ctx xs
+  unfolding RD
+  extended_defaults (Some r) xs = let h = D_both r.list xs in omega arith
+  extended_defaults None [] = let h = D_none in omega arith
+  extended_defaults None (x ∷ xs) = omega arith
+
+  -- what sections have behind the one that is being read
+  record Ahead (found es : List Entry) (o : Option Reading) (cs : List Section) (k : ℕ) : Type 0 where
+    more : List ExpressionTree
+    d : ℕ
+    cases : SC cs ≡ RC o ++ more
+    defaults : SD cs ≤ RD o + d
+    adds : Adds found es more d k
+
+  empty_list : {A : Type 0} (xs : List A) → length xs ≤ 0 → xs ≡ []
+  empty_list [] h = refl
+  empty_list (x ∷ xs) h = absurd (omega arith)
+
+  quiet_cases : (found : List Entry) (xs : List item.Item) → AddsItems ctx found found xs 0 → C ctx xs ≡ []
+  quiet_cases found xs h = empty_list (C ctx xs) h.few
+
+  quiet_defaults : (found : List Entry) (xs : List item.Item) → AddsItems ctx found found xs 0 → D ctx xs ≡ 0
+  quiet_defaults found xs h = let a = h.rest in let b = h.defaults in omega arith
+
+  nothing_read : SC [] ≡ RC None ++ []
+  unfolding RC
+  nothing_read = refl
+
+  end_from : (found : List Entry) (o : Option Reading) (notes : List item.Item) → AddsItems ctx found found notes 0 → Ahead found found o (statements.sections_of o notes) 0
+  end_from found None notes h = record { more = []; d = 0; cases = nothing_read; defaults = omega arith; adds = adds_none found }
+  end_from found (Some r) notes h =
+      let o = extended (Some r) notes in
+      let q = ap SC (sym (append-nil (closed o))) ∙ closed_cases o [] in
+      let s = ap SD (sym (append-nil (closed o))) ∙ closed_defaults o [] in
+      record {
+        more = []; d = 0;
+        cases = q ∙ ap (λ x. x ++ []) (extended_cases (Some r) notes ∙ (ap (λ x. RC (Some r) ++ x) (quiet_cases found notes h) ∙ append-nil (RC (Some r))));
+        defaults = let a = s in let b = extended_defaults (Some r) notes in let c = quiet_defaults found notes h in omega arith;
+        adds = adds_none found;
+      }
+
+  -- items at the end of the section
+  next_from : (found mid es : List Entry) (o : Option Reading) (new : List item.Item) (cs : List Section) (k l : ℕ) → AddsItems ctx found mid new k → Ahead mid es (extended o new) cs l → Ahead found es o cs (k + l)
+  next_from found mid es o new cs k l h r = record {
+    more = C ctx new ++ r.more; d = D ctx new + r.d;
+    cases = r.cases ∙ (ap (λ x. x ++ r.more) (extended_cases o new) ∙ append_assoc (RC o) (C ctx new) r.more);
+    defaults = let a = r.defaults in let b = extended_defaults o new in omega arith;
+    adds = adds_both found mid es (C ctx new) r.more (D ctx new) r.d k l h r.adds;
+  }
+
+  -- a new section
+  begun_from : (found mid es : List Entry) (o new : Option Reading) (cs : List Section) (k l : ℕ) → Adds found mid (RC new) (RD new) k → Ahead mid es new cs l → Ahead found es o (closed o ++ cs) (k + l)
+  begun_from found mid es o new cs k l h r = record {
+    more = RC new ++ r.more; d = RD new + r.d;
+    cases = closed_cases o cs ∙ ap (λ x. RC o ++ x) r.cases;
+    defaults = let a = closed_defaults o cs in let b = r.defaults in omega arith;
+    adds = adds_both found mid es (RC new) r.more (RD new) r.d k l h r.adds;
+  }
+
+  from_more : (found es : List Entry) (o : Option Reading) (cs : List Section) (k l : ℕ) → k ≤ l → Ahead found es o cs k → Ahead found es o cs l
+  from_more found es o cs k l h r = record { more = r.more; d = r.d; cases = r.cases; defaults = r.defaults; adds = adds_as found es r.more r.more r.d r.d k l refl (omega arith) h r.adds }
+
+  from_by : (found es : List Entry) (o : Option Reading) (b : Bool) (xs ys : List Section) (k : ℕ) → Ahead found es o (closed o ++ xs) k → Ahead found es o ys k → Ahead found es o (elim b [ true ↦ closed o ++ xs | false ↦ ys ]) k
+  from_by found es o true xs ys k h i = h
+  from_by found es o false xs ys k h i = i
+
+  begun_adds : (found mid es : List Entry) (w : Walk) (ls : List Label) (ps : List item.Item) (k l : ℕ) → Adds found mid (expression_trees (section_cases (env_at ctx w) ls)) (cond (has_default ls) 1 0) k → AddsItems ctx mid es ps l
+      → let o = begun ctx (env_at ctx w) ls ps in Adds found es (RC o) (RD o) (k + l)
+  unfolding RC RD
+  begun_adds found mid es w ls ps k l h i =
+      let front_items = notes_at ctx (AtSection (items.first_label ls)) ++ section_marks ctx ls in
+      adds_both found mid es (expression_trees (section_cases (env_at ctx w) ls)) (C ctx (front_items ++ ps)) (cond (has_default ls) 1 0) (D ctx (front_items ++ ps)) k l h
+      (front ctx mid es front_items ps l (behind_notes ctx mid mid (AtSection (items.first_label ls)) (section_marks ctx ls) 0 (marks_of ctx mid ls)) i)
+
+  lone_by : (found es : List Entry) (b : Bool) (xs ys : List Section) (k : ℕ) → Ahead found es None xs k → Ahead found es None ys k → Ahead found es None (elim b [ true ↦ xs | false ↦ ys ]) k
+  lone_by found es true xs ys k h i = h
+  lone_by found es false xs ys k h i = i
+
+  -- ---- statements
+
+  mutual
+    item_adds : (around : Around) (x : Item) (w : Walk) (found : List Entry) → item_faults ctx around x w [] ≡ [] → AddsItems ctx found (item_entries ctx x w found) (item_items ctx x w) (item_cases x)
+    item_adds around (Declares first after d) w found e = behind_notes ctx found found (Before first) (locals ctx.word (kinded ctx.word d) d.names w) 0 (locals_of ctx found (kinded ctx.word d) d.names w)
+    item_adds around (States ls p) w found e =
+        let q = states_parts ctx around w ls p e in
+        let mid = label_entries (env_at ctx w) ls found in
+        both_of ctx found mid (plain_entries ctx p w mid) (labels_items ctx (env_at ctx w) ls) (plain_items ctx p w) (label_cases ls) (plain_cases p) (labels_of ctx w around.switch ls found q.0) (plain_adds around p w mid q.1)
+
+    plain_adds : (around : Around) (p : Plain) (w : Walk) (found : List Entry) → plain_faults ctx around p w [] ≡ [] → AddsItems ctx found (plain_entries ctx p w found) (plain_items ctx p w) (plain_cases p)
+    plain_adds around (From first after s) w found e = behind_notes ctx found (statement_entries ctx s w found) (Before first) (statement_items ctx s w) (statement_cases s) (statement_adds around first s w found e)
+
+    statement_adds : (around : Around) (first : ℕ) (s : Statement) (w : Walk) (found : List Entry) → statement_faults ctx around first s w [] ≡ [] → AddsItems ctx found (statement_entries ctx s w found) (statement_items ctx s w) (statement_cases s)
+    statement_adds around first Null w found e = none_of ctx found
+    statement_adds around first (Evaluate t) w found e = still ctx found _ _ (tree-Evaluate (dropped_at (env_at ctx w) t)) refl
+    statement_adds around first (If t b) w found e =
+        let p = if_parts ctx around w first t b e in
+        let x = test.Source (value_at (env_at ctx w) t) in
+        let a = body_items ctx b w in
+        let es = body_entries ctx b w found in
+        one_of ctx found es (item.If x a []) _ (body_cases b) (tree-If x a [])
+        (subst (λ ls. Adds found es (cases_among ls) (defaults_among ls) (body_cases b)) (sym (ap (λ l. arrivals (trees_of a) ++ l) (ap arrivals trees-none) ∙ append-nil (arrivals (trees_of a)))) (body_adds around b w found p.1))
+    statement_adds around first (IfElse t b k) w found e =
+        let p = if_else_parts ctx around w first t b k e in
+        let x = test.Source (value_at (env_at ctx w) t) in
+        let u = behind_body ctx b w in
+        let a = body_items ctx b w in
+        let c = body_items ctx k u in
+        let mid = body_entries ctx b w found in
+        let es = body_entries ctx k u mid in
+        one_of ctx found es (item.If x a c) _ (body_cases b + body_cases k) (tree-If x a c)
+        (subst (λ ls. Adds found es (cases_among ls) (defaults_among ls) (body_cases b + body_cases k)) (ap arrivals (trees-append a c) ∙ arrivals-join (trees_of a) (trees_of c))
+          (both_of ctx found mid es a c (body_cases b) (body_cases k) (body_adds around b w found p.1) (body_adds around k u mid p.2)))
+    statement_adds around first (While t b) w found e =
+        let p = while_parts ctx around w first t b e in
+        let x = test.Source (value_at (env_at ctx w) t) in
+        one_of ctx found (body_entries ctx b w found) (item.While x (body_items ctx b w)) _ (body_cases b) (tree-While x (body_items ctx b w)) (body_adds (in_loop around) b w found p.1)
+    statement_adds around first (DoWhile b t) w found e =
+        let p = do_parts ctx around w first b t e in
+        let x = test.Source (value_at (env_at ctx w) t) in
+        one_of ctx found (body_entries ctx b w found) (item.Do (body_items ctx b w) x) _ (body_cases b) (tree-Do (body_items ctx b w) x) (body_adds (in_loop around) b w found p.1)
+    statement_adds around first (For start t u b) w found e =
+        let p = for_parts ctx around w first start t u b e in
+        let inner = behind_start ctx start (enter w) in
+        let env = env_at ctx inner in
+        one_of ctx found (body_entries ctx b inner found) _ _ (body_cases b) (tree-For (start_items ctx start (enter w)) (option_map (value_at env) t) (option_map (dropped_at env) u) (body_items ctx b inner)) (body_adds (in_loop around) b inner found p.3)
+    statement_adds around first (Switch t b) w found e =
+        more_of ctx found found _ 0 (body_cases b) (omega arith) (still ctx found _ _ (tree-Switch (selector.Source (value_at (env_at ctx w) t)) (passed_on [] false (switch_sections ctx b w))) refl)
+    statement_adds around first (Block b) w found e = one_of ctx found (body_entries ctx b w found) (item.Block (body_items ctx b w)) _ (body_cases b) (tree-Block (body_items ctx b w)) (body_adds around b w found e)
+    statement_adds around first (Goto at) w found e = still ctx found _ _ (tree-Goto (number_in ctx.labels (ctx.word at))) refl
+    statement_adds around first Break w found e = still ctx found _ _ tree-Break refl
+    statement_adds around first Continue w found e = still ctx found _ _ tree-Continue refl
+    statement_adds around first (Return t) w found e = still ctx found _ _ (tree-Return (option_map (value_at (env_at ctx w)) t)) refl
+    statement_adds around first Unread w found e = none_of ctx found
+
+    body_adds : (around : Around) (b : Body) (w : Walk) (found : List Entry) → body_faults ctx around b w [] ≡ [] → AddsItems ctx found (body_entries ctx b w found) (body_items ctx b w) (body_cases b)
+    body_adds around (Braces first after xs) w found e =
+        let es = list_entries ctx xs (enter w) found in back ctx found es (list_items ctx xs (enter w)) (notes_at ctx (AtEnd first)) (list_cases xs) (list_adds around xs (enter w) found e) (notes_of ctx es (AtEnd first))
+    body_adds around (Lone first after x) w found e =
+        let es = item_entries ctx x (enter w) found in back ctx found es (item_items ctx x (enter w)) (notes_at ctx (AtEnd first)) (item_cases x) (item_adds around x (enter w) found e) (notes_of ctx es (AtEnd first))
+
+    list_adds : (around : Around) (xs : Items) (w : Walk) (found : List Entry) → list_faults ctx around xs w [] ≡ [] → AddsItems ctx found (list_entries ctx xs w found) (list_items ctx xs w) (list_cases xs)
+    list_adds around NoItem w found e = none_of ctx found
+    list_adds around (items.Then x xs) w found e =
+        let p = list_parts ctx around w x xs e in
+        let v = behind_item ctx x w in
+        let mid = item_entries ctx x w found in
+        both_of ctx found mid (list_entries ctx xs v mid) (item_items ctx x w) (list_items ctx xs v) (item_cases x) (list_cases xs) (item_adds around x w found p.0) (list_adds around xs v mid p.1)
+
+  -- ---- sections
+
+  -- a statement in front of, or in, sections
+  state_from : (around : Around) (ls : List Label) (p : Plain) (xs : Items) (notes : List item.Item) (w : Walk) (o : Option Reading) (found es : List Entry) → item_faults ctx around (States ls p) w [] ≡ [] → (l : ℕ)
+      → let v = behind_plain ctx p w in let env = env_at ctx w in let ps = plain_items ctx p w in let mid = item_entries ctx (States ls p) w found in
+        Ahead mid es (begun ctx env ls ps) (sections_from ctx (begun ctx env ls ps) xs notes v) l → Ahead mid es (extended o (labels_items ctx env ls ++ ps)) (sections_from ctx (extended o (labels_items ctx env ls ++ ps)) xs notes v) l
+      → Ahead found es o (sections_from ctx o (items.Then (States ls p) xs) notes w) (item_cases (States ls p) + l)
+  state_from around ls p xs notes w o found es e l f g =
+      let q = states_parts ctx around w ls p e in
+      let v = behind_plain ctx p w in
+      let env = env_at ctx w in
+      let ps = plain_items ctx p w in
+      let one = label_entries env ls found in
+      let mid = plain_entries ctx p w one in
+      let k = label_cases ls + plain_cases p in
+      let pa = plain_adds around p w one q.1 in
+      from_by found es o (has_case ls) (sections_from ctx (begun ctx env ls ps) xs notes v) (sections_from ctx (extended o (labels_items ctx env ls ++ ps)) xs notes v) (k + l)
+      (begun_from found mid es o (begun ctx env ls ps) (sections_from ctx (begun ctx env ls ps) xs notes v) k l (begun_adds found one mid w ls ps (label_cases ls) (plain_cases p) (section_of_labels ctx w around.switch ls found q.0) pa) f)
+      (next_from found mid es o (labels_items ctx env ls ++ ps) (sections_from ctx (extended o (labels_items ctx env ls ++ ps)) xs notes v) k l
+        (both_of ctx found one mid (labels_items ctx env ls) ps (label_cases ls) (plain_cases p) (labels_of ctx w around.switch ls found q.0) pa) g)
+
+  outside_step : (around : Around) (ls : List Label) (p : Plain) (xs : Items) (w : Walk) (b : Bool) → Outside ctx around w b ls p xs → (A : Type 0) → (list_faults ctx around xs (behind_plain ctx p w) [] ≡ [] → A) → (outside_faults ctx around xs (behind_plain ctx p w) [] ≡ [] → A) → A
+  outside_step around ls p xs w true o A f g = f o
+  outside_step around ls p xs w false o A f g = g o.1
+
+  -- in sections
+  inside_from : (around : Around) (xs : Items) (o : Option Reading) (notes : List item.Item) (w : Walk) (found : List Entry) → ((es : List Entry) → AddsItems ctx es es notes 0) → list_faults ctx around xs w [] ≡ []
+      → Ahead found (list_entries ctx xs w found) o (sections_from ctx o xs notes w) (list_cases xs)
+  inside_from around NoItem o notes w found h e = end_from found o notes (h found)
+  inside_from around (items.Then (Declares first after d) xs) o notes w found h e =
+      let p = list_parts ctx around w (Declares first after d) xs e in
+      let v = declared_by ctx d w in
+      let l = locals ctx.word (kinded ctx.word d) d.names w in
+      let new = notes_at ctx (Before first) ++ l in
+      next_from found found (list_entries ctx xs v found) o new (sections_from ctx (extended o new) xs notes v) 0 (list_cases xs) (behind_notes ctx found found (Before first) l 0 (locals_of ctx found (kinded ctx.word d) d.names w))
+      (inside_from around xs (extended o new) notes v found h p.1)
+  inside_from around (items.Then (States ls p) xs) o notes w found h e =
+      let q = list_parts ctx around w (States ls p) xs e in
+      let v = behind_plain ctx p w in
+      let env = env_at ctx w in
+      let ps = plain_items ctx p w in
+      let mid = item_entries ctx (States ls p) w found in
+      state_from around ls p xs notes w o found (list_entries ctx xs v mid) q.0 (list_cases xs)
+      (inside_from around xs (begun ctx env ls ps) notes v mid h q.1) (inside_from around xs (extended o (labels_items ctx env ls ++ ps)) notes v mid h q.1)
+
+  -- in front of the first section
+  outside_from : (around : Around) (xs : Items) (o : Option Reading) (notes : List item.Item) (w : Walk) (found : List Entry) → ((es : List Entry) → AddsItems ctx es es notes 0) → outside_faults ctx around xs w [] ≡ []
+      → Ahead found (list_entries ctx xs w found) o (sections_from ctx o xs notes w) (list_cases xs)
+  outside_from around NoItem o notes w found h e = end_from found o notes (h found)
+  outside_from around (items.Then (Declares first after d) xs) o notes w found h e = absurd (outside_declares ctx around w first after d xs e)
+  outside_from around (items.Then (States ls p) xs) o notes w found h e =
+      let q = outside_parts ctx around w ls p xs e in
+      let v = behind_plain ctx p w in
+      let env = env_at ctx w in
+      let ps = plain_items ctx p w in
+      let mid = item_entries ctx (States ls p) w found in
+      let es = list_entries ctx xs v mid in
+      let a = begun ctx env ls ps in
+      let b = extended o (labels_items ctx env ls ++ ps) in
+      state_from around ls p xs notes w o found es q.0 (list_cases xs)
+      (outside_step around ls p xs w (has_case ls) q.1 (Ahead mid es a (sections_from ctx a xs notes v) (list_cases xs)) (λ y. inside_from around xs a notes v mid h y) (λ y. outside_from around xs a notes v mid h y))
+      (outside_step around ls p xs w (has_case ls) q.1 (Ahead mid es b (sections_from ctx b xs notes v) (list_cases xs)) (λ y. inside_from around xs b notes v mid h y) (λ y. outside_from around xs b notes v mid h y))
+
+  lone_from : (around : Around) (x : Item) (notes : List item.Item) (w : Walk) → ((es : List Entry) → AddsItems ctx es es notes 0) → outside_fault ctx around x w [] ≡ []
+      → Ahead [] (item_entries ctx x w []) None (sections_at ctx None x notes w) (item_cases x)
+  lone_from around (Declares first after d) notes w h e = absurd (none_left _ _ e)
+  lone_from around (States ls p) notes w h e =
+      let q = outside_one ctx around w ls p e in
+      let mid = item_entries ctx (States ls p) w [] in
+      from_more [] mid None (sections_at ctx None (States ls p) notes w) (item_cases (States ls p) + 0) (item_cases (States ls p)) (omega arith)
+      (lone_state (has_case ls) refl
+        (state_from around ls p NoItem notes w None [] mid q.0 0
+          (end_from mid (begun ctx (env_at ctx w) ls (plain_items ctx p w)) notes (h mid)) (end_from mid (extended None (labels_items ctx (env_at ctx w) ls ++ plain_items ctx p w)) notes (h mid))))
+    where
+      lone_state : (b : Bool) → has_case ls ≡ b → Ahead [] (item_entries ctx (States ls p) w []) None (sections_from ctx None (items.Then (States ls p) NoItem) notes w) (item_cases (States ls p) + 0)
+          → Ahead [] (item_entries ctx (States ls p) w []) None (sections_at ctx None (States ls p) notes w) (item_cases (States ls p) + 0)
+      lone_state b i r = r
+
+  switch_from : (around : Around) (b : Body) (w : Walk) → switch_body_faults ctx around b w [] ≡ [] → Ahead [] (body_entries ctx b w []) None (switch_sections ctx b w) (body_cases b)
+  switch_from around (Braces first after xs) w e = outside_from around xs None (notes_at ctx (AtEnd first)) (enter w) [] (λ es. notes_of ctx es (AtEnd first)) e
+  switch_from around (Lone first after x) w e = lone_from around x (notes_at ctx (AtEnd first)) (enter w) (λ es. notes_of ctx es (AtEnd first)) e
+
+  -- ---- the labels of a switch
+
+  trees_pass : (ts : List SectionTree) → Passes [] false ts (passed_trees [] false ts)
+  trees_pass [] = record { cases = refl; defaults = omega arith }
+  trees_pass (s ∷ ts) = passed_labels [] false s ts
+
+  some_differ : {A : Type 0} (xs : List A) → AllDiffer xs → AllDiffer (map Some xs)
+  some_differ [] h = tt
+  some_differ (x ∷ xs) h = (apart_some x xs h.0, some_differ xs h.1)
+    where
+      apart_some : {A : Type 0} (x : A) (xs : List A) → Each (λ y. y ≢ x) xs → Each (λ y. y ≢ Some x) (map Some xs)
+      apart_some x [] h = tt
+      apart_some x (y ∷ ys) h = (λ e. h.0 (some_same y x e), apart_some x ys h.1)
+        where
+          some_same : {A : Type 0} (y x : A) → Some y ≡ Some x → y ≡ x
+          some_same y x e = ap (or_else_x x) e
+            where
+              or_else_x : {A : Type 0} → A → Option A → A
+              or_else_x x None = x
+              or_else_x x (Some y) = y
+
+  numbers_are : (K : IntKind) (cs : List ExpressionTree) (vs : List ℤ) → map constant_value cs ≡ map Some vs → map (case_number K) cs ≡ map Some (map (converted K) vs)
+  numbers_are K cs vs e = split cs ∙ (ap (map (option_map (converted K))) e ∙ joined vs)
+    where
+      split : (cs : List ExpressionTree) → map (case_number K) cs ≡ map (option_map (converted K)) (map constant_value cs)
+      split [] = refl
+      split (c ∷ cs) = ap (λ l. case_number K c ∷ l) (split cs)
+
+      joined : (vs : List ℤ) → map (option_map (converted K)) (map Some vs) ≡ map Some (map (converted K) vs)
+      joined [] = refl
+      joined (v ∷ vs) = ap (λ l. Some (converted K v) ∷ l) (joined vs)
+
+  pub switch_labels_are : (around : Around) (b : Body) (w : Walk) (K : IntKind) → switch_body_faults ctx around b w [] ≡ [] → entry_faults K [] false (body_entries ctx b w []) [] ≡ [] → body_cases b < 2147483648
+      → AreLabels K (switch_labels (sections_of (passed_on [] false (switch_sections ctx b w))))
+  switch_labels_are around b w K e f n =
+      let a = switch_from around b w e in
+      let c = compared K [] false (body_entries ctx b w []) f in
+      let ts = map section_tree (switch_sections ctx b w) in
+      let p = trees_pass ts in
+      let j = sections_are (passed_on [] false (switch_sections ctx b w)) ∙ ap sections (passed_same [] false (switch_sections ctx b w)) in
+      let cs = p.cases ∙ a.cases ∙ none_first a.more in
+      subst (λ x. AreLabels K (switch_labels x)) (sym j)
+      (record {
+        single = let h = p.defaults in let i = a.defaults in let k = none_default in let l = a.adds.defaults in let m = a.adds.rest in let o = c.single in omega arith;
+        constant = subst (Each IsConstantValue) (sym cs) a.adds.constant;
+        distinct = subst (λ x. AllDiffer (map (case_number K) x)) (sym cs) (subst AllDiffer (sym (numbers_are K a.more a.adds.more a.adds.same)) (some_differ (map (converted K) a.adds.more) (subst (λ x. AllDiffer (map (converted K) x)) a.adds.values c.differ)));
+        few = subst (λ x. length x < 2147483648) (sym cs) (let h = a.adds.few in omega arith);
+      })
