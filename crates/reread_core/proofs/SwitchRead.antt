@@ -215,3 +215,76 @@ module _ (ts : List Top) (f : Function) (ctx : Context) (tokens : List Spelling)
       → ended (reading_of (map expression_in cases) default (with_end ends (forest_in a))) ≡ a_section (map expression_in cases) default (forest_in a) ends
   section_ended true cases default a h e = ended_here cases default (forest_in a) h
   section_ended false cases default a h e = ended_open cases default a (not_true (ends_with_break a) e)
+
+  -- ---- one more section
+
+  pub one_section : (cases : List ExpressionTree) (default : Bool) (a : Forest) (ends : Bool) (c : Sections) → ReadsList ts f ctx tokens words a → ReadsSections c → ReadsSections (Section cases default a ends c)
+  one_section cases default a ends c r q ss k around w at depth ps sw h g p b =
+      let last = is_last c in
+      let others = sections_of f.slots c in
+      let there = starts_with_local a in
+      let y = section_labels_end at cases default in
+      let y1 = optional_end_of there 1 y in
+      let z = list_end f.slots y1 a in
+      let e = section_ends_at z ends a last in
+      let pa = printed_forest f a in
+      let inner = deeper depth in
+      let es = map expression_in cases in
+      let p5 = sections_text (printed_sections f c) depth ps in
+      let p4 = text.section_end ends pa last inner p5 in
+      let p3 = list_text pa inner p4 in
+      let p2 = only_if there (null_line inner) p3 in
+      let p1 = only_if default (default_line depth) p2 in
+      let b0 = subst (λ i. Stands tokens at ((joined (map (case_line f.slots depth) es) ⨾ only_if default (default_line depth) ⨾ only_if i (null_line inner) ⨾ list_text pa inner ⨾ text.section_end ends pa (text.is_empty (printed_sections f c)) inner ⨾ sections_text (printed_sections f c) depth) ps)) (begins_same ts f ctx tokens words a) b in
+      let b1 = subst (λ i. Stands tokens at ((joined (map (case_line f.slots depth) es) ⨾ only_if default (default_line depth) ⨾ only_if there (null_line inner) ⨾ list_text pa inner ⨾ text.section_end ends pa i inner ⨾ sections_text (printed_sections f c) depth) ps)) (last_same ts f ctx tokens words c) b0 in
+      let u1 = cases_read ts f ctx tokens words cases ss k w at depth p1 h (g.0) b1 in
+      let u2 = default_read ts f ctx tokens words default (cases_end at cases) depth p2 (u1.behind_it) in
+      let u3 = null_read ts f ctx tokens words there y inner p3 (u2.1) in
+      let u4 = r [] ss k around w y1 inner p4 h (g.2) (p.2) (u3.behind_it) in
+      let u5 = end_read ts f ctx tokens words ends a last z inner p5 (u4.behind_it) in
+      let w1 = passed ts f ctx tokens words y1 a w in
+      let u6 = q (behind_all f.slots ss a) (k + slots_in a) around w1 e depth ps sw (u4.standing) (g.5) (p.4) (u5.behind_it) in
+      let ends_list = section_end ends a last others in
+      let x0 = optional_item there null_statement (items_of f.slots a ends_list) in
+      let n = section_begins ts f ctx tokens words a ends c others (g.4) in
+      let env = env_at ctx w in
+      let rest = written_items e others in
+      let tail = end_source ends (has_last a last) z rest in
+      let body = front ts f ctx tokens words y1 a tail in
+      let wx : written_items y x0 ≡ opt_null there y body
+          = written_opt there y (items_of f.slots a ends_list) ∙ ap (opt_null there y) (written_front ts f ctx tokens words a y1 ends_list ∙ ap (front ts f ctx tokens words y1 a) (written_end ends a last z others)) in
+      let wl : written_items at (labelled (labels_of cases default) x0) ≡ with_labels (section_list at cases default) (written_items y x0) = labelled_written cases at default x0 (n.stated) in
+      let bn : BeginsNamed (written_items y x0) = n.named y in
+      let list_is : list_items ctx (front ts f ctx tokens words y1 a source.NoItem) w ≡ settled ts f ctx tokens words [] a = u4.items source.NoItem ∙ nothing_behind (settled ts f ctx tokens words [] a) in
+      let new = section_entries env at cases default in
+      let none : arrivals a ≡ [] = no_arrivals ts f ctx a ss k around (g.2) in
+      let count : (k + slots_in a) + slots_within c ≡ k + (slots_in a + slots_within c) = omega arith in
+      let walked : behind_items ctx (written_items at (labelled (labels_of cases default) x0)) w ≡ behind_items ctx rest w1
+          = ap (λ l. behind_items ctx l w) wl ∙ walk_begin ctx (section_list at cases default) (written_items y x0) w bn ∙ ap (λ l. behind_items ctx l w) wx ∙ null_walk there y body w
+          ∙ behind_front ts f ctx tokens words a y1 tail w ∙ end_walk ends (has_last a last) z rest w1 in
+      let cleared : (vs : Faults) → list_faults ctx around (written_items at (labelled (labels_of cases default) x0)) w vs ≡ vs = λ vs.
+          ap (λ l. list_faults ctx around l w vs) wl ∙ faults_begin ctx around cases at default (written_items y x0) w bn sw (cases_clear env cases at default (u1.reads)) vs
+          ∙ ap (λ l. list_faults ctx around l w vs) wx ∙ null_clear there y around body w vs ∙ u4.clear tail vs ∙ end_clear ends (has_last a last) z around rest w1 vs sw ∙ u6.clear vs in
+      record {
+        behind_it = as_end f.slots tokens ctx.word words (items_end at (labelled (labels_of cases default) x0)) (items_end e others) ps
+            (labelled_end cases at default x0 (n.stated) ∙ end_opt there y (items_of f.slots a ends_list) ∙ end_front ts f ctx tokens words a y1 ends_list ∙ end_end ends a last z others) (u6.behind_it);
+        keywords = labelled_keywords ctx.word cases at default x0 (n.stated) (u2.0) (u3.keywords (items_of f.slots a ends_list) (u4.keywords ends_list (u5.keywords others (u6.keywords))));
+        sections = λ reading.
+            ap (λ l. sections_from ctx reading l [] w) wl ∙ sections_begin ctx reading cases at default (written_items y x0) [] w (g.1) bn (p.0)
+            ∙ ap (λ l. closed reading ++ l)
+              ((λ i. sections_from ctx (Some (reading_of (constants_are env cases at (u1.reads) ctx i) default [])) (wx i) [] w) ∙ null_step there y es default body w (p.1)
+              ∙ sections_front ts f ctx tokens words a y1 (reading_of es default []) tail [] w ∙ (λ i. sections_from ctx (Some (reading_of es default (list_is i))) tail [] w1)
+              ∙ end_step ends a last z es default rest w1 (p.3) ∙ u6.sections (Some (reading_of es default (with_end ends (forest_in a))))
+              ∙ (λ i. section_ended ends cases default a (g.1) (g.3) i ∷ sections_in c));
+        after = u6.after;
+        standing = subst (λ v. Standing (names_in ts f) (u6.after) (k + (slots_in a + slots_within c)) v) (sym walked) (subst (λ j. Standing (names_in ts f) (u6.after) j (behind_items ctx rest w1)) count (u6.standing));
+        clear = cleared;
+        outside = λ vs.
+            ap (λ l. outside_faults ctx around l w vs) wl ∙ outside_begin ctx around cases at default (written_items y x0) w (g.1) bn vs ∙ sym (ap (λ l. list_faults ctx around l w vs) wl) ∙ cleared vs;
+        entries = new ++ (u6.entries);
+        entries_are = λ found.
+            ap (λ l. list_entries ctx l w found) wl ∙ entries_begin ctx cases at default (written_items y x0) w found bn
+            ∙ (λ i. list_entries ctx (wx i) w (entries_are env cases at default found (u1.reads) i)) ∙ null_entries there y body w (found ++ new)
+            ∙ entries_in ts f ctx tokens words a y1 tail w (found ++ new) ∙ end_entries ends (has_last a last) z rest w1 (found ++ new) ∙ u6.entries_are (found ++ new) ∙ append_assoc found new (u6.entries);
+        matches = match_both (section_labels cases default) (arrivals a ++ switch_labels c) new (u6.entries) (section_match env cases at default (u1.reads)) (subst (λ l. Match (l ++ switch_labels c) (u6.entries)) (sym none) (u6.matches));
+      }
