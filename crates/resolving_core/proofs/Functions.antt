@@ -31,6 +31,7 @@ use Rattle.c_resolved.specs.Resolved.{names_in, HasLengths, IsInitialised}
 use Rattle.c_resolved.specs.Scopes as Scopes
 use Rattle.c_resolved.specs.Scopes.{AVariable, AreBound, IsNew, IsNewParameter, AreNewParameters, with_parameters, BodyIsBound}
 use Rattle.c_types.specs.Words.{is_word}
+use Rattle.c_resolved.specs.Switches.{HasCases}
 use Rattle.c_resolved.specs.Within.{Each, AllDiffer}
 use Rattle.resolving_core.proofs.Arrays.{array_fine}
 use Rattle.resolving_core.proofs.Bindings.{names_same, knows_bound, knows_inside, look_up_tree}
@@ -45,6 +46,7 @@ use Rattle.resolving_core.proofs.SlotNumbers.{slots_gather, list_runs, item_runs
 use Rattle.resolving_core.proofs.Surroundings.{has_both, has_notes, has_list, has_item}
 use Rattle.resolving_core.proofs.Grown.{Grown}
 use Rattle.resolving_core.proofs.ItemKinds.{KnownAt, GoodItem, Good, kinds_closed}
+use Rattle.resolving_core.proofs.ItemCases.{cases_closed}
 use Rattle.resolving_core.proofs.ItemForms.{forms_closed}
 use Rattle.resolving_core.proofs.ItemReturns.{Anywhere, AnyConstant, returns_closed, initialised_closed}
 use Rattle.resolving_core.proofs.Known.{HasShape, IsKnown, Knows}
@@ -157,6 +159,7 @@ pub record Resolves (ts : List Top) (t : tree.Function) : Type 0 where
   pub lengths : HasLengths t
   pub form : HasForm t
   pub labels : AllDiffer t.labels
+  pub cases : Everywhere HasCases (body_of t)
 
 -- ---- slots, labels and exits
 
@@ -201,7 +204,7 @@ module _ (flat : FlatCounts) (word : ℕ → List ℕ) (notes : Anchor → List 
       let slots = (inside word f scopes).slots in
       let same = ap length (inside_slots word f scopes) ∙ length-map f.parameters (parameter_slot word) in
       record {
-        kinds = tt; consts = tt; returns = tt; initialised = tt; labels = tt;
+        kinds = tt; consts = tt; returns = tt; initialised = tt; labels = tt; cases = tt;
         form = record {
           unflat = refl;
           parameters = begins_long (map (parameter_slot word) f.parameters) [] slots (length f.parameters) (inside_slots word f scopes ∙ sym (append-nil (map (parameter_slot word) f.parameters))) (length-map f.parameters (parameter_slot word));
@@ -249,6 +252,7 @@ module _ (flat : FlatCounts) (word : ℕ → List ℕ) (notes : Anchor → List 
           exits = λ i. x.breaking refl i + x.continuing refl i;
         };
         labels = subst AllDiffer (sym ls.names) ls.differ;
+        cases = body_holds ctx slots (KnownAt ctx n) HasCases AnyConstant (cases_closed ctx n) b w r p.body i all;
         lengths = record {
           parameters = subst (AreLengths IsParameterLength) (sym (ap (take (length f.parameters)) q ∙ take_all (parameter_slot word) f.parameters g.more)) (parameter_lengths word f.parameters);
           others = subst (AreLengths IsLength) (sym (ap (drop (length f.parameters)) q ∙ drop_all (parameter_slot word) f.parameters g.more)) (lengths_of g.more g.good);

@@ -38,3 +38,4 @@ pub mod Sectioned
 pub mod ItemForms
 pub mod Entries
 pub mod Compared
+pub mod ItemCases

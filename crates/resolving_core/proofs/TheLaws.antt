@@ -142,5 +142,6 @@ resolving_laws = record {
   lengths = each_function _ (λ ts f h. h.lengths);
   initialised = each_function _ (λ ts f h. h.initialised);
   form = each_function _ (λ ts f h. h.form);
+  cases = each_function _ (λ ts f h. h.cases);
   labels = each_function _ (λ ts f h. h.labels);
 }

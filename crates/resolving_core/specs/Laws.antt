@@ -20,6 +20,7 @@ use Rattle.c_resolved.specs.Form.{HasForm}
 use Rattle.c_resolved.specs.Kinds.{ItemAgrees, KeepsConsts, ReturnFits}
 use Rattle.c_resolved.specs.Resolved.{names_in, HasLengths, IsInitialised}
 use Rattle.c_resolved.specs.Scopes.{NamesAreBound}
+use Rattle.c_resolved.specs.Switches.{HasCases}
 use Rattle.c_resolved.specs.Within.{Each, AllDiffer}
 use Rattle.resolving_core.specs.Read.{IsReadFile}
 
@@ -62,5 +63,7 @@ pub record ResolvingLaws : Type 0 where
   pub initialised : Gives (λ p. Functions (λ ts f. Everywhere (IsInitialised f.slots) (body_of f)) p)
   -- slots and labels in text order, first parts of `for`, sections, and gotos, exits and nested case labels in their constructs
   pub form : Gives (λ p. Functions (λ ts f. HasForm f) p)
+  -- cases are constants, distinct in the promoted kind of their selector, and not too many
+  pub cases : Gives (λ p. Functions (λ ts f. Everywhere HasCases (body_of f)) p)
   -- the labels of a function differ
   pub labels : Gives (λ p. Functions (λ ts f. AllDiffer f.labels) p)
