@@ -1,10 +1,11 @@
 -- The names of guards: one for each label, each new.
-use Rattle.std.proofs.Common.{◌≡◌, ℕ, suc, ◌||◌, false, List, [], ◌∷◌, ◌++◌, length, refl, sym, ap, ◌∙◌, subst}
+use Rattle.std.proofs.Common.{◌≡◌, ℕ, suc, ◌||◌, Bool, true, false, List, [], ◌∷◌, ◌++◌, length, refl, sym, ap, ◌∙◌, subst}
 use Rattle.std.specs.Str.{bytes_eq}
 use Rattle.c_tree.specs.declared.tree.Function.{Function}
-use Rattle.c_copies.specs.Names.{has_name, with_name}
+use Rattle.c_copies.specs.Names.{has_name, with_name, with_names}
 use Rattle.c_copies.proofs.Rising.{has_name-with_name}
-use Rattle.guard_vars.specs.Fresh.{guard_name, named_guards, used_names, guard_names, AreNew}
+use Rattle.fresh_names.proofs.NameSets.{in_either}
+use Rattle.guard_vars.specs.GuardNames.{guard_name, named_guards, guard_names, AreNew}
 
 pub length-named_guards : (used labels : List (List ℕ)) → length (named_guards used labels) ≡ length labels
 length-named_guards used [] = refl
@@ -12,7 +13,11 @@ length-named_guards used (l ∷ ls) = ap suc (length-named_guards (with_name use
 
 -- a name for each label
 pub length-guard_names : (ns : List (List ℕ)) (f : Function) → length (guard_names ns f) ≡ length f.labels
-length-guard_names ns f = length-named_guards (used_names ns f) f.labels
+length-guard_names ns f = length-named_guards _ f.labels
+
+or_then : (a b c : Bool) → ((a || b) || c) ≡ (a || (b || c))
+or_then true b c = refl
+or_then false b c = refl
 
 -- what is used after these names are given
 abbrev pub used_after : List (List ℕ) → List (List ℕ) → List (List ℕ)
@@ -50,3 +55,16 @@ same_more us vs g same q = ap (λ b. bytes_eq q g || b) (same q)
 pub new_where_same : (us vs gs : List (List ℕ)) → AreSameNames us vs → AreNew us gs → AreNew vs gs
 new_where_same us vs [] same new = tt
 new_where_same us vs (g ∷ gs) same new = (sym (same g) ∙ new.0, new_where_same (g ∷ us) (g ∷ vs) gs (same_more us vs g same) new.1)
+
+-- what stands in one of two lists stands in both together
+name_in_both : (us vs : List (List ℕ)) (q : List ℕ) → has_name (us ++ vs) q ≡ (has_name us q || has_name vs q)
+name_in_both [] vs q = refl
+name_in_both (u ∷ us) vs q = ap (λ b. bytes_eq q u || b) (name_in_both us vs q) ∙ sym (or_then (bytes_eq q u) (has_name us q) (has_name vs q))
+
+-- the names that are used in a function, as one list
+pub same_beside : (file own : List (List ℕ)) → AreSameNames (with_names file own) (file ++ own)
+same_beside file own q = in_either file own q ∙ sym (name_in_both file own q)
+
+-- and with those of the file
+pub same_in_file : (ns own : List (List ℕ)) → AreSameNames (with_names [] ns ++ own) (ns ++ own)
+same_in_file ns own q = name_in_both (with_names [] ns) own q ∙ ap (λ b. b || has_name own q) (in_either [] ns q) ∙ sym (name_in_both ns own q)

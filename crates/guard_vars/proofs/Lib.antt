@@ -1,6 +1,4 @@
-pub mod FreshLemmas
-pub mod FreshFound
-pub mod LoopLemmas
-pub mod GuardNames
-pub mod GotoFree
 pub mod ConversionLemmas
+pub mod GotoFree
+pub mod GuardNames
+pub mod LoopLemmas

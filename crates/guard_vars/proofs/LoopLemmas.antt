@@ -2,7 +2,7 @@
 use Rattle.std.proofs.Common.{◌≡◌, ℕ, ◌+◌, ◌<◌, List, [], ◌∷◌, ◌++◌, length, drop, get_or, sym, ap, ◌∙◌, append_assoc}
 use Rattle.std.proofs.lemmas.List.{at_drop_more}
 use Rattle.c_copies.specs.Names.{with_name}
-use Rattle.guard_vars.specs.Fresh.{guard_name, named_guards}
+use Rattle.guard_vars.specs.GuardNames.{guard_name, named_guards}
 
 -- one more at the end, and the rest after it
 one_more : {A : Type 0} (out : List A) (x : A) (rest : List A) → (out ++ x ∷ []) ++ rest ≡ out ++ (x ∷ rest)

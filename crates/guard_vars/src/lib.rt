@@ -5,4 +5,4 @@ mod conversion;
 mod names;
 
 pub use conversion::convert;
-pub use names::{fresh, guard_names};
+pub use names::{guard_names, guard_names_beside};

@@ -7,7 +7,7 @@ use Rattle.c_tree.specs.Jumps.{is_jump_free_program, is_plain_program}
 use Rattle.jump_meaning.specs.Runs.{BehaveTheSame}
 use Rattle.plain_core.specs.Laws.{IsProgramReady, BehavesAsStructured}
 use Rattle.plain_core.proofs.TheLaws.{plain_laws}
-use Rattle.guard_vars.specs.Fresh.{guard_names}
+use Rattle.guard_vars.specs.GuardNames.{guard_names}
 use Rattle.guard_vars.proofs.GuardNames.{length-guard_names}
 use Rattle.plain_form.specs.Few.{AreFewInTops}
 use Rattle.plain_form.specs.Plain.{plain}

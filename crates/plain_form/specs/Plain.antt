@@ -2,7 +2,7 @@
 use Rattle.std.specs.Prelude.{ℕ, List}
 use Rattle.c_tree.specs.declared.tree.Program.{Program}
 use Rattle.plain_core.specs.Plain.{plain_with}
-use Rattle.guard_vars.specs.Fresh.{guard_names}
+use Rattle.guard_vars.specs.GuardNames.{guard_names}
 
 -- with the names that `guard_names` gives to the guards of each function
 abbrev pub plain : List (List ℕ) → Program → Program

@@ -1,5 +1,5 @@
 ghost use Rattle.std.specs.Prelude.{◌≡◌, ◌≤◌, ◌+◌, ◌-◌, ◌++◌, length, map, Some, IfOk};
-ghost use Rattle.guard_vars.specs.Fresh.{guard_names as the_guard_names};
+ghost use Rattle.guard_vars.specs.GuardNames.{guard_names_beside as the_guard_names_beside};
 ghost use Rattle.plain_core.specs.Plain.{guard_slot, numbers_from, variable_declared, guard_declared as the_guard_declared, declared as the_declared, guarded_body as the_guarded_body, with_guard_variables as the_with_guard_variables, tidied, plain_function as the_plain_function};
 
 use crate::expressions::number;
@@ -10,7 +10,8 @@ use crate::slots::Slots;
 use c_copies::{copy_function, copy_slots};
 use c_tree::{Function, Item, Slot};
 use c_types::{IntKind, List, MOST, Memory, Name};
-use guard_vars::guard_names;
+use fresh_names::UsedNames;
+use guard_vars::guard_names_beside;
 use std::alloc::Global;
 
 fn declare_variables(alloc: Global, from: u32, to: u32) -> Result<List<Item>, Memory>
@@ -102,14 +103,15 @@ fn guarded_body(
 
 fn with_guard_variables(
     alloc: Global,
-    names: &List<Name>,
+    used: &mut UsedNames,
     function: &Function,
     body: &List<Item>,
 ) -> Result<Function, Memory>
-    ensures { IfOk result (λ it. it ≡ the_with_guard_variables (the_guard_names names.now function.now) function.now body.now) }
+    ensures value { IfOk result (λ it. it ≡ the_with_guard_variables (the_guard_names_beside used.old.file function.now) function.now body.now) }
+    ensures file { used.new.file ≡ used.old.file }
 {
     let name = function.name.copy(alloc)?;
-    let guards = guard_names(alloc, names, function)?;
+    let guards = guard_names_beside(alloc, used, function)?;
     let Left { labels, names } = guards_left(alloc, body, guards)?;
     let slots = guarded_slots(alloc, function, names)?;
     let body = guarded_body(alloc, function, labels, body)?;
@@ -159,19 +161,20 @@ fn with_tidied_body(
     })
 }
 
-/// The plain form of a function.
+/// The plain form of a function, where the names of its file are gathered.
 pub fn plain_function(
     alloc: Global,
-    names: &List<Name>,
+    used: &mut UsedNames,
     function: &Function,
 ) -> Result<Function, Memory>
-    ensures { IfOk result (λ it. it ≡ the_plain_function (the_guard_names names.now function.now) function.now) }
+    ensures value { IfOk result (λ it. it ≡ the_plain_function (the_guard_names_beside used.old.file function.now) function.now) }
+    ensures file { used.new.file ≡ used.old.file }
 {
     match &function.body {
         None => copy_function(alloc, function),
         Some(body) => {
             if function.flat {
-                with_guard_variables(alloc, names, function, body)
+                with_guard_variables(alloc, used, function, body)
             } else {
                 with_tidied_body(alloc, function, body)
             }

@@ -2,7 +2,7 @@ ghost use Rattle.std.specs.Prelude.{◌≡◌, true, map, IfOk};
 ghost use Rattle.c_tree.specs.Jumps.{is_jump_free_program, is_plain_program};
 ghost use Rattle.c_tree.specs.InRange.{IsProgramInRange};
 ghost use Rattle.jump_meaning.specs.Runs.{BehaveTheSame};
-ghost use Rattle.guard_vars.specs.Fresh.{guard_names};
+ghost use Rattle.guard_vars.specs.GuardNames.{guard_names, guard_names_beside};
 ghost use Rattle.plain_core.specs.Laws.{IsProgramReady, BehavesAsStructured};
 ghost use Rattle.plain_core.specs.Plain.{plain_top as the_plain_top};
 ghost use Rattle.plain_form.specs.Few.{AreFewInTops};
@@ -12,26 +12,28 @@ use crate::functions::plain_function;
 use c_copies::copy_top;
 use c_tree::{Program, Top};
 use c_types::{List, Memory, Name};
+use fresh_names::UsedNames;
 use std::alloc::Global;
 
-fn plain_top(alloc: Global, names: &List<Name>, top: &Top) -> Result<Top, Memory>
-    ensures { IfOk result (λ it. it ≡ the_plain_top (guard_names names.now) top.now) }
+fn plain_top(alloc: Global, used: &mut UsedNames, top: &Top) -> Result<Top, Memory>
+    ensures value { IfOk result (λ it. it ≡ the_plain_top (guard_names_beside used.old.file) top.now) }
+    ensures file { used.new.file ≡ used.old.file }
 {
     match top {
         Top::Include(_) => copy_top(alloc, top),
         Top::Enum(_) => copy_top(alloc, top),
         Top::Global(_) => copy_top(alloc, top),
-        Top::Function(function) => Ok(Top::Function(plain_function(alloc, names, function)?)),
+        Top::Function(function) => Ok(Top::Function(plain_function(alloc, used, function)?)),
         Top::Note(_) => copy_top(alloc, top),
     }
 }
 
-fn plain_tops(alloc: Global, names: &List<Name>, tops: &[Top]) -> Result<List<Top>, Memory>
-    ensures { IfOk result (λ it. it ≡ map (the_plain_top (guard_names names.now)) tops.now) }
+fn plain_tops(alloc: Global, used: &mut UsedNames, tops: &[Top]) -> Result<List<Top>, Memory>
+    ensures { IfOk result (λ it. it ≡ map (the_plain_top (guard_names_beside used.old.file)) tops.now) }
 {
     let mut out = List::new(alloc);
     for top in tops {
-        out.push(plain_top(alloc, names, top)?)?;
+        out.push(plain_top(alloc, used, top)?)?;
     }
     Ok(out)
 }
@@ -63,6 +65,7 @@ pub fn plain(alloc: Global, names: &List<Name>, program: &Program) -> Result<Pro
     ensures behaves { IsProgramReady (guard_names names.now) program.now → IfOk result (λ it. BehaveTheSame program.now it) }
     ensures structured { IsProgramReady (guard_names names.now) program.now → is_jump_free_program program.now ≡ true → IfOk result (λ it. BehavesAsStructured program.now it) }
 {
-    let tops = plain_tops(alloc, names, program.tops.as_slice())?;
+    let mut used = UsedNames::new(alloc, names.as_slice())?;
+    let tops = plain_tops(alloc, &mut used, program.tops.as_slice())?;
     Ok(Program { tops })
 }

@@ -1,7 +1,10 @@
 use Rattle.std.proofs.Common.{◌≡◌, map, take}
-use Rattle.guard_vars.specs.Fresh.{guard_names}
+use Rattle.guard_vars.specs.GuardNames.{guard_names_beside}
 use Rattle.plain_core.specs.Plain.{plain_top}
 use Rattle.plain_form.proofs.tops.plain_tops.Given as goal
 
 abbrev pub invariant-loop-top : goal.invariant-loop-top
-invariant-loop-top l = l.out ≡ map (plain_top (guard_names l.names)) (take l.top-index l.tops)
+invariant-loop-top l = record {
+  file : l.used.file ≡ l.initial.used.file;
+  value : l.out ≡ map (plain_top (guard_names_beside l.initial.used.file)) (take l.top-index l.tops);
+}

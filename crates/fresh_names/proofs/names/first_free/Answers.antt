@@ -1,10 +1,10 @@
 use Rattle.std.proofs.Common.{◌≡◌, ◌+◌, ◌<◌, ◌≤◌, ◌^◌, true, false, length, ap, ◌∙◌, arith, List, ℕ}
 use Rattle.std.proofs.lemmas.Result.{IfOk-weaker}
 use Rattle.c_copies.specs.Names.{has_name}
-use Rattle.guard_vars.specs.Fresh.{numbered, first_free}
-use Rattle.guard_vars.proofs.FreshLemmas.{first_free_used, first_free_last}
-use Rattle.guard_vars.proofs.FreshFound.{first_free_unused}
-use Rattle.guard_vars.proofs.names.first_free.Goals as goal
+use Rattle.fresh_names.specs.Fresh.{numbered, first_free}
+use Rattle.fresh_names.proofs.FreshLemmas.{first_free_used, first_free_last}
+use Rattle.fresh_names.proofs.FreshFound.{first_free_unused}
+use Rattle.fresh_names.proofs.names.first_free.Goals as goal
 
 pub loop-n-preserved : goal.loop-n-preserved
 loop-n-preserved c =

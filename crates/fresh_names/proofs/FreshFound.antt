@@ -11,7 +11,7 @@ use Rattle.std.proofs.lemmas.List.{append_cancel_left}
 use Rattle.std.proofs.lemmas.Bool.{or_cases, false_from_ne_true}
 use Rattle.std.proofs.lemmas.Map.Made.{length-le_from_is_member}
 use Rattle.c_copies.specs.Names.{has_name}
-use Rattle.guard_vars.specs.Fresh.{numbered, first_free}
+use Rattle.fresh_names.specs.Fresh.{numbered, first_free}
 
 -- base_n and so on, so many names
 abbrev tried : List ℕ → ℕ → ℕ → List (List ℕ)

@@ -1,7 +1,7 @@
 -- The search for a free name, one step on and at its end.
 use Rattle.std.proofs.Common.{◌≡◌, ℕ, suc, ◌+◌, ◌-◌, ◌<◌, ◌≤◌, Bool, true, List, cond, sym, ap, ◌∙◌, arith}
 use Rattle.c_copies.specs.Names.{has_name}
-use Rattle.guard_vars.specs.Fresh.{numbered, first_free}
+use Rattle.fresh_names.specs.Fresh.{numbered, first_free}
 
 first_free_step : (used : List (List ℕ)) (base : List ℕ) (n e : ℕ) → n < e
     → first_free used base n (e - n) ≡ cond (has_name used (numbered base n)) (first_free used base (n + 1) (e - (n + 1))) (numbered base n)

@@ -1,0 +1,3 @@
+pub mod FreshFound
+pub mod FreshLemmas
+pub mod NameSets
