@@ -1,8 +1,6 @@
 -- The cases of a resolved switch are constants where its text is read, and none of them stands twice.
-use Rattle.std.proofs.Common.{◌≡◌, ◌+◌, ◌≤◌, ◌<◌, ◌&&◌, ◌||◌, ℕ, zero, suc, ℤ, pos, Bool, true, false, cond, List, [], ◌∷◌, ◌++◌, map, Option, Some, None, is_some, refl, ap, sym, subst, ◌∙◌, arith, append_assoc}
+use Rattle.std.proofs.Common.{◌≡◌, ◌+◌, ◌≤◌, ◌&&◌, ◌||◌, ℕ, suc, ℤ, pos, Bool, true, false, cond, List, [], ◌∷◌, ◌++◌, map, Option, Some, None, is_some, refl, ap, subst, ◌∙◌, arith, append_assoc}
 use Rattle.std.specs.Prelude.{option_map, IsSome, ◌≢◌, unwrap_or}
-use Rattle.std.specs.List.{list_any}
-use Rattle.std.specs.BTreeSet.{insert_key}
 use Rattle.std.specs.declared.cmp.Ordering.{Ordering}
 use Rattle.std.specs.declared.cmp.Ordering.TheVariants.{Less, Equal, Greater}
 use Rattle.std.specs.Ordering.{match_ordering, MatchOrdering, is_eq, eq_by_cmp, int_cmp}
@@ -14,23 +12,20 @@ use Rattle.c_tree.specs.ExpressionTrees as t
 use Rattle.c_tree.specs.Constants.{HasKind, IsConstant, IsConstantNode, constant_value}
 use Rattle.c_tree.specs.Cases.{case_number}
 use Rattle.c_grammar.specs.ExpressionSyntax.{conditional_end}
-use Rattle.c_source.specs.Terms.{At}
-use Rattle.c_source.specs.Items as s
 use Rattle.c_kinds.specs.Scopes.{Env, Faults, fault, fault_if}
 use Rattle.c_kinds.specs.Typing.{form_typed}
-use Rattle.c_kinds.specs.Constants.{is_constant, is_constant_node, constant_of, constant_fault}
+use Rattle.c_kinds.specs.Constants.{is_constant, is_constant_node, constant_of}
 use Rattle.c_statements.specs.declared.entries.Entry.{Entry}
 use Rattle.c_statements.specs.declared.entries.Entry.TheVariants.{Value, Other}
-use Rattle.c_statements.specs.Declarations.{constant_at, constant_or_placeholder}
+use Rattle.c_statements.specs.Declarations.{constant_or_placeholder}
 use Rattle.c_statements.specs.Cases.{label_entries, is_among, with_value, entry_faults}
 use Rattle.c_statements.specs.Labels.{labels_faults}
 use Rattle.c_resolved.specs.Within.{Each, AllDiffer}
 use Rattle.c_resolved.specs.Switches.{IsConstantValue, AreLabels, section_labels, cases_among, defaults_among}
 use Rattle.printed_syntax.specs.StatementDerivations.{conditional_of}
 use Rattle.reread_core.specs.WrittenExpressions.{conditional_form}
-use Rattle.reread_core.specs.PlacedNotes.{cases_end}
 use Rattle.reread_core.proofs.Mirrors.{expression_in}
-use Rattle.reread_core.proofs.Readings.{typed_of, Reads}
+use Rattle.reread_core.proofs.Readings.{Reads}
 use Rattle.reread_core.proofs.DeclarationsRead.{constant_is}
 use Rattle.reread_core.proofs.SectionSources.{section_list, case_constants}
 

@@ -3,7 +3,7 @@ use Rattle.std.proofs.Common.{◌≡◌, ◌+◌, List, [], ◌∷◌, ◌++◌,
 use Rattle.c_tree.specs.declared.tree.Function.{Function}
 use Rattle.c_tree.specs.declared.tree.Top.{Top}
 use Rattle.c_tree.specs.declared.tree.Item as item
-use Rattle.c_tree.specs.Trees.{Tree, Forest, Nil, Then}
+use Rattle.c_tree.specs.Trees.{Tree, Forest, Nil, Then, Sections, NoSection, Section}
 use Rattle.c_tree.specs.Trees as t
 use Rattle.c_tree.specs.TextItems.{list_text}
 use Rattle.c_statements.specs.Context.{Context}
@@ -22,6 +22,7 @@ use Rattle.reread_core.proofs.ListsRead.{source_of, front, passed, settled, Read
 use Rattle.reread_core.proofs.LeavesRead.{evaluate_reads, break_reads, continue_reads, goto_reads, mark_reads, return_reads}
 use Rattle.reread_core.proofs.ConstructsRead.{block_reads, while_reads, do_reads, if_reads}
 use Rattle.reread_core.proofs.ElseRead.{ReadsLone, else_reads}
+use Rattle.reread_core.proofs.SwitchRead.{ReadsSections, no_section, one_section, switch_reads}
 use Rattle.reread_core.proofs.ForRead.{local_reads, for_reads}
 
 module _ (ts : List Top) (f : Function) (ctx : Context) (tokens : List Spelling) (words : AreWords ctx.word tokens) where
@@ -40,7 +41,7 @@ module _ (ts : List Top) (f : Function) (ctx : Context) (tokens : List Spelling)
     item_reads (t.Goto l) = goto_reads ts f ctx tokens words l
     item_reads (t.Mark l) = mark_reads ts f ctx tokens words l
     item_reads (t.Note bytes) = tt
-    item_reads (t.Switch s c) = λ ss k around w at depth ps h g p b. absurd g
+    item_reads (t.Switch s c) = switch_reads ts f ctx tokens words s c (sections_read c)
     item_reads (t.Arm l e) = λ ss k around w at depth ps h g p b. absurd g
     item_reads (t.Leap l) = λ ss k around w at depth ps h g p b. absurd g
     item_reads (t.Land l) = λ ss k around w at depth ps h g p b. absurd g
@@ -53,7 +54,6 @@ module _ (ts : List Top) (f : Function) (ctx : Context) (tokens : List Spelling)
     pub list_reads : (xs : Forest) → ReadsList ts f ctx tokens words xs
     list_reads Nil = none_read ts f ctx tokens words
     list_reads (Then (t.Note bytes) xs) = note_read ts f ctx tokens words bytes xs (list_reads xs)
-    list_reads (Then (t.Switch s c) xs) = λ ns ss k around w at depth ps h g p b. absurd (g.0)
     list_reads (Then (t.Arm l e) xs) = λ ns ss k around w at depth ps h g p b. absurd (g.0)
     list_reads (Then (t.Leap l) xs) = λ ns ss k around w at depth ps h g p b. absurd (g.0)
     list_reads (Then (t.Land l) xs) = λ ns ss k around w at depth ps h g p b. absurd (g.0)
@@ -89,3 +89,7 @@ module _ (ts : List Top) (f : Function) (ctx : Context) (tokens : List Spelling)
           standing = subst (λ j. Standing (names_in ts f) (behind_all f.slots (behind f.slots ss x) xs) j (passed ts f ctx tokens words y xs v)) count (l.standing);
           clear = λ others vs. ap (list_faults ctx around (front ts f ctx tokens words y xs others) v) (i.clear vs) ∙ l.clear others vs;
         }
+
+    sections_read : (c : Sections) → ReadsSections ts f ctx tokens words c
+    sections_read NoSection = no_section ts f ctx tokens words
+    sections_read (Section cases default a ends c) = one_section ts f ctx tokens words cases default a ends c (list_reads a) (sections_read c)

@@ -1,5 +1,5 @@
 -- A `break` at the end of a section is its end; sections with a list are not passed on.
-use Rattle.std.proofs.Common.{◌≡◌, ◌<◌, ◌⊎◌, inl, inr, ℕ, Bool, true, false, cond, not, ◌&&◌, ◌||◌, List, [], ◌∷◌, ◌++◌, map, length, Option, Some, None, refl, ap, sym, subst, ◌∙◌, arith}
+use Rattle.std.proofs.Common.{◌≡◌, ◌<◌, ◌⊎◌, inl, inr, Bool, true, false, cond, not, ◌&&◌, ◌||◌, List, [], ◌∷◌, ◌++◌, map, length, refl, ap, sym, ◌∙◌, arith}
 use Rattle.std.specs.Prelude.{IsTrue, option_map}
 use Rattle.c_tree.specs.declared.tree.Expression.{Expression}
 use Rattle.c_tree.specs.declared.tree.Item.{Item, out-Item, out-roll-Item}
@@ -10,7 +10,7 @@ use Rattle.c_tree.specs.declared.tree.Section.{Section as RealSection, Section-F
 use Rattle.c_tree.specs.ExpressionTrees.{ExpressionTree}
 use Rattle.c_tree.specs.Trees.{Tree, Forest, Nil, Then, Sections, NoSection, Section}
 use Rattle.c_tree.specs.Trees as t
-use Rattle.c_statements.specs.Sections.{Reading, has_label, is_break, ends_in_break, without_last, ended, is_passing, with_labels, passed_on}
+use Rattle.c_statements.specs.Sections.{has_label, is_break, ends_in_break, without_last, ended, is_passing, with_labels, passed_on}
 use Rattle.c_resolved.specs.Form.{ends_with_break, IsKept}
 use Rattle.reread_core.proofs.Mirrors.{expression_in}
 use Rattle.reread_core.proofs.ItemMirrors.{test_in, selector_in, a_section, tree_in, forest_in, sections_in}
@@ -24,7 +24,6 @@ is_break_tree _ = false
 
 abbrev of_layer : I.Item-F Item RealSection → Bool
 of_layer o = elim o as (λ _. Bool) [ I.Break ↦ true | _ ↦ false ]
-
 
 break_same : (x : Tree) → is_break (tree_in x) ≡ is_break_tree x
 break_same (t.Evaluate e) = ap of_layer (ap out-Item (sym (V.rolls-Evaluate (expression_in e))) ∙ out-roll-Item (I.Evaluate (expression_in e)))

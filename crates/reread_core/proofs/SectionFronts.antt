@@ -1,16 +1,12 @@
 -- Items in the list of a section: they go on with it, and hold no case label of its switch.
-use Rattle.std.proofs.Common.{◌≡◌, ◌+◌, ℕ, Bool, true, false, cond, List, [], ◌∷◌, ◌++◌, map, Option, Some, None, refl, ap, sym, subst, ◌∙◌, append_assoc}
+use Rattle.std.proofs.Common.{◌≡◌, ◌+◌, ℕ, List, [], ◌∷◌, ◌++◌, Some, None, refl, ap, sym, ◌∙◌, append_assoc}
 use Rattle.c_tree.specs.declared.tree.Function.{Function}
 use Rattle.c_tree.specs.declared.tree.Top.{Top}
 use Rattle.c_tree.specs.declared.tree.Item.{Item}
-use Rattle.c_tree.specs.declared.tree.Section.{Section as RealSection}
-use Rattle.c_tree.specs.ExpressionTrees.{ExpressionTree}
 use Rattle.c_tree.specs.TestTrees.{TestTree}
 use Rattle.c_tree.specs.Trees.{Tree, Forest, Nil, Then, Sections, NoSection, Section}
 use Rattle.c_tree.specs.Trees as t
 use Rattle.c_grammar.specs.Statements.{NoItems}
-use Rattle.c_grammar.specs.Statements as g
-use Rattle.c_grammar.specs.StatementSyntax.{statement_end}
 use Rattle.c_source.specs.Items as s
 use Rattle.c_statements.specs.declared.entries.Entry.{Entry}
 use Rattle.c_statements.specs.Context.{Context, Walk, Around, enter}
@@ -21,8 +17,8 @@ use Rattle.c_resolved.specs.Resolved.{names_in}
 use Rattle.c_resolved.specs.Scopes.{Scope}
 use Rattle.c_resolved.specs.Switches.{arrivals, arrivals_of}
 use Rattle.printed_syntax.specs.Reread.{Spelling}
-use Rattle.printed_syntax.specs.StatementDerivations.{block, statement_of, items_of}
-use Rattle.reread_core.specs.WrittenStatements.{written_items, written_body}
+use Rattle.printed_syntax.specs.StatementDerivations.{block, items_of}
+use Rattle.reread_core.specs.WrittenStatements.{written_body}
 use Rattle.reread_core.specs.Words.{AreWords}
 use Rattle.reread_core.specs.GoodItems.{IsGood, AreGood}
 use Rattle.reread_core.specs.PlacedNotes.{item_end}

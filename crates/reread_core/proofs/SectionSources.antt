@@ -1,42 +1,34 @@
 -- What the sections of a switch write, and what reading makes of labels in front of a list.
-use Rattle.std.proofs.Common.{◌≡◌, ◌+◌, ◌<◌, ◌⊎◌, inl, inr, ℕ, Bool, true, false, not, cond, ◌||◌, List, [], ◌∷◌, ◌++◌, map, length, Option, Some, None, refl, ap, sym, subst, ◌∙◌, arith, append_assoc}
+use Rattle.std.proofs.Common.{◌≡◌, ◌+◌, ◌<◌, ◌⊎◌, inl, inr, ℕ, Bool, true, false, not, List, [], ◌∷◌, ◌++◌, map, length, Option, Some, refl, ap, sym, subst, ◌∙◌, arith}
 use Rattle.std.specs.Prelude.{IsTrue}
-use Rattle.c_tree.specs.declared.tree.Slot.{Slot}
-use Rattle.c_tree.specs.declared.tree.Function.{Function}
-use Rattle.c_tree.specs.declared.tree.Top.{Top}
 use Rattle.c_tree.specs.declared.tree.Expression.{Expression}
 use Rattle.c_tree.specs.declared.tree.Item.{Item}
 use Rattle.c_tree.specs.declared.tree.Item as item
 use Rattle.c_tree.specs.declared.tree.Section.{Section as RealSection}
 use Rattle.c_tree.specs.ExpressionTrees.{ExpressionTree}
-use Rattle.c_tree.specs.Trees.{Tree, Forest, Nil, Then, Sections, NoSection, Section}
-use Rattle.c_tree.specs.Trees as t
 use Rattle.c_grammar.specs.declared.class.Class.TheVariants as c
 use Rattle.c_grammar.specs.TokenClasses.{keyword_class}
 use Rattle.c_grammar.specs.ExpressionSyntax.{conditional_end}
 use Rattle.c_grammar.specs.Statements.{NoItems, StatementItem, LocalItem, Unlabelled, Simple, Break}
 use Rattle.c_grammar.specs.Statements as g
 use Rattle.c_grammar.specs.StatementSyntax.{items_end, statement_end}
-use Rattle.c_source.specs.Terms.{Term, At}
+use Rattle.c_source.specs.Terms.{At}
 use Rattle.c_source.specs.Items as s
 use Rattle.c_source.specs.Items.{first_label, stated_first}
 use Rattle.c_kinds.specs.Scopes.{Env, Faults, fault_if}
 use Rattle.c_statements.specs.declared.entries.Entry.{Entry}
-use Rattle.c_statements.specs.Context.{Context, Walk, Around, AtSection, env_at, enter, notes_at}
+use Rattle.c_statements.specs.Context.{Context, Walk, Around, AtSection, env_at, notes_at}
 use Rattle.c_statements.specs.Declarations.{constant_at}
 use Rattle.c_statements.specs.Labels.{has_case, label_items, labels_items, section_marks, section_cases, has_default, labels_faults}
 use Rattle.c_statements.specs.Sections.{Reading, extended, closed}
-use Rattle.c_statements.specs.Statements.{behind_item, behind_plain, behind_items, plain_items, item_items, list_items, sections_from, begun}
-use Rattle.c_statements.specs.Cases.{label_entry, label_entries, item_entries, plain_entries, body_entries, list_entries}
-use Rattle.c_statements.specs.Violations.{item_faults, list_faults, plain_faults, is_null, outside_faults}
-use Rattle.printed_syntax.specs.Reread.{Spelling}
-use Rattle.printed_syntax.specs.StatementDerivations.{conditional_of, case_labels, default_label, labels_of, behind_labels as put_labels, labelled, null_statement, starts_with_local, is_nil, ends_with_note, is_last, optional_item, section_end, is_lone_if, placed, block, statement_of, items_of, sections_of}
+use Rattle.c_statements.specs.Statements.{behind_item, behind_plain, behind_items, plain_items, sections_from, begun}
+use Rattle.c_statements.specs.Cases.{label_entries, plain_entries, list_entries}
+use Rattle.c_statements.specs.Violations.{list_faults, plain_faults, is_null, outside_faults}
+use Rattle.printed_syntax.specs.StatementDerivations.{conditional_of, labels_of, behind_labels as put_labels, labelled}
 use Rattle.reread_core.specs.WrittenExpressions.{conditional_form}
-use Rattle.reread_core.specs.WrittenStatements.{written_items, behind_labels, written_labels, written_statement, written_body}
+use Rattle.reread_core.specs.WrittenStatements.{written_items, behind_labels, written_labels}
 use Rattle.reread_core.specs.Keywords.{ItemsHaveKeywords, HasKeywords}
-use Rattle.reread_core.specs.Words.{AreWords}
-use Rattle.reread_core.specs.PlacedNotes.{item_end, list_end, cases_end, default_end, section_labels_end}
-use Rattle.reread_core.proofs.ListsRead.{source_of, front, passed, written_front}
+use Rattle.reread_core.specs.PlacedNotes.{cases_end, section_labels_end}
 
 -- ---- the labels of a section
 

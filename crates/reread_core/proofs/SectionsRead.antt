@@ -1,55 +1,40 @@
 -- The sections of a printed switch read back as they are (ISO/IEC 9899:2011, 6.8.4.2).
-use Rattle.std.proofs.Common.{◌≡◌, ◌≤◌, ◌<◌, ◌+◌, ◌⊎◌, inl, inr, ℕ, Bool, true, false, not, ◌&&◌, ◌||◌, cond, List, [], ◌∷◌, ◌++◌, map, length, Option, Some, None, refl, ap, sym, subst, ◌∙◌, arith, append_assoc}
-use Rattle.std.specs.Prelude.{codes, IsTrue, ◌-◌, suc, slice_get}
+use Rattle.std.proofs.Common.{◌≡◌, ◌+◌, ℕ, Bool, true, false, ◌&&◌, ◌||◌, List, [], ◌∷◌, map, length, refl, ap, sym, subst, ◌∙◌, arith}
+use Rattle.std.specs.Prelude.{codes, ◌-◌, suc, slice_get}
 use Rattle.std.specs.Option.{option_map_or}
 use Rattle.c_tree.specs.declared.tree.Function.{Function}
 use Rattle.c_tree.specs.declared.tree.Top.{Top}
-use Rattle.c_tree.specs.declared.tree.Expression.{Expression}
-use Rattle.c_tree.specs.declared.tree.Item.{Item, out-Item, out-roll-Item}
-use Rattle.c_tree.specs.declared.tree.Item as item
-use Rattle.c_tree.specs.declared.tree.Section.{Section as RealSection, out-Section, out-roll-Section}
 use Rattle.c_tree.specs.ExpressionTrees.{ExpressionTree}
 use Rattle.c_tree.specs.Trees.{Tree, Forest, Nil, Then, Sections, NoSection, Section}
 use Rattle.c_tree.specs.Trees as t
-use Rattle.c_tree.specs.TextPieces.{Piece, Text, ◌⨾◌, newline, space, indentation, word, punctuator, only_if, joined}
+use Rattle.c_tree.specs.TextPieces.{Piece, ◌⨾◌, newline, space, indentation, word, punctuator, only_if, joined}
 use Rattle.c_tree.specs.TextExpressions.{Leveled}
 use Rattle.c_tree.specs.TextItems.{Printed, PrintedSection, deeper, list_text, sections_text, case_line, default_line, null_line}
 use Rattle.c_tree.specs.TextItems as text
-use Rattle.c_grammar.specs.declared.class.Class.TheVariants as c
 use Rattle.c_grammar.specs.TokenClasses.{keyword_class}
 use Rattle.c_grammar.specs.ExpressionSyntax.{conditional_end}
 use Rattle.c_grammar.specs.Statements.{NoItems}
 use Rattle.c_grammar.specs.Statements as g
-use Rattle.c_grammar.specs.StatementSyntax.{items_end}
-use Rattle.c_source.specs.Items as source
-use Rattle.c_kinds.specs.Scopes.{Faults}
-use Rattle.c_statements.specs.declared.entries.Entry.{Entry}
-use Rattle.c_statements.specs.Context.{Context, Walk, Around, Before, AtSection, env_at, notes_at}
-use Rattle.c_statements.specs.Sections.{Reading, closed, ended, section}
-use Rattle.c_statements.specs.Statements.{behind_items, list_items, sections_from}
-use Rattle.c_statements.specs.Violations.{list_faults}
-use Rattle.c_statements.specs.Cases.{list_entries}
+use Rattle.c_statements.specs.Context.{Context, Walk, env_at}
 use Rattle.c_resolved.specs.Resolved.{names_in}
-use Rattle.c_resolved.specs.Scopes.{Scope, behind_all}
+use Rattle.c_resolved.specs.Scopes.{Scope}
 use Rattle.c_resolved.specs.Within.{Each}
-use Rattle.c_resolved.specs.Form.{ends_with_break, IsKept}
+use Rattle.c_resolved.specs.Form.{IsKept}
 use Rattle.printed_syntax.specs.Reread.{Spelling}
 use Rattle.printed_syntax.specs.Standing.{Stands}
-use Rattle.printed_syntax.specs.StatementDerivations.{conditional_of, labels_of, labelled, null_statement, starts_with_local, is_nil, ends_with_note, is_last, optional_item, section_end, statement_of, items_of, sections_of}
+use Rattle.printed_syntax.specs.StatementDerivations.{conditional_of, null_statement, starts_with_local, is_nil, ends_with_note, is_last, optional_item, section_end, items_of}
 use Rattle.printed_syntax.proofs.Standings.{past_indentation}
-use Rattle.reread_core.specs.WrittenExpressions.{conditional_form}
 use Rattle.reread_core.specs.WrittenStatements.{written_items}
 use Rattle.reread_core.specs.Keywords.{ItemsHaveKeywords}
 use Rattle.reread_core.specs.Words.{AreWords}
 use Rattle.reread_core.specs.Places.{Standing}
-use Rattle.reread_core.specs.GoodItems.{IsCase, AreGood, SectionsAreGood, slots_in, slots_within}
-use Rattle.reread_core.specs.PlacedNotes.{list_end, trailing, cases_end, default_end, section_labels_end, optional_end_of, has_last, section_list_end, section_ends_at, WithNull, WithLast, NotesOfEnd, NotesOfList, NotesOfSections}
+use Rattle.reread_core.specs.GoodItems.{IsCase}
+use Rattle.reread_core.specs.PlacedNotes.{cases_end, default_end, optional_end_of, has_last, section_ends_at}
 use Rattle.reread_core.proofs.Mirrors.{expression_in, tree_text, text_in}
-use Rattle.reread_core.proofs.ItemMirrors.{a_section, tree_in, printed_tree, forest_in, sections_in, printed_forest, printed_sections}
-use Rattle.reread_core.proofs.ExpressionWords.{as_end, mark_here}
-use Rattle.reread_core.proofs.FullExpressions.{FullReads, chosen_full}
+use Rattle.reread_core.proofs.ItemMirrors.{printed_tree, printed_forest, printed_sections}
+use Rattle.reread_core.proofs.ExpressionWords.{mark_here}
+use Rattle.reread_core.proofs.FullExpressions.{chosen_full}
 use Rattle.reread_core.proofs.DeclarationsRead.{place_at}
-use Rattle.reread_core.proofs.ListsRead.{ReadsList, ListRead, settled, passed, front, all_settled, written_front, end_front, behind_front}
 use Rattle.reread_core.proofs.LeavesRead.{keyword_here, a_mark}
 use Rattle.reread_core.proofs.CaseConstants.{CasesRead}
 use Rattle.reread_core.proofs.SectionSources.{DefaultStands, BeginsStated, BeginsNamed}

@@ -1,67 +1,85 @@
 -- The sections of a printed switch, one after the other.
-use Rattle.std.proofs.Common.{◌≡◌, ◌≤◌, ◌<◌, ◌+◌, ◌⊎◌, inl, inr, ℕ, Bool, true, false, not, ◌&&◌, ◌||◌, cond, List, [], ◌∷◌, ◌++◌, map, length, Option, Some, None, refl, ap, sym, subst, ◌∙◌, arith, append_assoc}
-use Rattle.std.specs.Prelude.{codes, IsTrue, ◌-◌, suc, slice_get}
-use Rattle.std.specs.Option.{option_map_or}
+use Rattle.std.proofs.Common.{◌≡◌, ◌<◌, ◌+◌, ◌⊎◌, ℕ, Bool, true, false, not, ◌&&◌, ◌||◌, List, [], ◌∷◌, ◌++◌, map, length, Option, Some, None, refl, ap, sym, subst, ◌∙◌, arith, append_assoc}
+use Rattle.std.specs.Prelude.{codes, IsTrue}
 use Rattle.c_tree.specs.declared.tree.Function.{Function}
 use Rattle.c_tree.specs.declared.tree.Top.{Top}
 use Rattle.c_tree.specs.declared.tree.Expression.{Expression}
 use Rattle.c_tree.specs.declared.tree.Item.{Item, out-Item, out-roll-Item}
 use Rattle.c_tree.specs.declared.tree.Item as item
-use Rattle.c_tree.specs.declared.tree.Section.{Section as RealSection, out-Section, out-roll-Section}
 use Rattle.c_tree.specs.ExpressionTrees.{ExpressionTree}
 use Rattle.c_tree.specs.Trees.{Tree, Forest, Nil, Then, Sections, NoSection, Section}
 use Rattle.c_tree.specs.Trees as t
-use Rattle.c_tree.specs.TextPieces.{Piece, Text, ◌⨾◌, newline, space, indentation, word, punctuator, only_if, joined}
-use Rattle.c_tree.specs.TextExpressions.{Leveled}
+use Rattle.c_tree.specs.TextPieces.{Piece, Text, ◌⨾◌, newline, space, indentation, punctuator, only_if, joined}
 use Rattle.c_tree.specs.TextItems.{Printed, PrintedSection, deeper, list_text, sections_text, case_line, default_line, null_line}
 use Rattle.c_tree.specs.TextItems as text
-use Rattle.c_grammar.specs.declared.class.Class.TheVariants as c
-use Rattle.c_grammar.specs.TokenClasses.{keyword_class}
-use Rattle.c_grammar.specs.ExpressionSyntax.{conditional_end}
 use Rattle.c_grammar.specs.Statements.{NoItems}
 use Rattle.c_grammar.specs.Statements as g
 use Rattle.c_grammar.specs.StatementSyntax.{items_end}
 use Rattle.c_source.specs.Items as source
 use Rattle.c_kinds.specs.Scopes.{Faults}
 use Rattle.c_statements.specs.declared.entries.Entry.{Entry}
-use Rattle.c_statements.specs.Context.{Context, Walk, Around, Before, AtSection, env_at, notes_at}
-use Rattle.c_statements.specs.Sections.{Reading, closed, ended, section}
+use Rattle.c_statements.specs.Context.{Context, Walk, Around, Before, env_at, notes_at}
+use Rattle.c_statements.specs.Sections.{Reading, closed, ended}
 use Rattle.c_statements.specs.Statements.{behind_items, list_items, sections_from}
 use Rattle.c_statements.specs.Violations.{list_faults}
 use Rattle.c_statements.specs.Cases.{list_entries}
 use Rattle.c_resolved.specs.Resolved.{names_in}
 use Rattle.c_resolved.specs.Scopes.{Scope, behind_all}
-use Rattle.c_resolved.specs.Within.{Each}
-use Rattle.c_resolved.specs.Form.{ends_with_break, IsKept}
+use Rattle.c_resolved.specs.Form.{ends_with_break}
 use Rattle.printed_syntax.specs.Reread.{Spelling}
 use Rattle.printed_syntax.specs.Standing.{Stands}
-use Rattle.printed_syntax.specs.StatementDerivations.{conditional_of, labels_of, labelled, null_statement, starts_with_local, is_nil, ends_with_note, is_last, optional_item, section_end, statement_of, items_of, sections_of}
+use Rattle.printed_syntax.specs.StatementDerivations.{labels_of, labelled, null_statement, starts_with_local, is_nil, ends_with_note, is_last, optional_item, section_end, items_of, sections_of}
 use Rattle.printed_syntax.proofs.Standings.{past_indentation}
-use Rattle.reread_core.specs.WrittenExpressions.{conditional_form}
 use Rattle.reread_core.specs.WrittenStatements.{written_items}
 use Rattle.reread_core.specs.Keywords.{ItemsHaveKeywords}
 use Rattle.reread_core.specs.Words.{AreWords}
 use Rattle.reread_core.specs.Places.{Standing}
-use Rattle.reread_core.specs.GoodItems.{IsCase, AreGood, SectionsAreGood, slots_in, slots_within}
-use Rattle.reread_core.specs.PlacedNotes.{list_end, trailing, cases_end, default_end, section_labels_end, optional_end_of, has_last, section_list_end, section_ends_at, WithNull, WithLast, NotesOfEnd, NotesOfList, NotesOfSections}
-use Rattle.reread_core.proofs.Mirrors.{expression_in, tree_text, text_in}
-use Rattle.reread_core.proofs.ItemMirrors.{a_section, tree_in, printed_tree, forest_in, sections_in, printed_forest, printed_sections}
-use Rattle.reread_core.proofs.ExpressionWords.{as_end, mark_here}
-use Rattle.reread_core.proofs.FullExpressions.{FullReads, chosen_full}
-use Rattle.reread_core.proofs.DeclarationsRead.{place_at}
-use Rattle.reread_core.proofs.ListsRead.{ReadsList, ListRead, settled, passed, front, all_settled, written_front, end_front, behind_front}
+use Rattle.reread_core.specs.GoodItems.{SectionsAreGood, slots_in, slots_within}
+use Rattle.reread_core.specs.PlacedNotes.{list_end, trailing, cases_end, section_labels_end, optional_end_of, has_last, section_ends_at, WithNull, WithLast, NotesOfEnd, NotesOfSections}
+use Rattle.reread_core.proofs.Mirrors.{expression_in}
+use Rattle.reread_core.proofs.ItemMirrors.{a_section, forest_in, sections_in, printed_forest, printed_sections}
+use Rattle.reread_core.proofs.ExpressionWords.{as_end}
+use Rattle.reread_core.proofs.ListsRead.{ReadsList, settled, passed, front, all_settled, written_front, end_front, behind_front}
 use Rattle.reread_core.proofs.LeavesRead.{keyword_here, a_mark}
-use Rattle.reread_core.proofs.CaseConstants.{CasesRead}
-use Rattle.reread_core.proofs.SectionSources.{DefaultStands, BeginsStated, BeginsNamed}
+use Rattle.reread_core.proofs.SectionSources.{BeginsNamed}
 use Rattle.c_kinds.specs.Scopes.{fault_if}
 use Rattle.c_statements.specs.Violations.{outside_faults}
 use Rattle.c_resolved.specs.Switches.{switch_labels, section_labels, arrivals}
 use Rattle.reread_core.proofs.ListsRead.{still}
 use Rattle.reread_core.proofs.CaseConstants.{Match, match_both, section_match, section_entries, constants_are, cases_clear, entries_are}
-use Rattle.reread_core.proofs.SectionSources.{section_list, with_labels, case_constants, reading_of, labelled_written, labelled_end, labelled_keywords, sections_begin, faults_begin, outside_begin, entries_begin, walk_begin}
+use Rattle.reread_core.proofs.SectionSources.{section_list, with_labels, reading_of, labelled_written, labelled_end, labelled_keywords, sections_begin, faults_begin, outside_begin, entries_begin, walk_begin}
 use Rattle.reread_core.proofs.SectionFronts.{sections_front, entries_in, no_arrivals}
 use Rattle.reread_core.proofs.SectionEnds.{ended_here, ended_open, AllKept, all_passed_on}
-use Rattle.reread_core.proofs.SectionsRead.{LabelsRead, cases_read, default_read, NullRead, null_read, EndRead, end_read, Begins, section_begins, begins_same, last_same}
+use Rattle.reread_core.proofs.SectionsRead.{cases_read, default_read, null_read, end_read, section_begins, begins_same, last_same}
+use Rattle.std.specs.Prelude.{option_map, IsSomeAnd}
+use Rattle.c_types.specs.declared.kinds.IntKind.{IntKind}
+use Rattle.c_types.specs.Numbers.{promoted}
+use Rattle.c_tree.specs.declared.tree.Selector as selector
+use Rattle.c_tree.specs.declared.tree.Selector.{Selector, out-Selector, out-roll-Selector}
+use Rattle.c_tree.specs.declared.tree.Selector.TheOpen as OS
+use Rattle.c_tree.specs.declared.tree.Selector.TheVariants as SV
+use Rattle.c_tree.specs.TestTrees.{SelectorTree, Selects, Pick}
+use Rattle.c_tree.specs.Constants.{kind_of}
+use Rattle.c_tree.specs.TextExpressions.{expression_text}
+use Rattle.c_tree.specs.TextItems.{selector_step, selector_text}
+use Rattle.c_grammar.specs.ExpressionSyntax.{expression_end}
+use Rattle.c_kinds.specs.declared.typed.Valued.{Valued}
+use Rattle.c_kinds.specs.Values.{value_of}
+use Rattle.c_kinds.specs.Typing.{typed}
+use Rattle.c_statements.specs.Context.{in_switch, enter}
+use Rattle.c_statements.specs.Declarations.{value_at, value_faults}
+use Rattle.c_statements.specs.Sections.{passed_on}
+use Rattle.c_statements.specs.Cases.{switch_faults}
+use Rattle.c_resolved.specs.Scopes.{inside}
+use Rattle.c_resolved.specs.Switches.{AreLabels}
+use Rattle.printed_syntax.specs.ExpressionDerivations.{derivation_of}
+use Rattle.reread_core.specs.WrittenExpressions.{expression_form}
+use Rattle.reread_core.specs.WrittenStatements.{expression_term}
+use Rattle.reread_core.specs.GoodItems.{IsValueOf}
+use Rattle.reread_core.proofs.Readings.{has_valued, value_is as value_is_read}
+use Rattle.reread_core.proofs.ListsRead.{ReadsOne, entered, left}
+use Rattle.reread_core.proofs.LeavesRead.{full_read, value_here, values_clear}
+use Rattle.reread_core.proofs.CaseConstants.{entries_clear}
 
 -- ---- what the list and the end of a section write
 
@@ -252,7 +270,7 @@ module _ (ts : List Top) (f : Function) (ctx : Context) (tokens : List Spelling)
       let tail = end_source ends (has_last a last) z rest in
       let body = front ts f ctx tokens words y1 a tail in
       let wx : written_items y x0 ≡ opt_null there y body
-          = written_opt there y (items_of f.slots a ends_list) ∙ ap (opt_null there y) (written_front ts f ctx tokens words a y1 ends_list ∙ ap (front ts f ctx tokens words y1 a) (written_end ends a last z others)) in
+      = written_opt there y (items_of f.slots a ends_list) ∙ ap (opt_null there y) (written_front ts f ctx tokens words a y1 ends_list ∙ ap (front ts f ctx tokens words y1 a) (written_end ends a last z others)) in
       let wl : written_items at (labelled (labels_of cases default) x0) ≡ with_labels (section_list at cases default) (written_items y x0) = labelled_written cases at default x0 (n.stated) in
       let bn : BeginsNamed (written_items y x0) = n.named y in
       let list_is : list_items ctx (front ts f ctx tokens words y1 a source.NoItem) w ≡ settled ts f ctx tokens words [] a = u4.items source.NoItem ∙ nothing_behind (settled ts f ctx tokens words [] a) in
@@ -260,11 +278,11 @@ module _ (ts : List Top) (f : Function) (ctx : Context) (tokens : List Spelling)
       let none : arrivals a ≡ [] = no_arrivals ts f ctx a ss k around (g.2) in
       let count : (k + slots_in a) + slots_within c ≡ k + (slots_in a + slots_within c) = omega arith in
       let walked : behind_items ctx (written_items at (labelled (labels_of cases default) x0)) w ≡ behind_items ctx rest w1
-          = ap (λ l. behind_items ctx l w) wl ∙ walk_begin ctx (section_list at cases default) (written_items y x0) w bn ∙ ap (λ l. behind_items ctx l w) wx ∙ null_walk there y body w
-          ∙ behind_front ts f ctx tokens words a y1 tail w ∙ end_walk ends (has_last a last) z rest w1 in
+      = ap (λ l. behind_items ctx l w) wl ∙ walk_begin ctx (section_list at cases default) (written_items y x0) w bn ∙ ap (λ l. behind_items ctx l w) wx ∙ null_walk there y body w
+      ∙ behind_front ts f ctx tokens words a y1 tail w ∙ end_walk ends (has_last a last) z rest w1 in
       let cleared : (vs : Faults) → list_faults ctx around (written_items at (labelled (labels_of cases default) x0)) w vs ≡ vs = λ vs.
-          ap (λ l. list_faults ctx around l w vs) wl ∙ faults_begin ctx around cases at default (written_items y x0) w bn sw (cases_clear env cases at default (u1.reads)) vs
-          ∙ ap (λ l. list_faults ctx around l w vs) wx ∙ null_clear there y around body w vs ∙ u4.clear tail vs ∙ end_clear ends (has_last a last) z around rest w1 vs sw ∙ u6.clear vs in
+      ap (λ l. list_faults ctx around l w vs) wl ∙ faults_begin ctx around cases at default (written_items y x0) w bn sw (cases_clear env cases at default (u1.reads)) vs
+      ∙ ap (λ l. list_faults ctx around l w vs) wx ∙ null_clear there y around body w vs ∙ u4.clear tail vs ∙ end_clear ends (has_last a last) z around rest w1 vs sw ∙ u6.clear vs in
       record {
         behind_it = as_end f.slots tokens ctx.word words (items_end at (labelled (labels_of cases default) x0)) (items_end e others) ps
             (labelled_end cases at default x0 (n.stated) ∙ end_opt there y (items_of f.slots a ends_list) ∙ end_front ts f ctx tokens words a y1 ends_list ∙ end_end ends a last z others) (u6.behind_it);
@@ -272,10 +290,10 @@ module _ (ts : List Top) (f : Function) (ctx : Context) (tokens : List Spelling)
         sections = λ reading.
             ap (λ l. sections_from ctx reading l [] w) wl ∙ sections_begin ctx reading cases at default (written_items y x0) [] w (g.1) bn (p.0)
             ∙ ap (λ l. closed reading ++ l)
-              ((λ i. sections_from ctx (Some (reading_of (constants_are env cases at (u1.reads) ctx i) default [])) (wx i) [] w) ∙ null_step there y es default body w (p.1)
-              ∙ sections_front ts f ctx tokens words a y1 (reading_of es default []) tail [] w ∙ (λ i. sections_from ctx (Some (reading_of es default (list_is i))) tail [] w1)
-              ∙ end_step ends a last z es default rest w1 (p.3) ∙ u6.sections (Some (reading_of es default (with_end ends (forest_in a))))
-              ∙ (λ i. section_ended ends cases default a (g.1) (g.3) i ∷ sections_in c));
+            ((λ i. sections_from ctx (Some (reading_of (constants_are env cases at (u1.reads) ctx i) default [])) (wx i) [] w) ∙ null_step there y es default body w (p.1)
+            ∙ sections_front ts f ctx tokens words a y1 (reading_of es default []) tail [] w ∙ (λ i. sections_from ctx (Some (reading_of es default (list_is i))) tail [] w1)
+            ∙ end_step ends a last z es default rest w1 (p.3) ∙ u6.sections (Some (reading_of es default (with_end ends (forest_in a))))
+            ∙ (λ i. section_ended ends cases default a (g.1) (g.3) i ∷ sections_in c));
         after = u6.after;
         standing = subst (λ v. Standing (names_in ts f) (u6.after) (k + (slots_in a + slots_within c)) v) (sym walked) (subst (λ j. Standing (names_in ts f) (u6.after) j (behind_items ctx rest w1)) count (u6.standing));
         clear = cleared;
@@ -288,3 +306,71 @@ module _ (ts : List Top) (f : Function) (ctx : Context) (tokens : List Spelling)
             ∙ entries_in ts f ctx tokens words a y1 tail w (found ++ new) ∙ end_entries ends (has_last a last) z rest w1 (found ++ new) ∙ u6.entries_are (found ++ new) ∙ append_assoc found new (u6.entries);
         matches = match_both (section_labels cases default) (arrivals a ++ switch_labels c) new (u6.entries) (section_match env cases at default (u1.reads)) (subst (λ l. Match (l ++ switch_labels c) (u6.entries)) (sym none) (u6.matches));
       }
+
+  -- ---- the switch
+
+  all_kept : (c : Sections) (ss : List Scope) (k : ℕ) (around : Around) → SectionsAreGood (names_in ts f) f ctx ss k around c → AllKept c
+  all_kept NoSection ss k around g = tt
+  all_kept (Section cases default a ends c) ss k around g = (g.4, all_kept c _ _ _ (g.5))
+
+  selector_is : (e : Expression) → selector_step f.slots (out-Selector (selector.Source e)) ≡ expression_text f.slots e 1
+  selector_is e = ap (λ x. selector_step f.slots (out-Selector x)) (sym (SV.rolls-Source e)) ∙ ap (selector_step f.slots) (out-roll-Selector (OS.Source e))
+
+  -- the value of a selector behind its bracket, and the closing bracket
+  record SelectorRead (w : Walk) (at : ℕ) (x : ExpressionTree) (ps : List Piece) : Type 0 where
+    value_is : value_at (env_at ctx w) (expression_term at (derivation_of x)) ≡ expression_in x
+    kind : IntKind
+    kind_is : kind_of x ≡ Some kind
+    found : option_map (λ (v : Valued). v.kind) (value_of (typed (env_at ctx w) (expression_term at (derivation_of x)))) ≡ Some kind
+    clear : (vs : Faults) → value_faults (env_at ctx w) (expression_term at (derivation_of x)) vs ≡ vs
+    behind_it : Stands tokens (expression_end at (derivation_of x) + 1) ps
+
+  selector_read : (x : ExpressionTree) (ss : List Scope) (k : ℕ) (w : Walk) (at : ℕ) (ps : List Piece) → Standing (names_in ts f) ss k w → IsValueOf (names_in ts f) ss x → Stands tokens at (selector_text f.slots (selector.Source (expression_in x)) ps) → SelectorRead w (at + 1) x ps
+  selector_read x ss k w at ps h g b =
+      let m = a_mark ts f ctx tokens words at (codes "(") ((selector_step f.slots (out-Selector (selector.Source (expression_in x))) ⨾ punctuator (codes ")")) ps) b in
+      let b1 = subst (λ (y : Text). Stands tokens (at + 1) ((y ⨾ punctuator (codes ")")) ps)) (selector_is (expression_in x)) m in
+      let u = full_read ts f ctx tokens words ss k w (at + 1) x (punctuator (codes ")") ps) h (g.good) b1 in
+      let v = has_valued x (g.kind) in
+      record {
+        value_is = value_here ts f ctx tokens words ss w (at + 1) x _ u (g.kind);
+        kind = v.valued.kind;
+        kind_is = v.kind;
+        found = ap (option_map (λ (y : Valued). y.kind)) (value_is_read (env_at ctx w) (expression_form (at + 1) (derivation_of x)) x (u.reads) (g.kind));
+        clear = λ vs. values_clear ts f ctx tokens words ss w (at + 1) x _ u (g.kind) vs;
+        behind_it = a_mark ts f ctx tokens words (expression_end (at + 1) (derivation_of x)) (codes ")") ps (u.behind_it);
+      }
+
+  switch_clear : (o : Option IntKind) (kind : IntKind) (es : List Entry) (ls : List (Option ExpressionTree)) (vs : Faults) → o ≡ Some kind → Match ls es → AreLabels (promoted kind) ls → switch_faults o es vs ≡ vs
+  switch_clear o kind es ls vs e m h = ap (λ z. switch_faults z es vs) e ∙ entries_clear (promoted kind) ls es m h vs
+
+  pub switch_reads : (s : SelectorTree) (c : Sections) → ReadsSections c → ReadsOne ts f ctx tokens words (t.Switch s c)
+  switch_reads (Selects x) c q ss k around w at depth ps h g p b =
+      let tail = (indentation depth ⨾ punctuator (codes "}") ⨾ newline) ps in
+      let p1 = (space ⨾ punctuator (codes "{") ⨾ newline ⨾ sections_text (printed_sections f c) depth) tail in
+      let m = keyword_here ts f ctx tokens words at (codes "switch") ((space ⨾ selector_text f.slots (selector.Source (expression_in x))) p1) b in
+      let o = selector_read x ss k w (at + 1) p1 h (g.0) (m.1) in
+      let y = expression_end (at + 1 + 1) (derivation_of x) + 1 in
+      let b1 = a_mark ts f ctx tokens words y (codes "{") (newline (sections_text (printed_sections f c) depth tail)) (o.behind_it) in
+      let u = q (inside ss) k (in_switch around) (enter w) (y + 1) depth tail refl (entered (names_in ts f) ss k w h) (g.2) (p.0) b1 in
+      let xs = sections_of f.slots c in
+      let z = items_end (y + 1) xs in
+      let src = written_items (y + 1) xs in
+      let term = expression_term (at + 1 + 1) (derivation_of x) in
+      let env = env_at ctx w in
+      let labels : AreLabels (promoted (o.kind)) (switch_labels c) = holds_of_kind (kind_of x) (o.kind) (λ i. AreLabels i (switch_labels c)) (o.kind_is) (g.1) in
+      record {
+        behind_it = a_mark ts f ctx tokens words z (codes "}") (newline ps) (past_indentation tokens z ((punctuator (codes "}") ⨾ newline) ps) depth (u.behind_it));
+        keywords = (m.0, u.keywords);
+        items = λ i. notes_at ctx (Before at) ++ item.Switch (selector.Source (o.value_is i))
+            ((ap (λ l. passed_on [] false (sections_from ctx None src (map item.Note l) (enter w))) (p.1) ∙ ap (passed_on [] false) (u.sections None) ∙ all_passed_on c (all_kept c (inside ss) k (in_switch around) (g.2))) i) ∷ [];
+        standing = left (names_in ts f) ss (u.after) k (k + slots_within c) w (behind_items ctx src (enter w)) h (u.standing);
+        clear = λ vs.
+            ap (λ l. switch_faults (option_map (λ (v : Valued). v.kind) (value_of (typed env term))) (list_entries ctx src (enter w) []) (outside_faults ctx (in_switch around) src (enter w) l)) (o.clear vs)
+            ∙ ap (λ l. switch_faults (option_map (λ (v : Valued). v.kind) (value_of (typed env term))) (list_entries ctx src (enter w) []) l) (u.outside vs)
+            ∙ ap (λ l. switch_faults (option_map (λ (v : Valued). v.kind) (value_of (typed env term))) l vs) (u.entries_are [])
+            ∙ switch_clear (option_map (λ (v : Valued). v.kind) (value_of (typed env term))) (o.kind) (u.entries) (switch_labels c) vs (o.found) (u.matches) labels;
+      }
+    where
+      holds_of_kind : (o : Option IntKind) (kind : IntKind) (P : IntKind → Type 0) → o ≡ Some kind → IsSomeAnd (option_map promoted o) P → P (promoted kind)
+      holds_of_kind o kind P e h = subst (λ z. IsSomeAnd (option_map promoted z) P) e h
+  switch_reads (Pick l i s) c q ss k around w at depth ps h g p b = absurd (g.0)

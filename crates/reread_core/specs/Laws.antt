@@ -73,6 +73,6 @@ pub record RereadLaws : Type 0 where
   pub expressions : ReadsBackAt 1 (λ at x. expression_node at (derivation_of x)) (λ at x. expression_end at (derivation_of x))
   pub assignments : ReadsBackAt 2 (λ at x. assignment_node at (assignment_of x)) (λ at x. assignment_end at (assignment_of x))
   pub conditionals : ReadsBackAt 3 (λ at x. conditional_node at (conditional_of x)) (λ at x. conditional_end at (conditional_of x))
-  -- and that of a body without switches as the body, where the comments stand where its Notes are printed
+  -- and that of a body as the body, where the comments stand where its Notes are printed
   pub bodies : (ts : List Top) (f : Function) (ctx : Context) (tokens : List Spelling) (ss : List Scope) (k : ℕ) (w : Walk) (at depth : ℕ) (xs : List Item) (ps : List Piece) → AreWords ctx.word tokens → Standing (names_in ts f) ss k w
       → AreGood (names_in ts f) f ctx ss k no_construct (trees_of xs) → NotesOfBody f.slots ctx.notes at (trees_of xs) → Stands tokens at (braced (map (printed f) xs) depth ps) → BodyReads ts f ctx tokens ss k w at xs ps
