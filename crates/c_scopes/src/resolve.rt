@@ -1,0 +1,119 @@
+//! The resolved program of a text, or its first violation.
+
+ghost use Rattle.std.specs.Prelude.{◌≡◌, [], All, IfOk};
+ghost use Rattle.c_lexer.specs.Pieces.{IsWithin};
+ghost use Rattle.c_source.specs.Parts.{file_of};
+ghost use Rattle.c_source.specs.Views.{words_of};
+ghost use Rattle.c_types.specs.Stop.{Gives};
+ghost use Rattle.c_scopes.specs.FileViews as views;
+ghost use Rattle.c_scopes.specs.Files.{file_faults, start, tops_of as the_tops};
+ghost use Rattle.c_scopes.specs.NodeViews.{tops_in};
+ghost use Rattle.c_scopes.specs.Resolving as spec;
+
+use crate::files::{FileContext, read_tops};
+use crate::flat_counter::FlatCounter;
+use crate::function_names::{FunctionNames, bodies_of};
+use crate::functions::Outside;
+use crate::notes::place_notes;
+use crate::violations::{least, refused};
+use c_bodies::State;
+use c_grammar::Syntax;
+use c_kinds::{Fault, Known, Scopes};
+use c_lexer::{Span, Token};
+use c_source::{Words, tops_of};
+use c_tree::{Program, Top};
+use c_types::{List, Memory, ReadStop, Stack};
+use std::alloc::Global;
+
+/// What stands at file scope, and the violations, the last first.
+#[derive(Drop)]
+struct Read {
+    tops: List<Top>,
+    faults: Stack<Fault>,
+}
+
+/// The scopes at the beginning of a file.
+fn start_scopes<'a>(alloc: Global) -> Result<Scopes<'a>, Memory>
+    ensures { IfOk result (λ scopes. scopes ≡ start.scopes) }
+{
+    let mut scopes = Scopes::known(alloc)?;
+    scopes.enter(alloc)?;
+    Ok(scopes)
+}
+
+/// What the nodes of a file are, in a file with these comments and bodies.
+fn read_nodes<'n, 'a, C: FlatCounter>(
+    alloc: Global,
+    counter: &C,
+    file: &FileContext<'n, 'a>,
+    nodes: &[Syntax],
+) -> Result<Read, Memory>
+    ensures tops { IfOk result (λ it. it.tops ≡ the_tops (views.file_of (C.flat counter.now) file.now) (tops_in (words_of file.now.outside.words) nodes.now) start) }
+    ensures faults { IfOk result (λ it. it.faults ≡ file_faults (views.file_of (C.flat counter.now) file.now) (tops_in (words_of file.now.outside.words) nodes.now) start []) }
+{
+    let scopes = start_scopes(alloc)?;
+    let mut state = State {
+        known: Known {
+            words: file.outside.words,
+            scopes,
+        },
+        slots: List::new(alloc),
+        cases: List::new(alloc),
+        faults: Stack::new(alloc),
+    };
+    let mut before = FunctionNames::new(alloc);
+    let tops = read_tops(alloc, counter, file, &mut state, &mut before, nodes)?;
+    Ok(Read {
+        tops,
+        faults: state.faults,
+    })
+}
+
+/// What a syntax of these tokens is, with these comments.
+fn read_file<'a, C: FlatCounter>(
+    alloc: Global,
+    counter: &C,
+    words: &Words<'a>,
+    comments: &[Span],
+    syntax: &Syntax,
+) -> Result<Read, Memory>
+    requires { All (λ comment. IsWithin words.now.text.now comment.start comment.end) comments.now }
+    ensures tops { IfOk result (λ it. it.tops ≡ (spec.program_of (spec.file_at (C.flat counter.now) words.now.text.now words.now.tokens.now comments.now (file_of (words_of words.now) syntax.now)) (file_of (words_of words.now) syntax.now)).tops) }
+    ensures faults { IfOk result (λ it. it.faults ≡ file_faults (spec.file_at (C.flat counter.now) words.now.text.now words.now.tokens.now comments.now (file_of (words_of words.now) syntax.now)) (file_of (words_of words.now) syntax.now) start []) }
+{
+    let nodes = tops_of(words, syntax);
+    let notes = place_notes(alloc, words, nodes, comments)?;
+    let bodies = bodies_of(alloc, words, nodes)?;
+    let outside = Outside {
+        words: *words,
+        notes: &notes,
+    };
+    let file = FileContext {
+        outside,
+        bodies: &bodies,
+    };
+    let read = read_nodes(alloc, counter, &file, nodes)?;
+    Ok(read)
+}
+
+/// The program of a syntax of these tokens of a text, with these comments, or its first violation: the
+/// one with the least place, then the least reason (docs/SUBSET.md).
+pub fn resolve_with<C: FlatCounter>(
+    alloc: Global,
+    counter: &C,
+    text: &[u8],
+    tokens: &[Token],
+    comments: &[Span],
+    syntax: &Syntax,
+) -> Result<Program, ReadStop>
+    requires tokens { All (λ token. IsWithin text.now token.start token.end) tokens.now }
+    requires comments { All (λ comment. IsWithin text.now comment.start comment.end) comments.now }
+    ensures { Gives (λ program. program) result (spec.resolved (C.flat counter.now) text.now tokens.now comments.now syntax.now) }
+{
+    let words = Words { text, tokens };
+    let Read { tops, faults } = read_file(alloc, counter, &words, comments, syntax)?;
+    match least(faults) {
+        None => Ok(Program { tops }),
+        Some(v) => Err(ReadStop::Refused(refused(&words, v))),
+    }
+}
