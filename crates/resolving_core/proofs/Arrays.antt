@@ -1,5 +1,5 @@
 -- Arrays without a violation have a length, and as many initialisers at most.
-use Rattle.std.proofs.Common.{ℕ, suc, ℤ, pos, negsuc, ◌≤◌, ◌<◌, Bool, true, false, cond, not, ◌&&◌, ◌||◌, nat_le, nat_lt, List, [], ◌∷◌, map, length, Option, Some, None, is_some, option_map, ◌≡◌, refl, sym, ap, subst, ◌∙◌, true≢false, arith}
+use Rattle.std.proofs.Common.{ℕ, ℤ, pos, negsuc, ◌≤◌, Bool, true, false, cond, not, ◌&&◌, nat_le, nat_lt, List, [], map, length, Option, Some, None, is_some, option_map, ◌≡◌, refl, sym, subst, ◌∙◌, true≢false, arith}
 use Rattle.std.proofs.lemmas.List.{length-map}
 use Rattle.std.specs.Prelude.{IfSome}
 use Rattle.std.proofs.lemmas.Bool.Decides.{nat_tests}
@@ -9,14 +9,14 @@ use Rattle.c_tree.specs.ExpressionTrees.{expression_tree}
 use Rattle.c_source.specs.Terms.{Term, first_of}
 use Rattle.c_source.specs.Items.{Size, NoSize, Unsized, Sized, Initialiser, NoValue, OneValue, ValueList, Declarator}
 use Rattle.c_kinds.specs.Constants.{constant_of}
-use Rattle.c_kinds.specs.Scopes.{Env, Faults, fault}
+use Rattle.c_kinds.specs.Scopes.{Env, fault}
 use Rattle.c_kinds.specs.Typing.{typed, faults, constant_faults}
 use Rattle.c_statements.specs.declared.extents.Extent.TheVariants.{One, Many}
 use Rattle.c_statements.specs.declared.extents.Length.{Length}
 use Rattle.c_statements.specs.declared.extents.Length.TheVariants.{NoLength, OfList, Constant}
-use Rattle.c_statements.specs.Declarations.{in_bounds, length_in, of_length, constant_extent, extent_of, extent, cells_of, is_out_of_bounds, is_bad_length, is_bad_list, is_bad_value, is_bad_shape, is_bad_array, size_faults, initial}
+use Rattle.c_statements.specs.Declarations.{in_bounds, length_in, of_length, extent_of, extent, cells_of, is_bad_list, is_bad_value, is_bad_shape, is_bad_array, size_faults, initial}
 use Rattle.c_resolved.specs.Files.{IsLength, AreInitialisers}
-use Rattle.resolving_core.proofs.Lists.{none_left, and_left, and_right, or_left, or_right, not_true, not_false}
+use Rattle.resolving_core.proofs.Lists.{none_left, and_left, and_right, or_left, or_right}
 use Rattle.resolving_core.specs.Read.{IsReadInitialiser}
 
 -- no violation: the constant is one

@@ -10,7 +10,7 @@ use Rattle.std.proofs.lemmas.Slice.Eq.{bytes_eq-Decides}
 use Rattle.c_types.specs.Words.{name_cmp}
 use Rattle.c_kinds.specs.declared.binding.Binding.{Binding}
 use Rattle.c_kinds.specs.declared.binding.Binding.TheVariants.{Constant, Global, Local, Function, Printf}
-use Rattle.c_kinds.specs.Scopes.{Env, Scope, Names, found, with_entry, with_name, look_up, bind, is_bound, or_else}
+use Rattle.c_kinds.specs.Scopes.{Scope, Names, found, with_entry, look_up, bind, is_bound, or_else}
 use Rattle.c_resolved.specs.Names as Tree
 use Rattle.c_resolved.specs.Scopes as Scopes
 use Rattle.c_resolved.specs.Scopes.{Meaning}
@@ -43,7 +43,7 @@ found_at q m b e es Equal i h =
 found_at q m b e es Greater i h =
     ap (cond (bytes_eq q e.0) (Some e.1)) h
     ∙ either (bytes_eq q e.0) (bytes_eq q m) (Some e.1) (Some b) (found q es)
-      (λ t u. true≢false (sym (names_same m e.0 (sym (same_names q m u) ∙ same_names q e.0 t)) ∙ sym i))
+    (λ t u. true≢false (sym (names_same m e.0 (sym (same_names q m u) ∙ same_names q e.0 t)) ∙ sym i))
   where
     either : {X : Type 0} (t u : Bool) (a c d : X) → (t ≡ true → u ≡ true → ⊥) → cond t a (cond u c d) ≡ cond u c (cond t a d)
     either true true a c d f = absurd (f refl refl)

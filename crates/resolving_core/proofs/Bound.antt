@@ -1,50 +1,42 @@
 -- Each name of a body without violations is bound to what the tree has there, and none is declared twice in a scope.
-use Rattle.std.proofs.Common.{ℕ, Bool, true, false, not, cond, ◌&&◌, ◌||◌, List, [], ◌∷◌, ◌++◌, append_assoc, map, length, Option, Some, None, option_map, is_some, slice_get, true≢false, ◌≡◌, refl, sym, ap, subst, ◌∙◌}
+use Rattle.std.proofs.Common.{ℕ, Bool, true, false, not, cond, ◌&&◌, ◌||◌, List, [], ◌∷◌, ◌++◌, map, length, Option, Some, None, option_map, is_some, slice_get, true≢false, ◌≡◌, refl, sym, ap, subst, ◌∙◌}
 use Rattle.std.specs.Prelude.{IfSome}
 use Rattle.std.specs.Option.{option_map_or}
 use Rattle.std.proofs.lemmas.List.{append-nil}
 use Rattle.c_tree.specs.declared.tree.Slot.{Slot}
 use Rattle.c_tree.specs.declared.tree.Item as item
 use Rattle.c_tree.specs.declared.tree.Section.{Section}
-use Rattle.c_tree.specs.declared.tree.Expression.{Expression}
 use Rattle.c_tree.specs.declared.tree.Test as test
 use Rattle.c_tree.specs.declared.tree.Selector as selector
 use Rattle.c_tree.specs.ExpressionTrees.{ExpressionTree, expression_tree}
 use Rattle.c_tree.specs.Trees.{Tree, Forest, SectionTree, Nil, join, expression_trees, tree_of, trees_of, section_tree, sections, sections_of}
 use Rattle.c_tree.specs.Trees as tree
-use Rattle.c_tree.specs.Everywhere.{Everywhere, EverywhereOf, EverywhereIn}
-use Rattle.c_tree.proofs.KeptLemmas.{everywhere_join}
 use Rattle.c_tree.proofs.ExpressionLaws.{test-Source, selector-Source}
 use Rattle.c_tree.proofs.TreeLaws.{tree-Evaluate, tree-Return, tree-If, tree-While, tree-Do, tree-For, tree-Switch, tree-Block, tree-Local, tree-Break, tree-Continue, tree-Goto, tree-Mark, tree-Arrival, tree-Note, trees-none, trees-more, trees-append}
 use Rattle.c_types.specs.declared.kinds.IntKind.{IntKind}
 use Rattle.c_source.specs.Terms.{Term}
 use Rattle.c_source.specs.Items.{Declarator, Declaration, Label, Named, Case, Default, Start, NoStart, StartValue, StartNames, Item, Declares, States, Plain, From, Statement, Null, Evaluate, If, IfElse, While, DoWhile, For, Switch, Block, Goto, Break, Continue, Return, Unread, Body, Braces, Lone, Items, NoItem}
 use Rattle.c_source.specs.Items as items
-use Rattle.c_kinds.specs.Scopes.{Scope, Faults, fault_if}
-use Rattle.c_kinds.specs.Typing.{typed, constant_faults}
-use Rattle.c_kinds.specs.Values.{value_of}
+use Rattle.c_kinds.specs.Scopes.{Scope, fault_if}
+use Rattle.c_kinds.specs.Typing.{constant_faults}
 use Rattle.c_statements.specs.declared.extents.Kinded.{Kinded}
-use Rattle.c_statements.specs.Cases.{switch_faults, body_entries}
-use Rattle.c_statements.specs.Context.{Anchor, Before, AtEnd, AtSection, Context, Walk, env_at, env_in, enter, leave, notes_at, number_in, has_label, Around, in_loop, in_switch}
+use Rattle.c_statements.specs.Context.{Anchor, Before, AtEnd, AtSection, Context, Walk, env_at, env_in, enter, notes_at, number_in, Around, in_loop, in_switch}
 use Rattle.c_statements.specs.Declarations.{shape_of, slot_of, kinded, declared, all_declared, local, locals, initial, value_at, constant_at, value_faults, local_faults, locals_faults}
-use Rattle.c_statements.specs.Labels.{has_case, mark, label_items, labels_items, section_marks, section_cases, has_default, label_faults, labels_faults}
-use Rattle.c_statements.specs.Sections.{Reading, extended, ended, closed, passed_on}
+use Rattle.c_statements.specs.Labels.{has_case, mark, label_items, labels_items, section_marks, section_cases, label_faults, labels_faults}
+use Rattle.c_statements.specs.Sections.{Reading, extended, closed, passed_on}
 use Rattle.c_statements.specs.Statements.{behind_start, behind_item, behind_plain, behind_body, behind_items, declared_by, dropped_at, test_at, start_items, begun, a_switch, item_items, plain_items, statement_items, body_items, list_items, switch_sections, sections_from, sections_at}
 use Rattle.c_statements.specs.Statements as statements
 use Rattle.c_statements.specs.Violations.{dropped_faults, optional_faults, start_faults, return_faults, item_faults, plain_faults, statement_faults, body_faults, list_faults, switch_body_faults, outside_faults, outside_fault}
 use Rattle.c_resolved.specs.Form.{ends_with_break}
-use Rattle.c_resolved.specs.Within.{Each, CaseExpressions}
-use Rattle.resolving_core.proofs.Lists.{none_left, clean_if, not_true, each_map, each_append}
-use Rattle.resolving_core.specs.Read.{IsReadTerm, IsReadDeclarator, IsReadDeclaration, IsReadLabel, IsReadStart, IsReadItem, IsReadPlain, IsReadStatement, IsReadBody, AreReadItems}
-use Rattle.resolving_core.proofs.Empty.{constant_empty, labels_empty}
+use Rattle.c_resolved.specs.Within.{Each}
+use Rattle.resolving_core.proofs.Lists.{none_left, each_append}
+use Rattle.resolving_core.specs.Read.{IsReadTerm, IsReadDeclarator, IsReadLabel, IsReadStart, IsReadItem, IsReadPlain, IsReadStatement, IsReadBody, AreReadItems}
+use Rattle.resolving_core.proofs.Empty.{constant_empty}
 use Rattle.resolving_core.proofs.Parts.{parted, locals_parts, labels_parts, states_parts, list_parts, if_parts, if_else_parts, while_parts, do_parts, for_parts, switch_parts, Outside, outside_declares, outside_parts, outside_one}
-use Rattle.resolving_core.proofs.Grown.{Grown, locals_grow, start_grows, item_grows, plain_grows, body_grows, list_grows, switch_grows, outside_grows}
+use Rattle.resolving_core.proofs.Grown.{Grown, locals_grow, body_grows, list_grows, outside_grows}
 use Rattle.resolving_core.proofs.SectionTrees.{later_break, section_of, ended_tree, has_entry, without_end, passes, with_entries, passed_trees, passed_same, ended_same, sections_are}
-
 use Rattle.c_tree.specs.declared.tree.Home.TheVariants as H
 use Rattle.c_tree.specs.TextExpressions.{slot_name}
-use Rattle.c_tree.specs.TestTrees.{SelectorTree, TestTree}
-use Rattle.c_tree.specs.Cases.{selector_source}
 use Rattle.c_kinds.specs.declared.binding.Binding.{Binding}
 use Rattle.c_kinds.specs.declared.binding.Binding.TheVariants as B
 use Rattle.c_kinds.specs.Scopes.{found, is_bound, bind}
@@ -52,7 +44,7 @@ use Rattle.c_resolved.specs.Names.{Names}
 use Rattle.c_resolved.specs.Scopes as Scopes
 use Rattle.c_resolved.specs.Scopes.{AVariable, NameIsBound, IsBound, IsNew, ItemIsBound, AreBound, SectionsAreBound, behind, behind_all, inside}
 use Rattle.resolving_core.proofs.Bindings.{knows_inside}
-use Rattle.resolving_core.proofs.Declared.{knows_declared, slot_there, slot_shape, values_are}
+use Rattle.resolving_core.proofs.Declared.{knows_declared, slot_there, values_are}
 use Rattle.resolving_core.proofs.Empty.{value_empty}
 use Rattle.resolving_core.proofs.FileNames.{Same, meaning_of}
 use Rattle.resolving_core.proofs.FileScope.{same_new}
@@ -232,10 +224,11 @@ module _ (ctx : Context) (n : Names) where
       let after = at_declared k d w ss a e b in
       let ss' = Scopes.bind (ctx.word d.name) (AVariable (H.Slot (length w.slots))) ss in
       let same : behind n.slots ss (tree.Local (length w.slots) (option_map expression_trees given)) ≡ ss' = ap (λ m. Scopes.bind m (AVariable (H.Slot (length w.slots))) ss) name in
-      binds_one ss ss' (local ctx.word k d w) _ (tree-Local (length w.slots) given)
-      (subst (λ m. IsNew m ss) (sym name) (nearest_new w.scopes ss (ctx.word d.name) a.nearest p.new),
-       subst (λ z. IfSome (option_map expression_trees given) (Each (IsBound n.slots z))) (sym same)
-         (values_are ctx.word (value_faults (env_in ctx.word v)) (value_empty (env_in ctx.word v)) (value_at (env_in ctx.word v)) (IsBound n.slots ss') (λ t rt et. value_bound v ss' t after rt et) d.value r.value p.values))
+      binds_one ss ss' (local ctx.word k d w) _ (tree-Local (length w.slots) given) (
+        subst (λ m. IsNew m ss) (sym name) (nearest_new w.scopes ss (ctx.word d.name) a.nearest p.new),
+        subst (λ z. IfSome (option_map expression_trees given) (Each (IsBound n.slots z))) (sym same)
+            (values_are ctx.word (value_faults (env_in ctx.word v)) (value_empty (env_in ctx.word v)) (value_at (env_in ctx.word v)) (IsBound n.slots ss') (λ t rt et. value_bound v ss' t after rt et) d.value r.value p.values),
+      )
       same
 
   locals_bind : (k : Kinded) (ds : List Declarator) (w : Walk) (ss : List Scopes.Scope) → At w ss → Each (IsReadDeclarator ctx.word) ds → locals_faults ctx.word k ds w [] ≡ [] → Ends (all_declared ctx.word k ds w)
@@ -403,11 +396,12 @@ module _ (ctx : Context) (n : Names) where
         let g = begins_before inner.slots (behind_body ctx b inner).slots n.slots (body_grows ctx Any (λ k d w r e. tt) (in_loop around) b inner r.3 p.3) z in
         let s = start_binds start (enter w) (inside ss) (at_inside w ss a) r.0 p.0 g in
         let same = sym s.binds.behind_it in
-        binds_one ss ss (item.For f x y k) _ (tree-For f x y k)
-        (s.binds.bound,
-         subst (λ q. IfSome (option_map expression_tree x) (IsBound n.slots q)) same (values_bound inner s.ss' t s.at r.1 p.1),
-         subst (λ q. IfSome (option_map expression_tree y) (IsBound n.slots q)) same (drops_bound inner s.ss' u s.at r.2 p.2),
-         subst (λ q. AreBound n.slots (inside q) (trees_of k)) same (body_bound (in_loop around) b inner s.ss' s.at r.3 p.3 z)) refl
+        binds_one ss ss (item.For f x y k) _ (tree-For f x y k) (
+          s.binds.bound,
+          subst (λ q. IfSome (option_map expression_tree x) (IsBound n.slots q)) same (values_bound inner s.ss' t s.at r.1 p.1),
+          subst (λ q. IfSome (option_map expression_tree y) (IsBound n.slots q)) same (drops_bound inner s.ss' u s.at r.2 p.2),
+          subst (λ q. AreBound n.slots (inside q) (trees_of k)) same (body_bound (in_loop around) b inner s.ss' s.at r.3 p.3 z),
+        ) refl
     statement_binds around first (Switch t b) w ss a r e z =
         let p = switch_parts ctx around w first t b e in
         let v = value_at (env_at ctx w) t in

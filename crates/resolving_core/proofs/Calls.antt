@@ -1,14 +1,13 @@
 -- Calls: arguments without a violation are those that the function takes.
-use Rattle.std.proofs.Common.{inl, inr, ℕ, suc, ℤ, Bool, true, false, not, cond, ◌&&◌, ◌||◌, ◌==◌, List, [], ◌∷◌, ◌++◌, map, length, Option, Some, None, is_some, option_map, ◌≡◌, refl, sym, ap, subst, ◌∙◌, true≢false, arith}
-use Rattle.std.specs.Prelude.{◌⊎◌, IfSome, IsSomeAnd, IsSome}
+use Rattle.std.proofs.Common.{inl, inr, ℕ, Bool, true, false, not, cond, ◌&&◌, ◌||◌, ◌==◌, List, [], ◌∷◌, ◌++◌, map, length, Option, Some, None, is_some, option_map, ◌≡◌, refl, sym, ap, subst, ◌∙◌, true≢false, arith}
+use Rattle.std.specs.Prelude.{◌⊎◌, IsSome}
 use Rattle.std.proofs.lemmas.Bool.{eqb-true}
 use Rattle.c_types.specs.declared.kinds.IntKind.{IntKind}
 use Rattle.c_types.specs.declared.kinds.IntKind.TheVariants.{Char, UChar, Int, UInt, Long, ULong}
 use Rattle.c_tree.specs.declared.tree.Slot.{Slot}
-use Rattle.c_tree.specs.declared.tree.Home.{Home}
 use Rattle.c_tree.specs.declared.tree.Expression.{Expression}
 use Rattle.c_tree.specs.declared.tree.Node as node
-use Rattle.c_tree.specs.ExpressionTrees.{ExpressionTree, Arguments, Typed, Text, Array, Call, NoArgument, Argument, arguments, expression_tree, node_tree}
+use Rattle.c_tree.specs.ExpressionTrees.{ExpressionTree, Arguments, Typed, Text, Array, Call, NoArgument, Argument, arguments, expression_tree}
 use Rattle.c_tree.specs.Constants.{kind_of}
 use Rattle.c_tree.proofs.ExpressionLaws.{node-Text, node-Array, node-Call}
 use Rattle.c_kinds.specs.declared.binding.Want.{Want}
@@ -21,20 +20,19 @@ use Rattle.c_kinds.specs.declared.typed.Typed.TheVariants as T
 use Rattle.c_kinds.specs.declared.typed.Given.{Given}
 use Rattle.c_kinds.specs.declared.typed.Valued.{Valued}
 use Rattle.c_kinds.specs.declared.typed.ArrayName.{ArrayName}
-use Rattle.c_kinds.specs.Formats as Formats
 use Rattle.c_kinds.specs.Marks as Marks
-use Rattle.c_kinds.specs.Scopes.{Faults, fault, fault_if}
-use Rattle.c_kinds.specs.Values.{expression_of, expression, of_result, use_fault}
-use Rattle.c_kinds.specs.Calls.{same_kind, same_truth, array_fits, array_expression, fits, each_fits, all_fit, handed, all_handed, call, text_of, printing, formatted, printf, called, array_fault, number_fault, array_want_fault, sized_fault, argument_fault, argument_faults, wanted_faults, printing_faults, format_faults, printf_faults, call_faults, text_faults}
-use Rattle.c_resolved.specs.Within.{Each, Within, ArgumentsWithin}
+use Rattle.c_kinds.specs.Scopes.{Faults, fault}
+use Rattle.c_kinds.specs.Values.{expression_of, expression, of_result}
+use Rattle.c_kinds.specs.Calls.{same_kind, same_truth, array_expression, fits, each_fits, all_fit, handed, all_handed, call, text_of, printing, formatted, printf, called, array_fault, argument_fault, argument_faults, wanted_faults, printing_faults, format_faults, printf_faults, call_faults, text_faults}
+use Rattle.c_resolved.specs.Within.{Each, ArgumentsWithin}
 use Rattle.c_resolved.specs.Names as Tree
 use Rattle.c_resolved.specs.Names.{Names, Callee, callee}
-use Rattle.c_resolved.specs.Kinds.{IsOperand, HasValue, KeepsConst, IsArrayFor, FitsCells, ArgumentFits, ArgumentsFit, is_wide, wanted, ValuesFit, FormatFits, CallFits}
+use Rattle.c_resolved.specs.Kinds.{HasValue, KeepsConst, IsArrayFor, FitsCells, ArgumentFits, ArgumentsFit, is_wide, wanted, ValuesFit, FormatFits, CallFits}
 use Rattle.c_resolved.specs.Scopes as Scopes
 use Rattle.c_resolved.specs.Scopes.{Scope, AFunction}
-use Rattle.resolving_core.proofs.Lists.{none_left, clean_if, and_left, and_right, or_left, or_right, not_true, the_some, is_some_and}
-use Rattle.resolving_core.proofs.Known.{HasShape, WantAgrees, WantsAgree, CalleeAgrees, IsKnown}
-use Rattle.resolving_core.proofs.Values.{expression_rolls, value_tree, value_rolls, void_rolls, IsSound, Sound, Operand, SoundTyped, SoundArray, SoundValue, KnownIf}
+use Rattle.resolving_core.proofs.Lists.{none_left, clean_if, not_true, the_some, is_some_and}
+use Rattle.resolving_core.proofs.Known.{WantAgrees, WantsAgree, CalleeAgrees}
+use Rattle.resolving_core.proofs.Values.{expression_rolls, value_rolls, void_rolls, IsSound, Sound, Operand, SoundTyped, SoundArray, SoundValue, KnownIf}
 use Rattle.resolving_core.proofs.Formats.{sizes, wanted_same}
 
 pub same_kind_is : (j k : IntKind) → same_kind j k ≡ true → j ≡ k
@@ -123,17 +121,19 @@ module _ (n : Names) (ss : List Scope) where
       let c = clean_if (a.constant && not constant) a.token 26 _ x.0 in
       let k = clean_if (not (same_kind kind a.kind)) first 22 vs c.0 in
       let same = not_true (same_kind kind a.kind) k.1 in
-      let keep = keeps a.constant constant c.1 in
-      (k.0, record {
-        e = array_expression a;
-        passed = refl;
-        fitting = both_true (same_kind kind a.kind && (constant || not a.constant)) (not external) (both_true (same_kind kind a.kind) (constant || not a.constant) same keep.1) (ap not x.1);
-        sound = array_is a h;
-        agrees = λ defined s w.
-            fits_array s.cells _ _ w.2
-            (subst (IsArrayFor n defined s) (sym (array_rolls a)) (array_for a defined s h (inside external defined w.3 x.1) (w.0 ∙ same_kind_is kind a.kind same) (at_parameter s w.1 keep.0)));
-        suits = tt;
-      })
+      let keep = keeps a.constant constant c.1 in (
+        k.0,
+        record {
+          e = array_expression a;
+          passed = refl;
+          fitting = both_true (same_kind kind a.kind && (constant || not a.constant)) (not external) (both_true (same_kind kind a.kind) (constant || not a.constant) same keep.1) (ap not x.1);
+          sound = array_is a h;
+          agrees = λ defined s w.
+              fits_array s.cells _ _ w.2
+              (subst (IsArrayFor n defined s) (sym (array_rolls a)) (array_for a defined s h (inside external defined w.3 x.1) (w.0 ∙ same_kind_is kind a.kind same) (at_parameter s w.1 keep.0)));
+          suits = tt;
+        },
+      )
     where
       inside : (external defined : Bool) → external ≡ not defined → external ≡ false → defined ≡ true
       inside external true e f = refl
@@ -158,15 +158,17 @@ module _ (n : Names) (ss : List Scope) where
   argument_clean (want.Array kind constant external) first (T.Array a) vs e h = array_argument kind constant external first a vs e h
   argument_clean (want.Sized wide) first (T.Value v) vs e h =
       let c = clean_if (not (same_truth wide (Marks.is_wide v.kind))) first 40 vs e in
-      let same = not_true (same_truth wide (Marks.is_wide v.kind)) c.1 in
-      (c.0, record {
-        e = expression v;
-        passed = refl;
-        fitting = same;
-        sound = value_sound v h;
-        agrees = λ defined s w. absurd w;
-        suits = subst (Suits (want.Sized wide)) (sym (value_rolls v)) (record { operand = h.1; kind = tt }, sym (same_truth_is wide (Marks.is_wide v.kind) same ∙ wide_same v.kind));
-      })
+      let same = not_true (same_truth wide (Marks.is_wide v.kind)) c.1 in (
+        c.0,
+        record {
+          e = expression v;
+          passed = refl;
+          fitting = same;
+          sound = value_sound v h;
+          agrees = λ defined s w. absurd w;
+          suits = subst (Suits (want.Sized wide)) (sym (value_rolls v)) (record { operand = h.1; kind = tt }, sym (same_truth_is wide (Marks.is_wide v.kind) same ∙ wide_same v.kind));
+        },
+      )
   argument_clean (want.Sized wide) first (T.Void a) vs e h = absurd (none_left _ vs e)
   argument_clean (want.Sized wide) first (T.Text bytes) vs e h = absurd (none_left _ vs e)
   argument_clean (want.Sized wide) first (T.Array a) vs e h = absurd (none_left _ vs e)
@@ -269,9 +271,11 @@ module _ (n : Names) (ss : List Scope) where
       let es = all_handed gs in
       let text = expression_of None (node.Text bytes) in
       let fit = subst (λ x. FormatFits (Argument x (tree_list es))) (sym (text_rolls bytes)) (is_some_and (λ ws. ValuesFit ws (tree_list es)) (wanted bytes) bs w (r.2.suits bs refl)) in
-      let sound = subst (Sound n ss) (sym (text_rolls bytes)) ((refl, tt, tt), tt) in
-      (r.0, call_sound (Some Int) m (text ∷ []) (sizes bs) gs r.1
-        ((subst (λ c. CallFits n (Some Int) c (Argument (expression_tree text) (tree_list es))) (sym k.0) (refl, fit), tt, k.1), (sound, r.2.within)))
+      let sound = subst (Sound n ss) (sym (text_rolls bytes)) ((refl, tt, tt), tt) in (
+        r.0,
+        call_sound (Some Int) m (text ∷ []) (sizes bs) gs r.1
+            ((subst (λ c. CallFits n (Some Int) c (Argument (expression_tree text) (tree_list es))) (sym k.0) (refl, fit), tt, k.1), (sound, r.2.within)),
+      )
 
   printf_clean : (at : ℕ) (m : List ℕ) (gs : List Given) (vs : Faults) → printf_faults at gs vs ≡ [] → Each (λ (g : Given). SoundTyped n ss g.typed) gs
       → (callee n m ≡ Tree.Printf) × (Scopes.look_up ss m ≡ Some AFunction) → (vs ≡ []) × SoundTyped n ss (printf m gs)

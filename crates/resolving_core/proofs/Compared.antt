@@ -1,77 +1,51 @@
 -- The labels of a switch, nested ones among them: constants, one default at most, and distinct after conversion.
-use Rattle.std.proofs.Common.{ℕ, Bool, true, false, not, cond, ◌&&◌, ◌||◌, List, [], ◌∷◌, ◌++◌, append_assoc, map, length, Option, Some, None, option_map, is_some, append_assoc, true≢false, arith, length-append, ◌≡◌, refl, sym, ap, subst, ◌∙◌}
+use Rattle.std.proofs.Common.{ℕ, Bool, true, false, not, cond, ◌&&◌, ◌||◌, List, [], ◌∷◌, ◌++◌, append_assoc, map, length, Option, Some, None, option_map, append_assoc, true≢false, arith, ◌≡◌, refl, sym, ap, subst, ◌∙◌}
 use Rattle.std.specs.Prelude.{ℤ, ◌+◌, ◌≤◌}
-use Rattle.c_tree.specs.declared.tree.Slot.{Slot}
 use Rattle.c_tree.specs.declared.tree.Item as item
 use Rattle.c_tree.specs.declared.tree.Section.{Section}
-use Rattle.c_tree.specs.declared.tree.Expression.{Expression}
 use Rattle.c_tree.specs.declared.tree.Test as test
 use Rattle.c_tree.specs.declared.tree.Selector as selector
-use Rattle.c_tree.specs.ExpressionTrees.{ExpressionTree, expression_tree}
-use Rattle.c_tree.specs.TestTrees.{TestTree, SelectorTree}
+use Rattle.c_tree.specs.ExpressionTrees.{ExpressionTree}
 use Rattle.c_tree.specs.Trees.{Tree, Forest, SectionTree, Nil, join, expression_trees, tree_of, trees_of, section_tree, sections, sections_of}
 use Rattle.c_tree.specs.Trees as tree
-use Rattle.c_tree.specs.Everywhere.{Everywhere, EverywhereOf, EverywhereIn}
-use Rattle.c_tree.proofs.KeptLemmas.{everywhere_join}
-use Rattle.c_tree.proofs.ExpressionLaws.{test-Source, selector-Source}
-use Rattle.c_tree.proofs.TreeLaws.{tree-Evaluate, tree-Return, tree-If, tree-While, tree-Do, tree-For, tree-Switch, tree-Block, tree-Local, tree-Break, tree-Continue, tree-Goto, tree-Mark, tree-Arrival, tree-Note, trees-none, trees-more, trees-append}
+use Rattle.c_tree.proofs.TreeLaws.{tree-Evaluate, tree-Return, tree-If, tree-While, tree-Do, tree-For, tree-Switch, tree-Block, tree-Break, tree-Continue, tree-Goto, trees-none, trees-append}
 use Rattle.c_types.specs.declared.kinds.IntKind.{IntKind}
-use Rattle.c_source.specs.Terms.{Term}
 use Rattle.c_source.specs.Items.{Declarator, Declaration, Label, Named, Case, Default, Start, NoStart, StartValue, StartNames, Item, Declares, States, Plain, From, Statement, Null, Evaluate, If, IfElse, While, DoWhile, For, Switch, Block, Goto, Break, Continue, Return, Unread, Body, Braces, Lone, Items, NoItem}
 use Rattle.c_source.specs.Items as items
-use Rattle.c_kinds.specs.Scopes.{Scope, Faults, fault_if}
-use Rattle.c_kinds.specs.Typing.{typed, constant_faults}
-use Rattle.c_kinds.specs.Values.{value_of}
-use Rattle.c_statements.specs.declared.extents.Kinded.{Kinded}
-use Rattle.c_statements.specs.Context.{Anchor, Before, AtEnd, AtSection, Context, Walk, env_at, env_in, enter, leave, notes_at, number_in, has_label, Around, in_loop, in_switch}
-use Rattle.c_statements.specs.Declarations.{kinded, declared, all_declared, local, locals, initial, value_at, constant_at, value_faults, local_faults, locals_faults}
-use Rattle.c_statements.specs.Labels.{has_case, mark, label_items, labels_items, section_marks, section_cases, has_default, label_faults, labels_faults}
-use Rattle.c_statements.specs.Sections.{Reading, extended, ended, closed, passed_on}
+use Rattle.c_kinds.specs.Scopes.{fault_if}
+use Rattle.c_statements.specs.Context.{Before, AtEnd, AtSection, Context, Walk, env_at, enter, notes_at, number_in, Around, in_loop}
+use Rattle.c_statements.specs.Declarations.{kinded, locals, value_at}
+use Rattle.c_statements.specs.Labels.{has_case, labels_items, section_marks, section_cases, has_default}
+use Rattle.c_statements.specs.Sections.{Reading, extended, closed, passed_on}
 use Rattle.c_statements.specs.Statements.{behind_start, behind_item, behind_plain, behind_body, behind_items, declared_by, dropped_at, test_at, start_items, begun, a_switch, item_items, plain_items, statement_items, body_items, list_items, switch_sections, sections_from, sections_at}
 use Rattle.c_statements.specs.Statements as statements
-use Rattle.c_statements.specs.Violations.{dropped_faults, optional_faults, start_faults, return_faults, item_faults, plain_faults, statement_faults, body_faults, list_faults, switch_body_faults, outside_faults, outside_fault}
+use Rattle.c_statements.specs.Violations.{item_faults, plain_faults, statement_faults, body_faults, list_faults, switch_body_faults, outside_faults, outside_fault}
 use Rattle.c_resolved.specs.Form.{ends_with_break}
-use Rattle.c_resolved.specs.Within.{Each, CaseExpressions}
-use Rattle.resolving_core.proofs.Lists.{none_left, clean_if, not_true, each_map, each_append}
-use Rattle.resolving_core.specs.Read.{IsReadTerm, IsReadDeclarator, IsReadDeclaration, IsReadLabel, IsReadStart, IsReadItem, IsReadPlain, IsReadStatement, IsReadBody, AreReadItems}
-use Rattle.resolving_core.proofs.Empty.{constant_empty, labels_empty}
-use Rattle.resolving_core.proofs.Parts.{parted, locals_parts, labels_parts, states_parts, list_parts, if_parts, if_else_parts, while_parts, do_parts, for_parts, switch_parts, Outside, outside_declares, outside_parts, outside_one}
-use Rattle.resolving_core.proofs.Grown.{Grown, locals_grow, start_grows, item_grows, plain_grows, body_grows, list_grows, switch_grows, outside_grows}
+use Rattle.c_resolved.specs.Within.{Each}
+use Rattle.resolving_core.proofs.Lists.{none_left, clean_if, each_map}
+use Rattle.resolving_core.proofs.Parts.{parted, states_parts, list_parts, if_parts, if_else_parts, while_parts, do_parts, for_parts, Outside, outside_declares, outside_parts, outside_one}
 use Rattle.resolving_core.proofs.SectionTrees.{later_break, section_of, ended_tree, has_entry, without_end, passes, with_entries, passed_trees, passed_same, ended_same, sections_are}
 use Rattle.c_tree.specs.Constants.{constant_value}
-use Rattle.c_kinds.specs.Constants.{constant_of}
-use Rattle.c_kinds.specs.Scopes.{Env}
-use Rattle.c_kinds.specs.Values.{expression}
-use Rattle.c_kinds.specs.declared.typed.Typed as kinds
-use Rattle.c_kinds.specs.declared.typed.Typed.TheVariants as T
 use Rattle.c_statements.specs.declared.entries.Entry.{Entry}
 use Rattle.c_statements.specs.declared.entries.Entry.TheVariants.{Value, Other}
 use Rattle.c_statements.specs.Cases.{label_entries, item_entries, plain_entries, statement_entries, body_entries, list_entries}
-use Rattle.c_statements.specs.Declarations.{constant_or_placeholder}
 use Rattle.c_resolved.specs.Switches.{arrivals, arrivals_of, section_labels, switch_labels, cases_among, defaults_among, IsConstantValue}
 use Rattle.resolving_core.specs.Read.{label_cases, item_cases, plain_cases, statement_cases, body_cases, list_cases}
-use Rattle.resolving_core.proofs.Arrays.{constant_there}
-use Rattle.resolving_core.proofs.Uses.{value_found}
-use Rattle.resolving_core.proofs.Values.{value_tree, value_rolls}
 use Rattle.std.proofs.lemmas.List.{append-nil}
-
-use Rattle.std.specs.Prelude.{◌<ℤ◌, ◌≢◌, ◌<◌, IsSomeAnd}
+use Rattle.std.specs.Prelude.{◌<ℤ◌, ◌≢◌, ◌<◌}
 use Rattle.std.specs.Cmp.{int_ranks}
-use Rattle.std.specs.BTreeSet.{insert_key}
 use Rattle.std.specs.declared.cmp.Ordering.{Ordering}
 use Rattle.std.specs.declared.cmp.Ordering.TheVariants.{Less, Equal, Greater}
 use Rattle.std.specs.Ordering.{int_cmp, is_eq, match_ordering, MatchOrdering}
 use Rattle.std.proofs.lemmas.Int.{ints}
-use Rattle.c_types.specs.Numbers.{promoted, converted}
+use Rattle.c_types.specs.Numbers.{converted}
 use Rattle.c_tree.specs.Cases.{case_number}
-use Rattle.c_tree.specs.Constants.{kind_of}
-use Rattle.c_statements.specs.Cases.{is_among, with_value, entry_faults, switch_faults}
+use Rattle.c_statements.specs.Cases.{is_among, with_value, entry_faults}
 use Rattle.c_resolved.specs.Switches.{AreLabels}
 use Rattle.c_resolved.specs.Within.{AllDiffer}
-use Rattle.resolving_core.specs.Read.{IsReadTerm}
 use Rattle.resolving_core.proofs.Empty.{entries_empty}
 use Rattle.resolving_core.proofs.Lists.{each_map, or_left, or_right}
-use Rattle.resolving_core.proofs.Entries.{vals, others, cases-append, defaults-append, arrivals-join, own_cases, own_defaults, Adds, adds_none, adds_both, adds_as, C, D, AddsItems, none_of, both_of, one_of, still, front, back, more_of, notes_of, behind_notes, mark_of, marks_of, locals_of, labels_of, section_of_labels}
+use Rattle.resolving_core.proofs.Entries.{vals, others, cases-append, defaults-append, arrivals-join, own_cases, own_defaults, Adds, adds_none, adds_both, adds_as, C, D, AddsItems, none_of, both_of, one_of, still, front, back, more_of, notes_of, behind_notes, marks_of, locals_of, labels_of, section_of_labels}
 
 -- ---- numbers that differ
 
@@ -317,7 +291,8 @@ module _ (ctx : Context) where
       let q = ap SC (sym (append-nil (closed o))) ∙ closed_cases o [] in
       let s = ap SD (sym (append-nil (closed o))) ∙ closed_defaults o [] in
       record {
-        more = []; d = 0;
+        more = [];
+        d = 0;
         cases = q ∙ ap (λ x. x ++ []) (extended_cases (Some r) notes ∙ (ap (λ x. RC (Some r) ++ x) (quiet_cases found notes h) ∙ append-nil (RC (Some r))));
         defaults = let a = s in let b = extended_defaults (Some r) notes in let c = quiet_defaults found notes h in omega arith;
         adds = adds_none found;
@@ -326,7 +301,8 @@ module _ (ctx : Context) where
   -- items at the end of the section
   next_from : (found mid es : List Entry) (o : Option Reading) (new : List item.Item) (cs : List Section) (k l : ℕ) → AddsItems ctx found mid new k → Ahead mid es (extended o new) cs l → Ahead found es o cs (k + l)
   next_from found mid es o new cs k l h r = record {
-    more = C ctx new ++ r.more; d = D ctx new + r.d;
+    more = C ctx new ++ r.more;
+    d = D ctx new + r.d;
     cases = r.cases ∙ (ap (λ x. x ++ r.more) (extended_cases o new) ∙ append_assoc (RC o) (C ctx new) r.more);
     defaults = let a = r.defaults in let b = extended_defaults o new in omega arith;
     adds = adds_both found mid es (C ctx new) r.more (D ctx new) r.d k l h r.adds;
@@ -335,7 +311,8 @@ module _ (ctx : Context) where
   -- a new section
   begun_from : (found mid es : List Entry) (o new : Option Reading) (cs : List Section) (k l : ℕ) → Adds found mid (RC new) (RD new) k → Ahead mid es new cs l → Ahead found es o (closed o ++ cs) (k + l)
   begun_from found mid es o new cs k l h r = record {
-    more = RC new ++ r.more; d = RD new + r.d;
+    more = RC new ++ r.more;
+    d = RD new + r.d;
     cases = closed_cases o cs ∙ ap (λ x. RC o ++ x) r.cases;
     defaults = let a = closed_defaults o cs in let b = r.defaults in omega arith;
     adds = adds_both found mid es (RC new) r.more (RD new) r.d k l h r.adds;
@@ -393,7 +370,7 @@ module _ (ctx : Context) where
         let es = body_entries ctx k u mid in
         one_of ctx found es (item.If x a c) _ (body_cases b + body_cases k) (tree-If x a c)
         (subst (λ ls. Adds found es (cases_among ls) (defaults_among ls) (body_cases b + body_cases k)) (ap arrivals (trees-append a c) ∙ arrivals-join (trees_of a) (trees_of c))
-          (both_of ctx found mid es a c (body_cases b) (body_cases k) (body_adds around b w found p.1) (body_adds around k u mid p.2)))
+        (both_of ctx found mid es a c (body_cases b) (body_cases k) (body_adds around b w found p.1) (body_adds around k u mid p.2)))
     statement_adds around first (While t b) w found e =
         let p = while_parts ctx around w first t b e in
         let x = test.Source (value_at (env_at ctx w) t) in
@@ -435,7 +412,7 @@ module _ (ctx : Context) where
   -- a statement in front of, or in, sections
   state_from : (around : Around) (ls : List Label) (p : Plain) (xs : Items) (notes : List item.Item) (w : Walk) (o : Option Reading) (found es : List Entry) → item_faults ctx around (States ls p) w [] ≡ [] → (l : ℕ)
       → let v = behind_plain ctx p w in let env = env_at ctx w in let ps = plain_items ctx p w in let mid = item_entries ctx (States ls p) w found in
-        Ahead mid es (begun ctx env ls ps) (sections_from ctx (begun ctx env ls ps) xs notes v) l → Ahead mid es (extended o (labels_items ctx env ls ++ ps)) (sections_from ctx (extended o (labels_items ctx env ls ++ ps)) xs notes v) l
+      Ahead mid es (begun ctx env ls ps) (sections_from ctx (begun ctx env ls ps) xs notes v) l → Ahead mid es (extended o (labels_items ctx env ls ++ ps)) (sections_from ctx (extended o (labels_items ctx env ls ++ ps)) xs notes v) l
       → Ahead found es o (sections_from ctx o (items.Then (States ls p) xs) notes w) (item_cases (States ls p) + l)
   state_from around ls p xs notes w o found es e l f g =
       let q = states_parts ctx around w ls p e in
@@ -449,7 +426,7 @@ module _ (ctx : Context) where
       from_by found es o (has_case ls) (sections_from ctx (begun ctx env ls ps) xs notes v) (sections_from ctx (extended o (labels_items ctx env ls ++ ps)) xs notes v) (k + l)
       (begun_from found mid es o (begun ctx env ls ps) (sections_from ctx (begun ctx env ls ps) xs notes v) k l (begun_adds found one mid w ls ps (label_cases ls) (plain_cases p) (section_of_labels ctx w around.switch ls found q.0) pa) f)
       (next_from found mid es o (labels_items ctx env ls ++ ps) (sections_from ctx (extended o (labels_items ctx env ls ++ ps)) xs notes v) k l
-        (both_of ctx found one mid (labels_items ctx env ls) ps (label_cases ls) (plain_cases p) (labels_of ctx w around.switch ls found q.0) pa) g)
+      (both_of ctx found one mid (labels_items ctx env ls) ps (label_cases ls) (plain_cases p) (labels_of ctx w around.switch ls found q.0) pa) g)
 
   outside_step : (around : Around) (ls : List Label) (p : Plain) (xs : Items) (w : Walk) (b : Bool) → Outside ctx around w b ls p xs → (A : Type 0) → (list_faults ctx around xs (behind_plain ctx p w) [] ≡ [] → A) → (outside_faults ctx around xs (behind_plain ctx p w) [] ≡ [] → A) → A
   outside_step around ls p xs w true o A f g = f o
@@ -501,8 +478,8 @@ module _ (ctx : Context) where
       let mid = item_entries ctx (States ls p) w [] in
       from_more [] mid None (sections_at ctx None (States ls p) notes w) (item_cases (States ls p) + 0) (item_cases (States ls p)) (omega arith)
       (lone_state (has_case ls) refl
-        (state_from around ls p NoItem notes w None [] mid q.0 0
-          (end_from mid (begun ctx (env_at ctx w) ls (plain_items ctx p w)) notes (h mid)) (end_from mid (extended None (labels_items ctx (env_at ctx w) ls ++ plain_items ctx p w)) notes (h mid))))
+      (state_from around ls p NoItem notes w None [] mid q.0 0
+      (end_from mid (begun ctx (env_at ctx w) ls (plain_items ctx p w)) notes (h mid)) (end_from mid (extended None (labels_items ctx (env_at ctx w) ls ++ plain_items ctx p w)) notes (h mid))))
     where
       lone_state : (b : Bool) → has_case ls ≡ b → Ahead [] (item_entries ctx (States ls p) w []) None (sections_from ctx None (items.Then (States ls p) NoItem) notes w) (item_cases (States ls p) + 0)
           → Ahead [] (item_entries ctx (States ls p) w []) None (sections_at ctx None (States ls p) notes w) (item_cases (States ls p) + 0)

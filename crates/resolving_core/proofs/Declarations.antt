@@ -1,12 +1,12 @@
 -- The declarations of a function agree, and one of them at most has a body.
-use Rattle.std.proofs.Common.{ℕ, Bool, true, false, cond, not, ◌&&◌, ◌||◌, List, [], ◌∷◌, ◌++◌, append_assoc, map, Option, Some, None, is_some, ◌≡◌, refl, sym, ap, subst, ◌∙◌, true≢false, bytes_eq}
+use Rattle.std.proofs.Common.{ℕ, Bool, true, false, ◌&&◌, ◌||◌, List, [], ◌∷◌, ◌++◌, append_assoc, map, Option, Some, None, is_some, ◌≡◌, refl, sym, ap, subst, ◌∙◌, true≢false, bytes_eq}
 use Rattle.std.specs.Prelude.{IfSome, take}
 use Rattle.std.proofs.lemmas.List.{append-nil}
 use Rattle.c_tree.specs.declared.tree.Slot.{Slot}
 use Rattle.c_tree.specs.declared.tree.Function.{Function}
 use Rattle.c_tree.specs.declared.tree.Top.{Top}
 use Rattle.c_tree.specs.declared.tree.Top.TheVariants as T
-use Rattle.c_source.specs.Items.{Declarator, Body}
+use Rattle.c_source.specs.Items.{Declarator}
 use Rattle.c_source.specs.Tops.{Form, Line, Enum, Globals, Defines, Unread}
 use Rattle.c_source.specs.Tops as tops
 use Rattle.c_kinds.specs.declared.binding.Want.{Want}
@@ -16,7 +16,7 @@ use Rattle.c_kinds.specs.declared.binding.Binding.{Binding}
 use Rattle.c_kinds.specs.declared.binding.Binding.TheVariants as B
 use Rattle.c_kinds.specs.Scopes.{Env, Scope, found, bound}
 use Rattle.c_scopes.specs.Files.{File, State, env_of, function_declared, notes_tops, form_tops, behind_form, form_faults, tops_of, file_faults}
-use Rattle.c_scopes.specs.FunctionNames.{has_function, has_body, with_body, signature_in, again_faults}
+use Rattle.c_scopes.specs.FunctionNames.{has_function, has_body, signature_in, again_faults}
 use Rattle.c_scopes.specs.Globals.{globals, global_declared}
 use Rattle.c_statements.specs.declared.extents.Kinded.{Kinded}
 use Rattle.c_statements.specs.Context.{Before, Last}
@@ -26,13 +26,13 @@ use Rattle.c_resolved.specs.Files.{SameParameter, SameParameters, Agree, AgreesW
 use Rattle.c_resolved.specs.Within.{Each}
 use Rattle.resolving_core.proofs.Bindings.{same_names, names_same}
 use Rattle.resolving_core.proofs.Bodies.{has_with_body, body_there, has_body_in, body_append, notes_bodiless, form_body, form_bodies, no_body}
-use Rattle.resolving_core.proofs.FileNames.{TopFact, Named, NoF, NoG, Unnamed, unnamed_all, named_map, FunctionAgrees, FileGood}
-use Rattle.resolving_core.proofs.FileParts.{function_parts, file_parts, FunctionName}
+use Rattle.resolving_core.proofs.FileNames.{Named, NoF, NoG, unnamed_all, named_map, FunctionAgrees, FileGood}
+use Rattle.resolving_core.proofs.FileParts.{function_parts, file_parts}
 use Rattle.resolving_core.proofs.FilePlaces.{defined, Place, stepped_place, AtEnd}
 use Rattle.resolving_core.specs.Read.{IsReadFile}
 use Rattle.resolving_core.proofs.FunctionTrees.{function_name}
 use Rattle.resolving_core.proofs.Known.{WantAgrees, WantsAgree}
-use Rattle.resolving_core.proofs.Lists.{clean_if, none_left, each_append, and_left}
+use Rattle.resolving_core.proofs.Lists.{clean_if, none_left, each_append}
 
 -- ---- parameters
 
@@ -157,12 +157,12 @@ module _ (file : File) where
       let named = function_name file.word file.notes f scopes f.body in
       record {
         once = subst BodiesOnce (sym (append_assoc notes (T.Function t ∷ []) rest))
-               (once_before notes (T.Function t ∷ rest) (notes_none (file.notes (Before first)))
-                 (λ b. subst (λ w. Each (NoBody w) rest) (sym named) (r.none (file.word f.name) (has_with_body file.word (file.word f.name) f s.bodies ∙ ap (λ b. b || has_function s.bodies (file.word f.name)) (both (bytes_eq (file.word f.name) (file.word f.name)) (has_body f) (names_same (file.word f.name) (file.word f.name) refl) (sym there ∙ b)))), r.once));
+            (once_before notes (T.Function t ∷ rest) (notes_none (file.notes (Before first)))
+            (λ b. subst (λ w. Each (NoBody w) rest) (sym named) (r.none (file.word f.name) (has_with_body file.word (file.word f.name) f s.bodies ∙ ap (λ b. b || has_function s.bodies (file.word f.name)) (both (bytes_eq (file.word f.name) (file.word f.name)) (has_body f) (names_same (file.word f.name) (file.word f.name) refl) (sym there ∙ b)))), r.once));
         none = λ m e. each_append (NoBody m) (notes ++ T.Function t ∷ []) rest
-               (each_append (NoBody m) notes (T.Function t ∷ []) (bodiless m notes (notes_none (file.notes (Before first))))
-                 (λ n. there ∙ by_body (has_body f) (λ b. absurd (true≢false (sym e ∙ (ap (has_function s.bodies) (same_names m t.name n ∙ named) ∙ c b)))) (λ b. b), tt))
-               (r.none m (has_with_body file.word m f s.bodies ∙ later (bytes_eq m (file.word f.name) && has_body f) (has_function s.bodies m) e));
+            (each_append (NoBody m) notes (T.Function t ∷ []) (bodiless m notes (notes_none (file.notes (Before first))))
+            (λ n. there ∙ by_body (has_body f) (λ b. absurd (true≢false (sym e ∙ (ap (has_function s.bodies) (same_names m t.name n ∙ named) ∙ c b)))) (λ b. b), tt))
+            (r.none m (has_with_body file.word m f s.bodies ∙ later (bytes_eq m (file.word f.name) && has_body f) (has_function s.bodies m) e));
       }
     where
       both : (a b : Bool) → a ≡ true → b ≡ true → (a && b) ≡ true

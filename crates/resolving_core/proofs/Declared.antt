@@ -1,6 +1,6 @@
 -- A declared variable of a block: its slot, what its name is bound to, and its initialisers.
-use Rattle.std.proofs.Common.{ℕ, zero, suc, ◌+◌, Bool, true, false, cond, ℤ, List, [], ◌∷◌, ◌++◌, map, length, Option, Some, None, is_some, option_map, ◌≡◌, refl, sym, ap, subst, ◌∙◌, slice_get}
-use Rattle.std.specs.Prelude.{IfSome, IsSomeAnd}
+use Rattle.std.proofs.Common.{ℕ, true, cond, ℤ, List, [], ◌∷◌, ◌++◌, map, length, Option, Some, None, is_some, option_map, ◌≡◌, refl, ap, ◌∙◌, slice_get}
+use Rattle.std.specs.Prelude.{IfSome}
 use Rattle.c_tree.specs.declared.tree.Slot.{Slot}
 use Rattle.c_tree.specs.declared.tree.Home.TheVariants as H
 use Rattle.c_tree.specs.declared.tree.Expression.{Expression}
@@ -11,12 +11,10 @@ use Rattle.c_source.specs.Items.{Size, NoSize, Unsized, Sized, Initialiser, NoVa
 use Rattle.c_kinds.specs.declared.binding.Binding.TheVariants.{Local}
 use Rattle.c_kinds.specs.Constants.{constant_of}
 use Rattle.c_kinds.specs.Typing.{typed}
-use Rattle.c_kinds.specs.Scopes.{Env, Scope, Faults}
+use Rattle.c_kinds.specs.Scopes.{Env, Faults}
 use Rattle.c_statements.specs.declared.extents.Kinded.{Kinded}
-use Rattle.c_statements.specs.declared.extents.Extent.{Extent}
-use Rattle.c_statements.specs.declared.extents.Extent.TheVariants.{One, Many, Unclear}
 use Rattle.c_statements.specs.Context.{Walk, env_in}
-use Rattle.c_statements.specs.Declarations.{of_length, constant_extent, listed_extent, extent, cells_of, is_array, shape_of, slot_of, declared, in_bounds, initial, initial_faults, each_faults, local_faults}
+use Rattle.c_statements.specs.Declarations.{of_length, constant_extent, extent, cells_of, is_array, shape_of, slot_of, declared, in_bounds, initial, initial_faults, each_faults, local_faults}
 use Rattle.c_resolved.specs.Names.{Names}
 use Rattle.c_resolved.specs.Scopes as Scopes
 use Rattle.c_resolved.specs.Scopes.{AVariable}
@@ -25,7 +23,7 @@ use Rattle.resolving_core.proofs.Lists.{is_some_and}
 use Rattle.resolving_core.proofs.Known.{HasShape, IsKnown, Knows}
 use Rattle.resolving_core.specs.Read.{IsReadTerm, IsReadInitialiser}
 use Rattle.resolving_core.proofs.Bindings.{names_same, knows_bound, look_up_tree}
-use Rattle.resolving_core.proofs.Parts.{parted, LocalParts, local_parts}
+use Rattle.resolving_core.proofs.Parts.{parted, local_parts}
 use Rattle.resolving_core.proofs.Empty.{Empties, each_empty}
 use Rattle.resolving_core.proofs.Walk.{Begins}
 
@@ -59,9 +57,10 @@ pub local_known : (word : ℕ → List ℕ) (n : Names) (k : Kinded) (d : Declar
     → IsKnown n (Scopes.bind (word d.name) (AVariable (H.Slot (length w.slots))) ss) (word d.name) (Local (length w.slots) (shape_of k d))
 local_known word n k d w ss b =
     let m = word d.name in
-    let s = slot_of (env_in word w) k d in
-    (is_some_and _ (slice_get n.slots (length w.slots)) s (ap (λ l. slice_get l (length w.slots)) b.1 ∙ slot_there w.slots b.0 s) (refl, slot_shape (env_in word w) k d),
-     look_up_tree m m (AVariable (H.Slot (length w.slots))) ss ∙ ap (λ t. cond t (Some (AVariable (H.Slot (length w.slots)))) (Scopes.look_up ss m)) (names_same m m refl))
+    let s = slot_of (env_in word w) k d in (
+      is_some_and _ (slice_get n.slots (length w.slots)) s (ap (λ l. slice_get l (length w.slots)) b.1 ∙ slot_there w.slots b.0 s) (refl, slot_shape (env_in word w) k d),
+      look_up_tree m m (AVariable (H.Slot (length w.slots))) ss ∙ ap (λ t. cond t (Some (AVariable (H.Slot (length w.slots)))) (Scopes.look_up ss m)) (names_same m m refl),
+    )
 
 -- the scopes of the tree behind it
 abbrev pub behind_local : (ℕ → List ℕ) → Declarator → Walk → List Scopes.Scope → List Scopes.Scope

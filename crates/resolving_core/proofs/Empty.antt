@@ -1,5 +1,5 @@
 -- Violations are only ever put in front of others: where none is left, there was none before.
-use Rattle.std.proofs.Common.{ℕ, Bool, true, false, cond, not, ◌&&◌, ◌||◌, ◌==◌, List, [], ◌∷◌, length, Option, Some, None, is_some, option_map, ◌≡◌, refl, sym, ap, subst, ◌∙◌}
+use Rattle.std.proofs.Common.{ℕ, Bool, true, false, cond, not, ◌&&◌, ◌||◌, ◌==◌, List, [], ◌∷◌, length, Option, Some, None, is_some, option_map, ◌≡◌}
 use Rattle.c_types.specs.declared.kinds.IntKind.{IntKind}
 use Rattle.c_lexer.specs.Marks.{mark_of}
 use Rattle.c_source.specs.Terms.{Term, Form, Terms, At, Constant, Variable, Cell, Prefix, Suffix, CastTo, CastVoid, Binary, Choice, Assign, Commas, Call, Texts, Unknown, NoTerm, first_of}
@@ -9,18 +9,17 @@ use Rattle.c_source.specs.Items as items
 use Rattle.c_kinds.specs.declared.typed.Typed as typed
 use Rattle.c_kinds.specs.declared.typed.Typed.TheVariants as T
 use Rattle.c_kinds.specs.declared.typed.Given.{Given}
-use Rattle.c_kinds.specs.declared.typed.ArrayName.{ArrayName}
 use Rattle.c_kinds.specs.declared.binding.Want.{Want}
 use Rattle.c_kinds.specs.declared.binding.Want.TheVariants as want
 use Rattle.c_kinds.specs.declared.binding.Shape.{Shape}
 use Rattle.c_kinds.specs.declared.binding.Binding.{Binding}
 use Rattle.c_kinds.specs.declared.binding.Binding.TheVariants as B
 use Rattle.c_kinds.specs.Calls.{same_kind, same_truth, text_of, argument_fault, argument_faults, text_faults, wanted_faults, printing_faults, format_faults, call_faults}
-use Rattle.c_kinds.specs.Constants.{constant_of, constant_fault}
+use Rattle.c_kinds.specs.Constants.{constant_of}
 use Rattle.c_kinds.specs.Formats.{wanted}
 use Rattle.c_kinds.specs.Marks.{is_wide, step_of}
 use Rattle.c_kinds.specs.Names.{name_fault, shape_fault, target_fault}
-use Rattle.c_kinds.specs.Scopes.{Env, Faults, fault, fault_if, meaning, is_bound, bind_fault}
+use Rattle.c_kinds.specs.Scopes.{Env, Faults, fault, fault_if, meaning, is_bound}
 use Rattle.c_kinds.specs.Typing.{typed, given, faults, form_faults, unused_faults, target_faults, form_target_faults, given_faults, used, unused, constant_faults}
 use Rattle.c_kinds.specs.Values.{use_fault, drop_fault, value_of}
 use Rattle.c_statements.specs.declared.entries.Entry.{Entry}
@@ -332,8 +331,8 @@ module _ (ctx : Context) where
         labels_empty (env_at ctx w) around.switch ls vs
         (plain_empty around p w v
         (outside_by (has_case ls) (list_faults ctx around xs (behind_plain ctx p w) x) (outside_faults ctx around xs (behind_plain ctx p w) (fault_if (not (is_null ls p)) (stated_first ls p) 29 x)) x
-          (list_empty around xs (behind_plain ctx p w) x)
-          (λ k. if_empty (not (is_null ls p)) (stated_first ls p) 29 x (outside_empty around xs (behind_plain ctx p w) (fault_if (not (is_null ls p)) (stated_first ls p) 29 x) k)) e))
+        (list_empty around xs (behind_plain ctx p w) x)
+        (λ k. if_empty (not (is_null ls p)) (stated_first ls p) 29 x (outside_empty around xs (behind_plain ctx p w) (fault_if (not (is_null ls p)) (stated_first ls p) 29 x) k)) e))
 
     pub outside_item_empty : (around : Around) (x : Item) (w : Walk) → Empties (outside_fault ctx around x w)
     outside_item_empty around (Declares first after d) w vs e = absurd (none_left _ _ e)

@@ -1,43 +1,24 @@
 -- The cases of a switch are the entries that were compared: constants without a trap, in text order.
-use Rattle.std.proofs.Common.{ℕ, Bool, true, false, not, cond, ◌&&◌, ◌||◌, List, [], ◌∷◌, ◌++◌, append_assoc, map, length, Option, Some, None, option_map, is_some, append_assoc, true≢false, arith, length-append, ◌≡◌, refl, sym, ap, subst, ◌∙◌}
+use Rattle.std.proofs.Common.{ℕ, Bool, true, false, not, cond, List, [], ◌∷◌, ◌++◌, append_assoc, map, length, Option, Some, None, is_some, append_assoc, true≢false, arith, length-append, ◌≡◌, refl, sym, ap, subst, ◌∙◌}
 use Rattle.std.specs.Prelude.{ℤ, ◌+◌, ◌≤◌}
-use Rattle.c_tree.specs.declared.tree.Slot.{Slot}
 use Rattle.c_tree.specs.declared.tree.Item as item
-use Rattle.c_tree.specs.declared.tree.Section.{Section}
 use Rattle.c_tree.specs.declared.tree.Expression.{Expression}
-use Rattle.c_tree.specs.declared.tree.Test as test
-use Rattle.c_tree.specs.declared.tree.Selector as selector
 use Rattle.c_tree.specs.ExpressionTrees.{ExpressionTree, expression_tree}
-use Rattle.c_tree.specs.TestTrees.{TestTree, SelectorTree}
 use Rattle.c_tree.specs.Trees.{Tree, Forest, SectionTree, Nil, join, expression_trees, tree_of, trees_of, section_tree, sections, sections_of}
 use Rattle.c_tree.specs.Trees as tree
-use Rattle.c_tree.specs.Everywhere.{Everywhere, EverywhereOf, EverywhereIn}
-use Rattle.c_tree.proofs.KeptLemmas.{everywhere_join}
-use Rattle.c_tree.proofs.ExpressionLaws.{test-Source, selector-Source}
-use Rattle.c_tree.proofs.TreeLaws.{tree-Evaluate, tree-Return, tree-If, tree-While, tree-Do, tree-For, tree-Switch, tree-Block, tree-Local, tree-Break, tree-Continue, tree-Goto, tree-Mark, tree-Arrival, tree-Note, trees-none, trees-more, trees-append}
-use Rattle.c_types.specs.declared.kinds.IntKind.{IntKind}
+use Rattle.c_tree.proofs.TreeLaws.{tree-Local, tree-Mark, tree-Arrival, tree-Note, trees-none, trees-more, trees-append}
 use Rattle.c_source.specs.Terms.{Term}
-use Rattle.c_source.specs.Items.{Declarator, Declaration, Label, Named, Case, Default, Start, NoStart, StartValue, StartNames, Item, Declares, States, Plain, From, Statement, Null, Evaluate, If, IfElse, While, DoWhile, For, Switch, Block, Goto, Break, Continue, Return, Unread, Body, Braces, Lone, Items, NoItem}
-use Rattle.c_source.specs.Items as items
-use Rattle.c_kinds.specs.Scopes.{Scope, Faults, fault_if}
+use Rattle.c_source.specs.Items.{Declarator, Label, Named, Case, Default}
+use Rattle.c_kinds.specs.Scopes.{fault_if}
 use Rattle.c_kinds.specs.Typing.{typed, constant_faults}
-use Rattle.c_kinds.specs.Values.{value_of}
 use Rattle.c_statements.specs.declared.extents.Kinded.{Kinded}
-use Rattle.c_statements.specs.Context.{Anchor, Before, AtEnd, AtSection, Context, Walk, env_at, env_in, enter, leave, notes_at, number_in, has_label, Around, in_loop, in_switch}
-use Rattle.c_statements.specs.Declarations.{kinded, declared, all_declared, local, locals, initial, value_at, constant_at, value_faults, local_faults, locals_faults}
-use Rattle.c_statements.specs.Labels.{has_case, mark, label_items, labels_items, section_marks, section_cases, has_default, label_faults, labels_faults}
-use Rattle.c_statements.specs.Sections.{Reading, extended, ended, closed, passed_on}
-use Rattle.c_statements.specs.Statements.{behind_start, behind_item, behind_plain, behind_body, behind_items, declared_by, dropped_at, test_at, start_items, begun, a_switch, item_items, plain_items, statement_items, body_items, list_items, switch_sections, sections_from, sections_at}
-use Rattle.c_statements.specs.Statements as statements
-use Rattle.c_statements.specs.Violations.{dropped_faults, optional_faults, start_faults, return_faults, item_faults, plain_faults, statement_faults, body_faults, list_faults, switch_body_faults, outside_faults, outside_fault}
-use Rattle.c_resolved.specs.Form.{ends_with_break}
-use Rattle.c_resolved.specs.Within.{Each, CaseExpressions}
-use Rattle.resolving_core.proofs.Lists.{none_left, clean_if, not_true, each_map, each_append}
-use Rattle.resolving_core.specs.Read.{IsReadTerm, IsReadDeclarator, IsReadDeclaration, IsReadLabel, IsReadStart, IsReadItem, IsReadPlain, IsReadStatement, IsReadBody, AreReadItems}
-use Rattle.resolving_core.proofs.Empty.{constant_empty, labels_empty}
-use Rattle.resolving_core.proofs.Parts.{parted, locals_parts, labels_parts, states_parts, list_parts, if_parts, if_else_parts, while_parts, do_parts, for_parts, switch_parts, Outside, outside_declares, outside_parts, outside_one}
-use Rattle.resolving_core.proofs.Grown.{Grown, locals_grow, start_grows, item_grows, plain_grows, body_grows, list_grows, switch_grows, outside_grows}
-use Rattle.resolving_core.proofs.SectionTrees.{section_of, ended_tree, has_entry, without_end, passes, with_entries, passed_trees, passed_same, ended_same, sections_are}
+use Rattle.c_statements.specs.Context.{Anchor, Before, Context, Walk, env_at, env_in, notes_at, number_in}
+use Rattle.c_statements.specs.Declarations.{declared, local, locals, initial, value_at, constant_at}
+use Rattle.c_statements.specs.Labels.{mark, labels_items, section_marks, section_cases, has_default, label_faults, labels_faults}
+use Rattle.c_resolved.specs.Within.{Each}
+use Rattle.resolving_core.proofs.Lists.{each_append}
+use Rattle.resolving_core.proofs.Empty.{constant_empty}
+use Rattle.resolving_core.proofs.Parts.{parted, labels_parts}
 use Rattle.c_tree.specs.Constants.{constant_value}
 use Rattle.c_kinds.specs.Constants.{constant_of}
 use Rattle.c_kinds.specs.Scopes.{Env}
@@ -46,10 +27,10 @@ use Rattle.c_kinds.specs.declared.typed.Typed as kinds
 use Rattle.c_kinds.specs.declared.typed.Typed.TheVariants as T
 use Rattle.c_statements.specs.declared.entries.Entry.{Entry}
 use Rattle.c_statements.specs.declared.entries.Entry.TheVariants.{Value, Other}
-use Rattle.c_statements.specs.Cases.{label_entry, label_entries, item_entries, plain_entries, statement_entries, body_entries, list_entries}
+use Rattle.c_statements.specs.Cases.{label_entry, label_entries}
 use Rattle.c_statements.specs.Declarations.{constant_or_placeholder}
-use Rattle.c_resolved.specs.Switches.{arrivals, arrivals_of, section_labels, switch_labels, cases_among, defaults_among, IsConstantValue}
-use Rattle.resolving_core.specs.Read.{label_cases, item_cases, plain_cases, statement_cases, body_cases, list_cases}
+use Rattle.c_resolved.specs.Switches.{arrivals, arrivals_of, section_labels, cases_among, defaults_among, IsConstantValue}
+use Rattle.resolving_core.specs.Read.{label_cases}
 use Rattle.resolving_core.proofs.Arrays.{constant_there}
 use Rattle.resolving_core.proofs.Uses.{value_found}
 use Rattle.resolving_core.proofs.Values.{value_tree, value_rolls}
@@ -136,7 +117,10 @@ adds_both a b c cs ds d e k l x y = record {
 
 pub adds_as : (a b : List Entry) (cs ds : List ExpressionTree) (d e k l : ℕ) → cs ≡ ds → e ≤ d → k ≤ l → Adds a b cs d k → Adds a b ds e l
 adds_as a b cs ds d e k l p q r x = record {
-  more = x.more; count = x.count; values = x.values; rest = x.rest;
+  more = x.more;
+  count = x.count;
+  values = x.values;
+  rest = x.rest;
   same = ap (map constant_value) (sym p) ∙ x.same;
   constant = subst (Each IsConstantValue) p x.constant;
   defaults = let h = x.defaults in omega arith;
@@ -145,8 +129,14 @@ adds_as a b cs ds d e k l p q r x = record {
 
 some_constant : (found : List Entry) (at : ℕ) (e : ExpressionTree) (z : ℤ) → IsConstantValue e → constant_value e ≡ Some z → Adds found (found ++ Value at z ∷ []) (e ∷ []) 0 1
 some_constant found at e z h v = record {
-  more = z ∷ []; count = 0; values = vals-append found (Value at z ∷ []); rest = others-append found (Value at z ∷ []);
-  same = ap (λ o. o ∷ []) v; constant = (h, tt); defaults = omega arith; few = omega arith;
+  more = z ∷ [];
+  count = 0;
+  values = vals-append found (Value at z ∷ []);
+  rest = others-append found (Value at z ∷ []);
+  same = ap (λ o. o ∷ []) v;
+  constant = (h, tt);
+  defaults = omega arith;
+  few = omega arith;
 }
 
 one_default : (found : List Entry) (at : ℕ) → Adds found (found ++ Other at ∷ []) [] 1 0
@@ -170,7 +160,9 @@ given_constant env t h = by (typed env t) refl (constant_there env t h)
         let given = ap constant_of q ∙ c.1 in
         let at = ap (λ e. expression_tree e) (ap constant_or_placeholder given) ∙ value_rolls v in
         record {
-          number = c.0; e = expression v; given = given;
+          number = c.0;
+          e = expression v;
+          given = given;
           constant = subst IsConstantValue (sym at) (record { kind = tt; constant = c.2; untrapped = ap is_some c.3 });
           value = ap constant_value at ∙ c.3;
         }
@@ -202,8 +194,8 @@ module _ (ctx : Context) where
       let j = ap arrivals (trees-append xs ys) ∙ arrivals-join (trees_of xs) (trees_of ys) in
       subst (λ ls. Adds a c (cases_among ls) (defaults_among ls) (k + l)) (sym j)
       (adds_as a c (C xs ++ C ys) (cases_among (arrivals (trees_of xs) ++ arrivals (trees_of ys))) (D xs + D ys) (defaults_among (arrivals (trees_of xs) ++ arrivals (trees_of ys))) (k + l) (k + l)
-        (sym (cases-append (arrivals (trees_of xs)) (arrivals (trees_of ys)))) (let h = defaults-append (arrivals (trees_of xs)) (arrivals (trees_of ys)) in omega arith) (omega arith)
-        (adds_both a b c (C xs) (C ys) (D xs) (D ys) k l x y))
+      (sym (cases-append (arrivals (trees_of xs)) (arrivals (trees_of ys)))) (let h = defaults-append (arrivals (trees_of xs)) (arrivals (trees_of ys)) in omega arith) (omega arith)
+      (adds_both a b c (C xs) (C ys) (D xs) (D ys) k l x y))
 
   pub one_of : (a b : List Entry) (x : item.Item) (t : Tree) (k : ℕ) → tree_of x ≡ t → AddsTree a b t k → AddsItems a b (x ∷ []) k
   one_of a b x t k e h =
@@ -276,7 +268,7 @@ module _ (ctx : Context) where
       let next = found ++ Other at ∷ [] in
       more_of found (label_entries env ls next) _ (0 + label_cases ls) (label_cases ls) (omega arith)
       (both_of found next (label_entries env ls next) (notes_at ctx (Before at) ++ item.Arrival None ∷ []) (labels_items ctx env ls) 0 (label_cases ls)
-        (behind_notes found next (Before at) (item.Arrival None ∷ []) 0 (one_of found next (item.Arrival None) (tree.Arrival None) 0 (tree-Arrival None) (one_default found at))) (labels_of w switch ls next p.1))
+      (behind_notes found next (Before at) (item.Arrival None ∷ []) 0 (one_of found next (item.Arrival None) (tree.Arrival None) 0 (tree-Arrival None) (one_default found at))) (labels_of w switch ls next p.1))
 
   -- of a section
   pub section_of_labels : (w : Walk) (switch : Bool) (ls : List Label) (found : List Entry) → labels_faults (env_at ctx w) switch ls [] ≡ []
@@ -290,7 +282,7 @@ module _ (ctx : Context) where
       let next = label_entry env (Case at after t) found in
       adds_as found (label_entries env ls next) _ _ (0 + cond (has_default ls) 1 0) (cond (has_default ls) 1 0) (1 + label_cases ls) (1 + label_cases ls) refl (omega arith) (omega arith)
       (adds_both found next (label_entries env ls next) (expression_tree (constant_at env t) ∷ []) (expression_trees (section_cases env ls)) 0 (cond (has_default ls) 1 0) 1 (label_cases ls)
-        (subst (λ es. Adds found es (expression_tree (constant_at env t) ∷ []) 0 1) (sym (case_entry w at after t found c)) (some_constant found at _ c.number c.constant c.value)) (section_of_labels w switch ls next p.1))
+      (subst (λ es. Adds found es (expression_tree (constant_at env t) ∷ []) 0 1) (sym (case_entry w at after t found c)) (some_constant found at _ c.number c.constant c.value)) (section_of_labels w switch ls next p.1))
   section_of_labels w switch (Default at after ∷ ls) found e =
       let env = env_at ctx w in
       let p = labels_parts env switch (Default at after) ls e in

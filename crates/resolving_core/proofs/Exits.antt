@@ -1,10 +1,8 @@
 -- Each `break` and `continue` has its construct, and each nested case label stands in a switch.
-use Rattle.std.proofs.Common.{ℕ, ◌+◌, Bool, true, false, ◌||◌, List, [], ◌∷◌, Option, ◌≡◌, refl, sym, ap, subst, ◌∙◌, true≢false, arith}
-use Rattle.c_tree.specs.ExpressionTrees.{ExpressionTree}
-use Rattle.c_tree.specs.TestTrees.{TestTree, SelectorTree}
-use Rattle.c_tree.specs.Trees.{Tree, Forest, Nil, Then, SectionTree, Evaluate, Return, If, While, Do, For, Switch, Block, Local, Break, Continue, Goto, Mark, Arrival, Note, join, sections}
+use Rattle.std.proofs.Common.{ℕ, ◌+◌, Bool, true, false, ◌||◌, List, [], ◌∷◌, ◌≡◌, refl, sym, ◌∙◌, true≢false, arith}
+use Rattle.c_tree.specs.Trees.{Tree, Forest, Nil, Then, SectionTree, Evaluate, Return, Local, Goto, Mark, Note, join, sections}
 use Rattle.c_tree.specs.Exits.{breaks, breaks_of, continues, continues_of, continues_in}
-use Rattle.c_statements.specs.Context.{Around, in_loop, in_switch}
+use Rattle.c_statements.specs.Context.{Around, in_switch}
 use Rattle.c_resolved.specs.Form.{HasNoLoose}
 use Rattle.c_resolved.specs.Within.{Each}
 use Rattle.resolving_core.proofs.SectionTrees.{without_end}

@@ -1,13 +1,11 @@
 -- Expressions without a violation: their kinds agree, they write no const, and their names are bound.
-use Rattle.std.proofs.Common.{ℕ, ◌==◌, pos, length, Bool, true, false, cond, List, [], ◌∷◌, Option, Some, None, ◌≡◌, refl, sym, ap, subst, ◌∙◌, true≢false, not, ◌&&◌, arith}
+use Rattle.std.proofs.Common.{ℕ, pos, Bool, true, false, cond, List, [], Option, Some, None, ◌≡◌, refl, sym, subst, arith}
 use Rattle.std.specs.Prelude.{IfSome, IsSomeAnd}
 use Rattle.std.proofs.lemmas.Int.{ints}
 use Rattle.c_types.specs.declared.kinds.IntKind.TheVariants.{Int}
 use Rattle.c_tree.specs.declared.tree.UnaryOp.{UnaryOp}
 use Rattle.c_types.specs.Numbers.{IsInRange}
-use Rattle.c_tree.specs.declared.tree.Node as node
-use Rattle.c_tree.specs.declared.tree.Expression.{Expression}
-use Rattle.c_tree.specs.ExpressionTrees.{Typed, Number, Character}
+use Rattle.c_tree.specs.ExpressionTrees.{Typed}
 use Rattle.c_tree.proofs.ExpressionLaws.{node-Number, node-Character}
 use Rattle.c_lexer.specs.declared.number.Integer.{Integer}
 use Rattle.c_lexer.specs.Marks.{mark_of}
@@ -15,18 +13,10 @@ use Rattle.c_lexer.specs.Numbers.{integer_of}
 use Rattle.c_source.specs.Terms.{Term, Form, Terms, At, Constant, Variable, Cell, Prefix, Suffix, CastTo, CastVoid, Binary, Choice, Assign, Commas, Call, Texts, Unknown, NoTerm, Then, first_of}
 use Rattle.c_source.specs.Words.{kind_of, is_character, character}
 use Rattle.c_kinds.specs.declared.typed.Typed as typed
-use Rattle.c_kinds.specs.declared.typed.Typed.TheVariants as T
-use Rattle.c_kinds.specs.declared.binding.Want.{Want}
-use Rattle.c_kinds.specs.declared.binding.Want.TheVariants as want
-use Rattle.c_kinds.specs.declared.binding.Binding.{Binding}
-use Rattle.c_kinds.specs.declared.binding.Binding.TheVariants as B
-use Rattle.c_kinds.specs.declared.typed.Target.{Target}
-use Rattle.c_kinds.specs.Calls.{same_kind, same_truth, text_of, argument_fault, argument_faults, text_faults, wanted_faults, printing_faults, format_faults, call_faults}
-use Rattle.c_kinds.specs.Formats.{wanted}
 use Rattle.c_kinds.specs.declared.typed.Given.{Given}
-use Rattle.c_kinds.specs.Marks.{is_wide, step_of, counts_up, unary_op, binary_op, update_op}
-use Rattle.c_kinds.specs.Scopes.{Env, Faults, fault, meaning}
-use Rattle.c_kinds.specs.Values.{use_fault, drop_fault, value_of, dropped, number, character_constant, writable, unary, counting, comma, number_target, cell_target}
+use Rattle.c_kinds.specs.Marks.{step_of, counts_up, unary_op, binary_op, update_op}
+use Rattle.c_kinds.specs.Scopes.{Env, Faults, meaning}
+use Rattle.c_kinds.specs.Values.{value_of, dropped, number, character_constant, writable, unary, counting, comma}
 use Rattle.c_kinds.specs.Names.{variable_of}
 use Rattle.c_kinds.specs.Typing.{constant, typed, commas, target_of, form_target, given, faults, form_faults, unused_faults, target_faults, form_target_faults, given_faults, form_typed, used, unused, cell_of}
 use Rattle.c_resolved.specs.Within.{Each}

@@ -1,17 +1,13 @@
 -- Enums, variables and functions of a file without a violation, each by itself.
 use Rattle.std.proofs.Common.{ℕ, ℤ, pos, negsuc, ◌+ℤ◌, Bool, true, false, cond, not, ◌&&◌, List, [], ◌∷◌, ◌++◌, append_assoc, map, codes, length, Option, Some, None, is_some, option_map, option_and_then, ◌≡◌, refl, sym, ap, subst, ◌∙◌, true≢false, bytes_eq}
 use Rattle.std.specs.Prelude.{IfSome}
-use Rattle.c_types.specs.declared.kinds.IntKind.{IntKind}
 use Rattle.c_types.specs.declared.kinds.IntKind.TheVariants.{Int}
-use Rattle.c_types.specs.Numbers.{is_in_range, IsInRange}
+use Rattle.c_types.specs.Numbers.{is_in_range}
 use Rattle.c_tree.specs.declared.tree.Slot.{Slot}
 use Rattle.c_tree.specs.declared.tree.EnumItem.{EnumItem}
 use Rattle.c_tree.specs.declared.tree.Home.TheVariants as H
-use Rattle.c_tree.specs.declared.tree.Function as tree
-use Rattle.c_tree.specs.declared.tree.GlobalVariable.{GlobalVariable}
 use Rattle.c_tree.specs.declared.tree.Top.{Top}
 use Rattle.c_tree.specs.declared.tree.Top.TheVariants as T
-use Rattle.c_tree.specs.Constants.{constant_value}
 use Rattle.c_tree.specs.declared.tree.Expression.{Expression}
 use Rattle.c_tree.specs.ExpressionTrees.{expression_tree}
 use Rattle.c_tree.specs.Trees.{expression_trees}
@@ -20,45 +16,42 @@ use Rattle.c_source.specs.Items.{Declarator, Body}
 use Rattle.c_source.specs.Tops.{Enumerator, Function, Form, Line, Enum, Globals, Defines, Unread}
 use Rattle.c_source.specs.Tops as tops
 use Rattle.c_kinds.specs.declared.binding.Binding.TheVariants as B
-use Rattle.c_kinds.specs.Constants.{constant_of}
 use Rattle.c_kinds.specs.declared.binding.Binding.{Binding}
 use Rattle.c_kinds.specs.declared.binding.Signature.{Signature}
-use Rattle.c_kinds.specs.Scopes.{Env, Scope, Faults, found, bound, with_name, known_scope}
-use Rattle.c_kinds.specs.Typing.{typed, constant_faults}
-use Rattle.c_scopes.specs.Enums.{an_int, next_value, worth, value_of, or_zero, enumerated, behind_enum, enum_item, enum_items, enum_faults, int_fault, value_faults}
+use Rattle.c_kinds.specs.Scopes.{Env, Scope, Faults, found, bound, with_name}
+use Rattle.c_kinds.specs.Typing.{constant_faults}
+use Rattle.c_scopes.specs.Enums.{an_int, worth, value_of, or_zero, enumerated, behind_enum, enum_item, enum_items, enum_faults, int_fault, value_faults}
 use Rattle.c_scopes.specs.Files.{File, State, env_of, function_declared, notes_tops, form_tops, behind_form, form_faults, tops_of, file_faults}
 use Rattle.c_types.specs.Words.{is_known}
 use Rattle.c_scopes.specs.FunctionNames.{has_function, has_body, signature_in, again_faults, is_main_form, is_empty, same_result}
-use Rattle.c_scopes.specs.Globals.{global_declared, behind_globals, global, globals, globals_faults, global_faults}
+use Rattle.c_scopes.specs.Globals.{global_declared, behind_globals, global, globals, globals_faults}
 use Rattle.c_statements.specs.declared.extents.Kinded.{Kinded}
 use Rattle.c_statements.specs.Context.{Anchor, Before, Last}
 use Rattle.c_statements.specs.Declarations.{kinded, shape_of, constant_at, initial, initial_faults}
 use Rattle.c_statements.specs.Functions.{result_kind, function_of}
 use Rattle.c_statements.specs.Functions as D
-use Rattle.c_resolved.specs.Files.{IsConstantOf, HasNextValue, HaveValues, IsGlobal, IsMainForm, IsNotMain, AreNotMain, MainIsFormed}
-use Rattle.c_resolved.specs.Kinds.{KindsAgree}
+use Rattle.c_resolved.specs.Files.{IsConstantOf, HasNextValue, HaveValues, IsGlobal, IsMainForm, AreNotMain, MainIsFormed}
 use Rattle.c_resolved.specs.Names.{Names}
 use Rattle.c_resolved.specs.Scopes as Scopes
 use Rattle.c_resolved.specs.Scopes.{AConstant, NameIsBound, IsBound, IsBoundGiven, GivenAreBound, ConstantsAreBound, TopsAreBound, IsNew, IsFunctionName, AreNewParameters, BodyIsBound}
 use Rattle.c_resolved.specs.Within.{Each}
 use Rattle.resolving_core.proofs.Arrays.{array_fine}
-use Rattle.resolving_core.proofs.Calls.{same_kind_is}
 use Rattle.resolving_core.proofs.Declared.{values_are}
 use Rattle.resolving_core.proofs.Empty.{constant_empty}
 use Rattle.resolving_core.proofs.FileNames.{Same, meaning_of, IsDefined}
-use Rattle.resolving_core.proofs.FileParts.{EnumParts, enum_parts, GlobalParts, global_parts, globals_parts, function_parts, file_parts}
+use Rattle.resolving_core.proofs.FileParts.{enum_parts, GlobalParts, global_parts, globals_parts, function_parts, file_parts}
 use Rattle.resolving_core.proofs.FilePlaces.{notes_behind, defined, Place, noted, form_step, stepped_place, AtEnd, at_end, place_knows}
-use Rattle.resolving_core.proofs.FileScope.{Grows, grows_twice, name_grows, Inv, result_same}
-use Rattle.resolving_core.proofs.FileWalk.{behind_tops, Shaped, tree_scopes, bound_shaped, new_shaped, Stepped, enums_step, globals_step, one_constant, one_global, value_is_int, zero_is_int}
+use Rattle.resolving_core.proofs.FileScope.{Grows, grows_twice, Inv, result_same}
+use Rattle.resolving_core.proofs.FileWalk.{behind_tops, Shaped, tree_scopes, bound_shaped, new_shaped, enums_step, globals_step, one_constant, one_global, value_is_int, zero_is_int}
 use Rattle.resolving_core.proofs.FunctionTrees.{function_name}
 use Rattle.resolving_core.proofs.Functions.{Resolves, resolves, function_is_bound}
-use Rattle.resolving_core.proofs.ItemKinds.{Good, good, within_map}
+use Rattle.resolving_core.proofs.ItemKinds.{good, within_map}
 use Rattle.resolving_core.proofs.Values.{IsSound}
 use Rattle.resolving_core.proofs.Known.{Knows}
 use Rattle.resolving_core.proofs.Lists.{none_left, and_left, and_right, not_true, not_false, clean_if, each_append}
 use Rattle.resolving_core.proofs.Parts.{parted}
-use Rattle.resolving_core.specs.Read.{IsReadInitialiser, IsReadTerm, IsReadDeclarator, IsReadEnumerator, IsReadFunction, IsReadTop, IsReadTopForm, IsReadFile}
-use Rattle.resolving_core.proofs.Uses.{ConstantIs, constant_is_value}
+use Rattle.resolving_core.specs.Read.{IsReadInitialiser, IsReadTerm, IsReadDeclarator, IsReadEnumerator, IsReadTopForm, IsReadFile}
+use Rattle.resolving_core.proofs.Uses.{constant_is_value}
 
 -- ---- constants
 
@@ -156,9 +149,11 @@ module _ (file : File) (ts : List Top) (known : IsDefined (defined file) ts []) 
       let ranged = zero_is_int v (value_is_int env x.value o) in
       let next = one_constant (defined file) done fs rs m (or_zero v) new ranged i in
       let value = ap or_zero k.1 in
-      let rest = values_have es v k.0 k.1 (enumerated x v env).scopes done (with_name m b fs) ((m, AConstant (or_zero v)) ∷ rs) (bound_shaped scopes fs m b s) r.1 p.rest next h in
-      ((k.2 (enum_item x v env) value, ranged, subst (λ w. HaveValues ts w (enum_items es v (enumerated x v env))) (sym value) rest.0), (p.name.other, rest.1),
-       ((new_of_tree fs rs m i.same new, p.name.unknown), given_bound ts (tree_scopes rs) env here x.name x.value o r.0.value p.value, rest.2))
+      let rest = values_have es v k.0 k.1 (enumerated x v env).scopes done (with_name m b fs) ((m, AConstant (or_zero v)) ∷ rs) (bound_shaped scopes fs m b s) r.1 p.rest next h in (
+        (k.2 (enum_item x v env) value, ranged, subst (λ w. HaveValues ts w (enum_items es v (enumerated x v env))) (sym value) rest.0),
+        (p.name.other, rest.1),
+        ((new_of_tree fs rs m i.same new, p.name.unknown), given_bound ts (tree_scopes rs) env here x.name x.value o r.0.value p.value, rest.2),
+      )
 
   -- ---- variables
 
@@ -195,9 +190,11 @@ module _ (file : File) (ts : List Top) (known : IsDefined (defined file) ts []) 
       let s' = bound_shaped scopes fs m b s in
       let all = globals_step (defined file) static k ds inner (done ++ T.Global (global static k d env) ∷ []) (with_name m b fs) rs' s' p.1 next in
       let here = knowing inner (with_name m b fs) rs' s' (grows_twice (with_name m b fs) all.fs' z.last all.grows (h all.fs' all.shaped)) next.same in
-      let rest = globals_are static k ds inner.scopes (done ++ T.Global (global static k d env) ∷ []) (with_name m b fs) rs' s' r.1 p.1 next h in
-      ((one_is static k d scopes (with_name m b fs) rs' r.0 q here, rest.0), (q.name.other, rest.1),
-       (((new_of_tree fs rs m i.same new, q.name.unknown), all_given ts (tree_scopes rs') inner here d r.0.value q.values), rest.2))
+      let rest = globals_are static k ds inner.scopes (done ++ T.Global (global static k d env) ∷ []) (with_name m b fs) rs' s' r.1 p.1 next h in (
+        (one_is static k d scopes (with_name m b fs) rs' r.0 q here, rest.0),
+        (q.name.other, rest.1),
+        (((new_of_tree fs rs m i.same new, q.name.unknown), all_given ts (tree_scopes rs') inner here d r.0.value q.values), rest.2),
+      )
 
 -- ---- main
 
@@ -289,16 +286,22 @@ module _ (file : File) (ts : List Top) (known : (slots : List Slot) → IsDefine
       let m = file.word f.name in
       let named = function_name file.word file.notes f scopes f.body in
       let knows : (slots : List Slot) → Knows (record { tops = ts; slots = slots }) (tree_scopes names) (record { word = file.word; scopes = scopes })
-          = λ slots. subst (λ sc. Knows (record { tops = ts; slots = slots }) (tree_scopes names) (record { word = file.word; scopes = sc })) (sym h) (place_knows file ts slots (known slots) now z now names z.grows same) in
-      let b = function_is_bound file.flat file.word file.notes f scopes ts (tree_scopes names) knows r q.1 in
-      ((((resolves file.flat file.word file.notes f scopes ts r q.1 (λ slots. (tree_scopes names, knows slots))), tt),
-        (λ k. main_by file.word file.notes f scopes f.body (either_true (bytes_eq m (codes "main")) (is_main_form file.word f) q.0.main (ap (λ w. bytes_eq w (codes "main")) (sym named) ∙ k)), tt)),
-       (record {
-         named = subst (λ w. IsFunctionName w (tree_scopes p.rs)) (sym named) (function_named f.name (has_body f && has_function s.bodies m) (signature_in file.bodies file.word f) m s.scopes p.fs p.rs p.shaped p.inv.same q.0.again);
-         unknown = ap is_known named ∙ q.0.unknown;
-         parameters = subst (λ ss. AreNewParameters (function_of file.word file.notes f scopes).params 0 (function_of file.word file.notes f scopes).slots (Scopes.inside ss)) (sym tree) b.0;
-         body = subst (λ ss. BodyIsBound (function_of file.word file.notes f scopes) ss (function_of file.word file.notes f scopes).body) (sym tree) b.1;
-       }, tt))
+      = λ slots. subst (λ sc. Knows (record { tops = ts; slots = slots }) (tree_scopes names) (record { word = file.word; scopes = sc })) (sym h) (place_knows file ts slots (known slots) now z now names z.grows same) in
+      let b = function_is_bound file.flat file.word file.notes f scopes ts (tree_scopes names) knows r q.1 in (
+        (
+          ((resolves file.flat file.word file.notes f scopes ts r q.1 (λ slots. (tree_scopes names, knows slots))), tt),
+          (λ k. main_by file.word file.notes f scopes f.body (either_true (bytes_eq m (codes "main")) (is_main_form file.word f) q.0.main (ap (λ w. bytes_eq w (codes "main")) (sym named) ∙ k)), tt),
+        ),
+        (
+          record {
+            named = subst (λ w. IsFunctionName w (tree_scopes p.rs)) (sym named) (function_named f.name (has_body f && has_function s.bodies m) (signature_in file.bodies file.word f) m s.scopes p.fs p.rs p.shaped p.inv.same q.0.again);
+            unknown = ap is_known named ∙ q.0.unknown;
+            parameters = subst (λ ss. AreNewParameters (function_of file.word file.notes f scopes).params 0 (function_of file.word file.notes f scopes).slots (Scopes.inside ss)) (sym tree) b.0;
+            body = subst (λ ss. BodyIsBound (function_of file.word file.notes f scopes) ss (function_of file.word file.notes f scopes).body) (sym tree) b.1;
+          },
+          tt,
+        ),
+      )
   form_holds done first Unread s p r e now h names tree same z = absurd r
 
   pub file_holds : (xs : List tops.Top) (s : State) (done : List Top) (p : Place file done s.scopes) → IsReadFile file.word file.notes xs → file_faults file xs s [] ≡ [] → ts ≡ done ++ tops_of file xs s → HoldFrom (tree_scopes p.rs) (tops_of file xs s)

@@ -1,8 +1,7 @@
 -- The names of file scope: what each is bound to, and what stands there by that name.
-use Rattle.std.proofs.Common.{ℕ, ℤ, Bool, true, false, cond, not, List, [], ◌∷◌, ◌++◌, map, codes, Option, Some, None, is_some, option_map, ◌≡◌, refl, sym, ap, subst, ◌∙◌, true≢false, bytes_eq, ◌&&◌}
+use Rattle.std.proofs.Common.{ℕ, Bool, true, false, cond, List, [], ◌∷◌, ◌++◌, map, codes, Option, Some, None, is_some, option_map, ◌≡◌, refl, sym, ap, subst, ◌∙◌, true≢false, bytes_eq, ◌&&◌}
 use Rattle.std.specs.Prelude.{IfSome, IsSomeAnd, IsSome, take}
 use Rattle.std.specs.Option.{option_or}
-use Rattle.std.proofs.lemmas.Slice.Eq.{bytes_eq-Decides}
 use Rattle.c_types.specs.declared.kinds.IntKind.TheVariants.{Int}
 use Rattle.c_types.specs.Numbers.{IsInRange}
 use Rattle.c_types.specs.Words.{is_known, known_functions}
@@ -17,15 +16,15 @@ use Rattle.c_kinds.specs.declared.binding.Want.TheVariants as want
 use Rattle.c_kinds.specs.declared.binding.Signature.{Signature}
 use Rattle.c_kinds.specs.declared.binding.Binding.{Binding}
 use Rattle.c_kinds.specs.declared.binding.Binding.TheVariants as B
-use Rattle.c_kinds.specs.Scopes.{Env, Scope, Names, found, look_up, or_else, known_scope, takes}
+use Rattle.c_kinds.specs.Scopes.{Scope, found, or_else, known_scope, takes}
 use Rattle.c_resolved.specs.Names as Tree
 use Rattle.c_resolved.specs.Names.{first_function, the_function, the_global, declared_or, known, signature, callee}
 use Rattle.c_resolved.specs.Scopes as Scopes
 use Rattle.c_resolved.specs.Scopes.{Meaning, AConstant, AVariable, AFunction}
 use Rattle.c_resolved.specs.Within.{Each}
-use Rattle.resolving_core.proofs.Bindings.{same_names, names_same, by_bool}
+use Rattle.resolving_core.proofs.Bindings.{same_names}
 use Rattle.resolving_core.proofs.Known.{HasShape, WantsAgree, CalleeAgrees, IsKnown, Knows}
-use Rattle.resolving_core.proofs.Lists.{the_some, each_map, each_append, and_left, and_right}
+use Rattle.resolving_core.proofs.Lists.{each_map, and_left, and_right}
 
 -- ---- what stands at file scope by a name
 

@@ -1,5 +1,5 @@
 -- What stands at file scope without a violation has none in any of its parts.
-use Rattle.std.proofs.Common.{ℕ, ℤ, negsuc, true≢false, Bool, true, false, cond, not, ◌&&◌, ◌||◌, List, [], ◌∷◌, map, codes, Option, Some, None, is_some, ◌≡◌, refl, sym, ap, subst, ◌∙◌, bytes_eq}
+use Rattle.std.proofs.Common.{ℕ, ℤ, negsuc, true≢false, Bool, true, false, not, ◌&&◌, List, [], ◌∷◌, codes, Option, Some, None, is_some, ◌≡◌, refl, sym, ap, subst, ◌∙◌, bytes_eq}
 use Rattle.c_types.specs.declared.kinds.IntKind.TheVariants.{Int}
 use Rattle.c_types.specs.Numbers.{is_in_range}
 use Rattle.c_types.specs.Words.{is_known}
@@ -11,7 +11,7 @@ use Rattle.c_source.specs.Tops as tops
 use Rattle.c_kinds.specs.declared.binding.Signature.{Signature}
 use Rattle.c_kinds.specs.declared.binding.Binding.{Binding}
 use Rattle.c_kinds.specs.declared.binding.Binding.TheVariants as B
-use Rattle.c_kinds.specs.Scopes.{Env, Scope, Faults, fault, fault_if, Names, bound, is_bound, bind_fault}
+use Rattle.c_kinds.specs.Scopes.{Env, Scope, Faults, fault_if, Names, bound, is_bound, bind_fault}
 use Rattle.c_kinds.specs.Typing.{constant_faults}
 use Rattle.c_scopes.specs.Enums.{int_fault, worth, next_value, value_of, value_faults, enumerated, enum_faults}
 use Rattle.c_scopes.specs.FileNames.{file_name_faults}
@@ -21,7 +21,7 @@ use Rattle.c_scopes.specs.Globals.{global_declared, global_faults, globals_fault
 use Rattle.c_statements.specs.declared.extents.Kinded.{Kinded}
 use Rattle.c_statements.specs.Context.{Anchor, Context, Walk, env_at, has_label, no_construct}
 use Rattle.c_statements.specs.Declarations.{kinded, is_bad_array, size_faults, initial_faults}
-use Rattle.c_statements.specs.Functions.{FlatCounts, bind_parameter, parameter_fault, parameters_faults, body_items, body_faults, context, prototype_context, inside, tangle_fault, measures, defined_faults, function_faults}
+use Rattle.c_statements.specs.Functions.{FlatCounts, bind_parameter, parameter_fault, parameters_faults, body_items, body_faults, context, prototype_context, inside, tangle_fault, measures, defined_faults}
 use Rattle.c_statements.specs.Labels.{body_labels, with_number, twice_from, twice_faults}
 use Rattle.c_statements.specs.Measures.{is_tangled}
 use Rattle.resolving_core.proofs.Empty.{Empties, constant_empty, size_empty, initial_empty, list_empty, item_empty}
@@ -195,13 +195,15 @@ defined_parts flat word notes f b scopes vs e =
     let t = tangle_clean flat word f b (body_items ctx b w) (bs (ls (ps vs))) e in
     let x = body_clean ctx b w (ls (ps vs)) t.0 in
     let y = twice_clean [] word (body_labels b []) (ps vs) x in
-    let z = parameters_clean ctx true f.parameters start vs y in
-    (z, record {
-      tangle = t.1;
-      body = subst (λ vs. bs vs ≡ []) x t.0;
-      labels = subst (λ vs. ls vs ≡ []) y x;
-      parameters = subst (λ vs. ps vs ≡ []) z y;
-    })
+    let z = parameters_clean ctx true f.parameters start vs y in (
+      z,
+      record {
+        tangle = t.1;
+        body = subst (λ vs. bs vs ≡ []) x t.0;
+        labels = subst (λ vs. ls vs ≡ []) y x;
+        parameters = subst (λ vs. ps vs ≡ []) z y;
+      },
+    )
 
 -- by whether it has a body
 abbrev pub BodyParts : FlatCounts → (ℕ → List ℕ) → (Anchor → List (List ℕ)) → Function → Option Body → List Scope → Type 0

@@ -1,7 +1,6 @@
 -- At each place of a file without a violation, what is bound is what stands there in the whole file.
-use Rattle.std.proofs.Common.{ℕ, ℤ, negsuc, Bool, true, false, cond, not, ◌&&◌, List, [], ◌∷◌, ◌++◌, append_assoc, map, Option, Some, None, is_some, ◌≡◌, refl, sym, ap, subst, ◌∙◌, true≢false, bytes_eq}
+use Rattle.std.proofs.Common.{ℕ, negsuc, Bool, true, ◌&&◌, List, [], ◌∷◌, ◌++◌, append_assoc, map, Option, Some, None, is_some, ◌≡◌, refl, sym, ap, subst, ◌∙◌, true≢false}
 use Rattle.std.specs.Prelude.{IfSome}
-use Rattle.std.proofs.lemmas.List.{append-nil}
 use Rattle.c_types.specs.Words.{is_known}
 use Rattle.c_tree.specs.declared.tree.Slot.{Slot}
 use Rattle.c_tree.specs.declared.tree.Top.{Top}
@@ -10,24 +9,22 @@ use Rattle.c_source.specs.Tops.{Function, Form, Line, Enum, Globals, Defines, Un
 use Rattle.c_source.specs.Tops as tops
 use Rattle.c_kinds.specs.declared.binding.Binding.{Binding}
 use Rattle.c_kinds.specs.declared.binding.Binding.TheVariants as B
-use Rattle.c_kinds.specs.Scopes.{Env, Scope, found, known_scope}
+use Rattle.c_kinds.specs.Scopes.{Scope, found, known_scope}
 use Rattle.c_scopes.specs.Enums.{enum_items}
-use Rattle.c_scopes.specs.Files.{File, State, env_of, start, function_declared, notes_tops, form_tops, behind_form, form_faults, tops_of, file_faults}
-use Rattle.c_scopes.specs.FunctionNames.{has_function, has_body, signature_in, bodies_of}
+use Rattle.c_scopes.specs.Files.{File, State, env_of, function_declared, notes_tops, form_tops, behind_form, form_faults, tops_of, file_faults}
+use Rattle.c_scopes.specs.FunctionNames.{has_function, has_body, signature_in}
 use Rattle.c_statements.specs.Context.{Before, Last}
 use Rattle.c_statements.specs.Declarations.{kinded}
 use Rattle.c_statements.specs.Functions.{function_of}
-use Rattle.c_resolved.specs.Names.{first_function, the_function}
+use Rattle.c_resolved.specs.Names.{the_function}
 use Rattle.c_resolved.specs.Scopes as Scopes
-use Rattle.c_resolved.specs.Within.{Each}
-use Rattle.resolving_core.proofs.Bodies.{file_bodies}
-use Rattle.resolving_core.proofs.FileNames.{TopFact, NoF, NoG, Unnamed, no_function, FileGood, Same, library_scope, IsDefined, file_knows}
+use Rattle.resolving_core.proofs.FileNames.{NoG, Unnamed, no_function, FileGood, Same, IsDefined, file_knows}
 use Rattle.resolving_core.proofs.FileParts.{file_parts, function_parts}
 use Rattle.resolving_core.proofs.FileScope.{Grows, grows_twice, Inv, inv_neutral}
 use Rattle.resolving_core.proofs.FileWalk.{Shaped, tree_scopes, behind_tops, Stepped, enums_step, globals_step, function_step}
 use Rattle.resolving_core.proofs.FunctionTrees.{own_agrees, function_name}
 use Rattle.resolving_core.proofs.Known.{Knows}
-use Rattle.resolving_core.specs.Read.{IsReadFunction, IsReadTop, IsReadTopForm, IsReadFile}
+use Rattle.resolving_core.specs.Read.{IsReadTopForm, IsReadFile}
 
 -- ---- what has no name
 
@@ -95,7 +92,8 @@ module _ (file : File) where
       let new = notes_tops file (Before first) ++ form_tops file first form s in
       let z = at_end xs (behind_form file form s) (done ++ new) (stepped_place done first form s p r.0 q.0) r.1 q.1 in
       record {
-        last = z.last; names = z.names;
+        last = z.last;
+        names = z.names;
         inv = subst (λ l. Inv defined l z.last z.names) (append_assoc done new (tops_of file xs (behind_form file form s))) z.inv;
         grows = grows_twice p.fs v.fs' z.last v.grows z.grows;
       }

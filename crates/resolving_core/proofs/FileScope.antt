@@ -1,12 +1,10 @@
 -- How the names of file scope grow: each that is declared is bound once, or is a function that is declared again.
-use Rattle.std.proofs.Common.{ℕ, ℤ, Bool, true, false, cond, not, ◌&&◌, List, [], ◌∷◌, ◌++◌, map, Option, Some, None, is_some, option_map, ◌≡◌, refl, sym, ap, subst, ◌∙◌, true≢false, bytes_eq}
-use Rattle.std.specs.Prelude.{IfSome, IsSomeAnd, IsSome, take}
+use Rattle.std.proofs.Common.{ℕ, Bool, true, false, cond, List, [], ◌∷◌, ◌++◌, Option, Some, None, is_some, option_map, ◌≡◌, refl, sym, ap, subst, ◌∙◌, true≢false, bytes_eq}
+use Rattle.std.specs.Prelude.{IfSome, IsSome, take}
 use Rattle.std.specs.Option.{option_or}
 use Rattle.c_types.specs.declared.kinds.IntKind.{IntKind}
-use Rattle.c_types.specs.Words.{is_known}
 use Rattle.c_tree.specs.declared.tree.Slot.{Slot}
 use Rattle.c_tree.specs.declared.tree.Function.{Function}
-use Rattle.c_tree.specs.declared.tree.GlobalVariable.{GlobalVariable}
 use Rattle.c_tree.specs.declared.tree.Top.{Top}
 use Rattle.c_tree.specs.declared.tree.Top.TheVariants as T
 use Rattle.c_kinds.specs.declared.binding.Want.{Want}
@@ -17,15 +15,14 @@ use Rattle.c_kinds.specs.declared.binding.Binding.TheVariants as B
 use Rattle.c_kinds.specs.Calls.{same_kind, same_truth}
 use Rattle.c_kinds.specs.Scopes.{Scope, found, with_entry, with_name}
 use Rattle.c_scopes.specs.FunctionNames.{same_result, same_want, same_wants, same_signature}
-use Rattle.c_resolved.specs.Names.{first_function, the_global}
+use Rattle.c_resolved.specs.Names.{first_function}
 use Rattle.c_resolved.specs.Scopes as Scopes
 use Rattle.c_resolved.specs.Scopes.{Meaning, AFunction}
-use Rattle.c_resolved.specs.Within.{Each}
 use Rattle.resolving_core.proofs.Bindings.{same_names, names_same, found_new}
 use Rattle.resolving_core.proofs.Calls.{same_kind_is, same_truth_is}
-use Rattle.resolving_core.proofs.FileNames.{TopFact, Named, NoF, NoG, Unnamed, named_map, unnamed_all, global_stays, function_append, first_named, FunctionAgrees, FileGood, meaning_of, Same}
+use Rattle.resolving_core.proofs.FileNames.{NoF, NoG, Unnamed, unnamed_all, global_stays, function_append, first_named, FunctionAgrees, FileGood, meaning_of, Same}
 use Rattle.resolving_core.proofs.Known.{HasShape, WantAgrees, WantsAgree}
-use Rattle.resolving_core.proofs.Lists.{and_left, and_right, each_append, the_some}
+use Rattle.resolving_core.proofs.Lists.{and_left, and_right, each_append}
 
 -- ---- signatures that agree
 
@@ -58,9 +55,10 @@ result_same None (Some b) e = absurd (true≢false (sym e))
 
 -- what agrees with a later declaration agrees with the first
 agrees_again : (defined : Bool) (g s : Signature) (f h : Function) → FunctionAgrees defined g f → same_signature g s ≡ true → FunctionAgrees defined s h → FunctionAgrees defined g h
-agrees_again defined g s f h a e b =
-    (b.0 ∙ sym (result_same g.result s.result (and_left (same_result g.result s.result) (same_wants g.wants s.wants) e)),
-     wants_again defined g.wants s.wants (take f.params f.slots) (take h.params h.slots) a.1 (and_right (same_result g.result s.result) (same_wants g.wants s.wants) e) b.1)
+agrees_again defined g s f h a e b = (
+  b.0 ∙ sym (result_same g.result s.result (and_left (same_result g.result s.result) (same_wants g.wants s.wants) e)),
+  wants_again defined g.wants s.wants (take f.params f.slots) (take h.params h.slots) a.1 (and_right (same_result g.result s.result) (same_wants g.wants s.wants) e) b.1,
+)
 
 -- ---- scopes that grow
 
@@ -96,9 +94,11 @@ module _ (defined : List ℕ → Bool) where
   good_more : (done new : List Top) (m : List ℕ) (b : Binding) → Unnamed m new → FileGood defined done m b → FileGood defined (done ++ new) m b
   good_more done new m (B.Constant v) u h = (h.0, each_append _ done new h.1 u)
   good_more done new m (B.Global shape) u h = (global_stays m (HasShape shape) done new h.0, each_append _ done new h.1 (unnamed_all NoF (λ g. Unit {0}) m new u))
-  good_more done new m (B.Function s) u h =
-      (subst IsSome (sym (function_append (λ f. true) m done new)) (some_left (first_function (λ f. true) m done) (first_function (λ f. true) m new) h.0),
-       each_append _ done new h.1 (unnamed_all (FunctionAgrees (defined m) s) NoG m new u), h.2)
+  good_more done new m (B.Function s) u h = (
+    subst IsSome (sym (function_append (λ f. true) m done new)) (some_left (first_function (λ f. true) m done) (first_function (λ f. true) m new) h.0),
+    each_append _ done new h.1 (unnamed_all (FunctionAgrees (defined m) s) NoG m new u),
+    h.2,
+  )
   good_more done new m (B.Local k shape) u h = absurd h
   good_more done new m B.Printf u h = absurd h
 
@@ -146,9 +146,11 @@ module _ (defined : List ℕ → Bool) where
   again_good : (done : List Top) (f : Function) (m : List ℕ) (g s : Signature) → FileGood defined done m (B.Function g) → same_signature g s ≡ true → FunctionAgrees (defined m) s f
       → FileGood defined (done ++ T.Function f ∷ []) m (B.Function g)
   again_good done f m g s h e a =
-      let first = first_function (λ f. true) m done in
-      (subst IsSome (sym (function_append (λ f. true) m done (T.Function f ∷ []))) (some_left first (first_function (λ f. true) m (T.Function f ∷ [])) h.0),
-       each_append _ done (T.Function f ∷ []) h.1 (λ k. sample first h.0 (first_named (FunctionAgrees (defined m) g) NoG (λ f. true) m done h.1), tt), h.2)
+      let first = first_function (λ f. true) m done in (
+        subst IsSome (sym (function_append (λ f. true) m done (T.Function f ∷ []))) (some_left first (first_function (λ f. true) m (T.Function f ∷ [])) h.0),
+        each_append _ done (T.Function f ∷ []) h.1 (λ k. sample first h.0 (first_named (FunctionAgrees (defined m) g) NoG (λ f. true) m done h.1), tt),
+        h.2,
+      )
     where
       sample : (o : Option Function) → IsSome o → IfSome o (λ x. FunctionAgrees (defined m) g x × (true ≡ true)) → FunctionAgrees (defined m) g f
       sample None t x = absurd (true≢false (sym t))

@@ -1,5 +1,5 @@
 -- What file scope binds behind each part of the file, and behind the whole.
-use Rattle.std.proofs.Common.{ℕ, ℤ, pos, negsuc, Bool, true, false, cond, not, ◌&&◌, List, [], ◌∷◌, ◌++◌, append_assoc, map, Option, Some, None, is_some, option_map, option_and_then, ◌≡◌, refl, sym, ap, subst, ◌∙◌, true≢false, bytes_eq, arith}
+use Rattle.std.proofs.Common.{ℕ, ℤ, pos, Bool, true, false, cond, not, ◌&&◌, List, [], ◌∷◌, ◌++◌, append_assoc, Option, Some, None, is_some, option_and_then, ◌≡◌, refl, sym, ap, subst, ◌∙◌, true≢false, arith}
 use Rattle.std.specs.Prelude.{IfSome, IsSomeAnd, IsSome, int_le}
 use Rattle.std.specs.Option.{option_or}
 use Rattle.std.proofs.lemmas.Int.{ints}
@@ -7,40 +7,32 @@ use Rattle.std.proofs.lemmas.List.{append-nil}
 use Rattle.c_types.specs.declared.kinds.IntKind.TheVariants.{Int}
 use Rattle.c_types.specs.Numbers.{is_in_range, IsInRange, least, greatest}
 use Rattle.c_types.specs.Words.{is_known}
-use Rattle.c_tree.specs.declared.tree.EnumItem.{EnumItem}
 use Rattle.c_tree.specs.declared.tree.Home.TheVariants as H
 use Rattle.c_tree.specs.declared.tree.Function as tree
 use Rattle.c_tree.specs.declared.tree.Top.{Top}
 use Rattle.c_tree.specs.declared.tree.Top.TheVariants as T
 use Rattle.c_source.specs.Terms.{Term}
 use Rattle.c_source.specs.Items.{Declarator}
-use Rattle.c_source.specs.Tops.{Enumerator, Function, Form, Line, Enum, Globals, Defines, Unread}
-use Rattle.c_source.specs.Tops as tops
+use Rattle.c_source.specs.Tops.{Enumerator}
 use Rattle.c_kinds.specs.declared.binding.Signature.{Signature}
 use Rattle.c_kinds.specs.declared.binding.Binding.{Binding}
 use Rattle.c_kinds.specs.declared.binding.Binding.TheVariants as B
-use Rattle.c_kinds.specs.Scopes.{Env, Scope, Faults, found, bound, is_bound, bind, with_name, known_scope}
-use Rattle.c_scopes.specs.Enums.{an_int, next_value, worth, value_of, or_zero, enumerated, behind_enum, enum_item, enum_items, enum_faults}
-use Rattle.c_scopes.specs.Files.{File, State, env_of, start, with_names, function_declared, notes_tops, form_tops, behind_form, form_faults, tops_of, file_faults}
-use Rattle.c_scopes.specs.FunctionNames.{has_function, has_body, signature_in, again_faults, same_signature}
+use Rattle.c_kinds.specs.Scopes.{Env, Scope, found, bound, is_bound, bind, with_name, known_scope}
+use Rattle.c_scopes.specs.Enums.{an_int, next_value, worth, value_of, or_zero, enumerated, behind_enum, enum_items, enum_faults}
+use Rattle.c_scopes.specs.FunctionNames.{again_faults, same_signature}
 use Rattle.c_scopes.specs.Globals.{global_declared, behind_globals, global, globals, globals_faults}
 use Rattle.c_statements.specs.declared.extents.Kinded.{Kinded}
-use Rattle.c_statements.specs.Context.{Anchor, Before, Last}
-use Rattle.c_statements.specs.Declarations.{kinded, shape_of}
-use Rattle.c_statements.specs.Functions.{function_of}
+use Rattle.c_statements.specs.Declarations.{shape_of}
 use Rattle.c_resolved.specs.Names.{first_function, the_global}
 use Rattle.c_resolved.specs.Scopes as Scopes
 use Rattle.c_resolved.specs.Scopes.{AConstant, AVariable, AFunction, behind_top, bind_constants}
-use Rattle.c_resolved.specs.Within.{Each}
 use Rattle.resolving_core.proofs.Bindings.{names_same, same_names}
 use Rattle.resolving_core.proofs.Declared.{slot_shape}
-use Rattle.resolving_core.proofs.FileNames.{TopFact, NoF, NoG, Unnamed, unnamed_all, no_global, function_append, global_append, FunctionAgrees, FileGood, meaning_of, Same, library_scope}
-use Rattle.resolving_core.proofs.FileParts.{NewName, EnumParts, enum_parts, GlobalParts, global_parts, globals_parts, FunctionName, function_parts, BodyParts, file_parts}
-use Rattle.resolving_core.proofs.FileScope.{Grows, grows_twice, name_grows, Inv, inv_neutral, inv_bound, inv_again}
-use Rattle.resolving_core.proofs.FunctionTrees.{own_agrees, function_name}
+use Rattle.resolving_core.proofs.FileNames.{NoF, NoG, Unnamed, unnamed_all, no_global, function_append, global_append, FunctionAgrees, FileGood, library_scope}
+use Rattle.resolving_core.proofs.FileParts.{enum_parts, global_parts, globals_parts}
+use Rattle.resolving_core.proofs.FileScope.{Grows, grows_twice, name_grows, Inv, inv_bound, inv_again}
 use Rattle.resolving_core.proofs.Known.{HasShape}
 use Rattle.resolving_core.proofs.Lists.{and_left, and_right, not_true, clean_if, none_left, each_append, is_some_and}
-use Rattle.resolving_core.specs.Read.{IsReadFunction, IsReadTop, IsReadTopForm}
 
 -- ---- values of constants
 
@@ -119,7 +111,7 @@ module _ (defined : List ℕ → Bool) where
       let b = B.Constant (or_zero v) in
       let n = new_shaped env.scopes fs m s p.name.new in
       let r = enums_step es v (enumerated x v env) done (with_name m b fs) ((m, AConstant (or_zero v)) ∷ rs) (bound_shaped env.scopes fs m b s) p.rest
-              (one_constant done fs rs m (or_zero v) n (zero_is_int v (value_is_int env x.value before)) i) in
+      (one_constant done fs rs m (or_zero v) n (zero_is_int v (value_is_int env x.value before)) i) in
       record { fs' = r.fs'; rs' = r.rs'; shaped = r.shaped; inv = r.inv; grows = grows_twice fs (with_name m b fs) r.fs' (name_grows m b fs) r.grows; tree = r.tree }
 
   -- the scopes of the tree behind what stands there
@@ -132,10 +124,11 @@ module _ (defined : List ℕ → Bool) where
   one_global done fs rs static k d env e i =
       let m = env.word d.name in
       let g = global static k d env in
-      inv_bound defined done (T.Global g ∷ []) fs rs m (B.Global (shape_of k d)) e
-      (subst (λ o. IsSomeAnd o (HasShape (shape_of k d))) (sym (global_append m done (T.Global g ∷ []) ∙ (ap (λ o. option_or o (the_global m (T.Global g ∷ []))) (no_global NoF m done (i.fresh m e)))))
-        (is_some_and (HasShape (shape_of k d)) (the_global m (T.Global g ∷ [])) g.slot (ap (λ t. cond t (Some g.slot) None) (names_same m m refl)) (slot_shape env k d)),
-       each_append _ done (T.Global g ∷ []) (unnamed_all NoF (λ g. Unit {0}) m done (i.fresh m e)) (λ h. tt, tt))
+      inv_bound defined done (T.Global g ∷ []) fs rs m (B.Global (shape_of k d)) e (
+        subst (λ o. IsSomeAnd o (HasShape (shape_of k d))) (sym (global_append m done (T.Global g ∷ []) ∙ (ap (λ o. option_or o (the_global m (T.Global g ∷ []))) (no_global NoF m done (i.fresh m e)))))
+            (is_some_and (HasShape (shape_of k d)) (the_global m (T.Global g ∷ [])) g.slot (ap (λ t. cond t (Some g.slot) None) (names_same m m refl)) (slot_shape env k d)),
+        each_append _ done (T.Global g ∷ []) (unnamed_all NoF (λ g. Unit {0}) m done (i.fresh m e)) (λ h. tt, tt),
+      )
       (λ q h. (λ j. true≢false (sym (names_same q m (sym (same_names m q j))) ∙ h), tt)) i
 
   pub globals_step : (static : Bool) (k : Kinded) (ds : List Declarator) (env : Env) (done : List Top) (fs : Scope) (rs : Scopes.Scope) → Shaped env.scopes fs → globals_faults k ds env [] ≡ [] → Inv defined done fs rs
@@ -151,7 +144,9 @@ module _ (defined : List ℕ → Bool) where
       let more = globals static k ds (global_declared k d env) in
       let r = globals_step static k ds (global_declared k d env) (done ++ g ∷ []) (with_name m b fs) _ (bound_shaped env.scopes fs m b s) p.1 (one_global done fs rs static k d env n i) in
       record {
-        fs' = r.fs'; rs' = r.rs'; shaped = r.shaped;
+        fs' = r.fs';
+        rs' = r.rs';
+        shaped = r.shaped;
         inv = subst (λ l. Inv defined l r.fs' r.rs') (append_assoc done (g ∷ []) more) r.inv;
         grows = grows_twice fs (with_name m b fs) r.fs' (name_grows m b fs) r.grows;
         tree = r.tree;
@@ -161,9 +156,11 @@ module _ (defined : List ℕ → Bool) where
       → Inv defined (done ++ T.Function f ∷ []) (with_name f.name (B.Function s) fs) ((f.name, AFunction) ∷ rs)
   new_function f s done fs rs e u a i =
       let m = f.name in
-      inv_bound defined done (T.Function f ∷ []) fs rs m (B.Function s) e
-      (subst IsSome (sym (function_append (λ f. true) m done (T.Function f ∷ []))) (right_there (first_function (λ f. true) m done) (first_function (λ f. true) m (T.Function f ∷ [])) (ap (λ t. is_some (cond (t && true) (Some f) None)) (names_same m m refl))),
-       each_append _ done (T.Function f ∷ []) (unnamed_all (FunctionAgrees (defined m) s) NoG m done (i.fresh m e)) (λ k. a, tt), u)
+      inv_bound defined done (T.Function f ∷ []) fs rs m (B.Function s) e (
+        subst IsSome (sym (function_append (λ f. true) m done (T.Function f ∷ []))) (right_there (first_function (λ f. true) m done) (first_function (λ f. true) m (T.Function f ∷ [])) (ap (λ t. is_some (cond (t && true) (Some f) None)) (names_same m m refl))),
+        each_append _ done (T.Function f ∷ []) (unnamed_all (FunctionAgrees (defined m) s) NoG m done (i.fresh m e)) (λ k. a, tt),
+        u,
+      )
       (λ q h. (λ k. true≢false (sym (names_same q m (sym (same_names m q k))) ∙ h), tt)) i
     where
       right_there : (o v : Option tree.Function) → is_some v ≡ true → IsSome (option_or o v)
@@ -179,7 +176,7 @@ module _ (defined : List ℕ → Bool) where
         rs' = (f.name, AFunction) ∷ rs;
         shaped = bound_shaped scopes fs m (B.Function s) h;
         inv = subst (λ w. Inv defined (done ++ T.Function f ∷ []) (with_name w (B.Function s) fs) ((f.name, AFunction) ∷ rs)) j
-              (new_function f s done fs rs (ap (λ w. is_some (found w fs)) j ∙ ap is_some k) (ap is_known j ∙ u) (subst (λ w. FunctionAgrees (defined w) s f) (sym j) a) i);
+            (new_function f s done fs rs (ap (λ w. is_some (found w fs)) j ∙ ap is_some k) (ap is_known j ∙ u) (subst (λ w. FunctionAgrees (defined w) s f) (sym j) a) i);
         grows = name_grows m (B.Function s) fs;
         tree = refl;
       }
@@ -191,7 +188,7 @@ module _ (defined : List ℕ → Bool) where
         rs' = (f.name, AFunction) ∷ rs;
         shaped = bound_shaped scopes fs m (B.Function s) h;
         inv = subst (λ w. Inv defined (done ++ T.Function f ∷ []) (with_name w (B.Function s) fs) ((f.name, AFunction) ∷ rs)) j
-              (inv_again defined done f fs rs g s (B.Function s) (ap (λ w. found w fs) j ∙ k) (not_true (same_signature g s) q.1) (subst (λ w. FunctionAgrees (defined w) s f) (sym j) a) i);
+            (inv_again defined done f fs rs g s (B.Function s) (ap (λ w. found w fs) j ∙ k) (not_true (same_signature g s) q.1) (subst (λ w. FunctionAgrees (defined w) s f) (sym j) a) i);
         grows = name_grows m (B.Function s) fs;
         tree = refl;
       }

@@ -4,7 +4,6 @@ use Rattle.std.proofs.lemmas.Bool.{eqb-true}
 use Rattle.std.proofs.lemmas.List.{append-nil}
 use Rattle.c_kinds.specs.declared.binding.Want.{Want}
 use Rattle.c_kinds.specs.declared.binding.Want.TheVariants.{Sized}
-use Rattle.c_kinds.specs.declared.format.Format.{Format}
 use Rattle.c_kinds.specs.declared.format.Format.TheVariants.{Plain, Percent, PercentLong}
 use Rattle.c_kinds.specs.Formats.{is_short, is_long, next, ended, wanted_from}
 use Rattle.c_kinds.specs.Formats as Formats
@@ -33,7 +32,7 @@ plain_step b out bs p q f g false = g (out ++ []) ∙ none_more out q
 percent_step : (out : List Want) (bs : List ℕ) (p q : Option (List Bool)) → ((out : List Want) → wanted_from out Plain bs ≡ behind out p) → ((out : List Want) → wanted_from out PercentLong bs ≡ behind out q) → (t l s : Bool)
     → (t ≡ true → s ≡ false) → (l ≡ true → s ≡ false)
     → elim (cond (t || s) (Some Plain) (cond l (Some PercentLong) None)) [ None ↦ None | Some f ↦ wanted_from (out ++ cond s (Sized false ∷ []) []) f bs ]
-      ≡ behind out (elim t [ true ↦ p | false ↦ elim l [ true ↦ q | false ↦ elim s [ true ↦ option_map (λ ws. false ∷ ws) p | false ↦ None ] ] ])
+    ≡ behind out (elim t [ true ↦ p | false ↦ elim l [ true ↦ q | false ↦ elim s [ true ↦ option_map (λ ws. false ∷ ws) p | false ↦ None ] ] ])
 percent_step out bs p q f g true l true c d = absurd (true≢false (c refl))
 percent_step out bs p q f g true l false c d = f (out ++ []) ∙ none_more out p
 percent_step out bs p q f g false true true c d = absurd (true≢false (d refl))

@@ -1,9 +1,8 @@
 -- The tree of a function: its slots begin with its parameters, and it agrees with its signature.
-use Rattle.std.proofs.Common.{ℕ, suc, Bool, true, false, cond, not, List, [], ◌∷◌, ◌++◌, append_assoc, map, length, take, drop, Option, Some, None, is_some, ◌≡◌, refl, sym, ap, subst, ◌∙◌}
-use Rattle.std.specs.Prelude.{IfSome, IsSome}
+use Rattle.std.proofs.Common.{ℕ, Bool, true, false, cond, not, List, [], ◌∷◌, ◌++◌, append_assoc, map, length, take, drop, Option, Some, None, ◌≡◌, refl, sym, ap, subst, ◌∙◌}
+use Rattle.std.specs.Prelude.{IfSome}
 use Rattle.std.proofs.lemmas.List.{append-nil}
 use Rattle.c_tree.specs.declared.tree.Slot.{Slot}
-use Rattle.c_tree.specs.declared.tree.Function as tree
 use Rattle.c_source.specs.Items.{Declarator, Body, Braces, Lone}
 use Rattle.c_source.specs.Tops.{Parameter, Function}
 use Rattle.c_source.specs.Words.{kind_of}
@@ -18,8 +17,8 @@ use Rattle.resolving_core.proofs.FileNames.{FunctionAgrees}
 use Rattle.resolving_core.proofs.FileParts.{BodyParts}
 use Rattle.resolving_core.proofs.Grown.{Grown, list_grows, item_grows}
 use Rattle.resolving_core.proofs.Known.{WantAgrees, WantsAgree}
-use Rattle.resolving_core.specs.Read.{IsReadDeclarator, IsReadBody, IsReadFunction}
-use Rattle.resolving_core.proofs.Walk.{Begins, Any}
+use Rattle.resolving_core.specs.Read.{IsReadDeclarator, IsReadBody}
+use Rattle.resolving_core.proofs.Walk.{Any}
 
 -- ---- parameters
 

@@ -1,9 +1,8 @@
 -- A function without a violation: its items, its slots, and what its parameters are bound to.
-use Rattle.std.proofs.Common.{ℕ, zero, suc, ◌+◌, ◌-◌, ◌≤◌, ◌<◌, Bool, true, false, cond, not, List, [], ◌∷◌, ◌++◌, append_assoc, map, length, take, drop, Option, Some, None, is_some, ◌≡◌, refl, sym, ap, subst, ◌∙◌, true≢false, slice_get, arith, length-append}
-use Rattle.std.specs.Prelude.{IfSome, IsSomeAnd}
+use Rattle.std.proofs.Common.{ℕ, suc, ◌+◌, ◌-◌, ◌≤◌, ◌<◌, Bool, true, false, cond, List, [], ◌∷◌, ◌++◌, append_assoc, map, length, take, drop, Option, Some, None, is_some, ◌≡◌, refl, sym, ap, subst, ◌∙◌, true≢false, slice_get, arith, length-append}
+use Rattle.std.specs.Prelude.{IfSome}
 use Rattle.std.proofs.lemmas.List.{append-nil, length-map}
 use Rattle.c_tree.specs.declared.tree.Slot.{Slot}
-use Rattle.c_tree.specs.declared.tree.Item as item
 use Rattle.c_tree.specs.declared.tree.Function as tree
 use Rattle.c_tree.specs.declared.tree.Home.TheVariants as H
 use Rattle.c_tree.specs.declared.tree.Top.{Top}
@@ -37,24 +36,22 @@ use Rattle.resolving_core.proofs.Arrays.{array_fine}
 use Rattle.resolving_core.proofs.Bindings.{names_same, knows_bound, knows_inside, look_up_tree}
 use Rattle.resolving_core.proofs.Bound.{Nearest, nearest_new, nearest_bound, At, binds_both, place_binds, item_binds, list_binds}
 use Rattle.resolving_core.proofs.Declared.{slot_there}
-use Rattle.resolving_core.proofs.FileParts.{BodyParts, DefinedParts, parameters_clean, parameters_parts}
-use Rattle.resolving_core.proofs.FunctionTrees.{Behind, inside_slots, take_all, drop_all, body_grown, behind_parameters}
+use Rattle.resolving_core.proofs.FileParts.{BodyParts, parameters_parts}
+use Rattle.resolving_core.proofs.FunctionTrees.{inside_slots, take_all, drop_all, body_grown, behind_parameters}
 use Rattle.resolving_core.proofs.Exits.{Exits, exits_surrounded}
 use Rattle.resolving_core.proofs.Gathered.{before_notes, list_numbers, item_numbers, of_list, of_item}
 use Rattle.resolving_core.proofs.LabelNumbers.{marks_gather, number_at, list_list, item_list, numbered_all}
 use Rattle.resolving_core.proofs.SlotNumbers.{slots_gather, list_runs, item_runs, run_is}
 use Rattle.resolving_core.proofs.Surroundings.{has_both, has_notes, has_list, has_item}
-use Rattle.resolving_core.proofs.Grown.{Grown}
 use Rattle.resolving_core.proofs.ItemKinds.{KnownAt, GoodItem, Good, kinds_closed}
 use Rattle.resolving_core.proofs.ItemCases.{cases_closed}
 use Rattle.resolving_core.proofs.ItemForms.{forms_closed}
 use Rattle.resolving_core.proofs.ItemReturns.{Anywhere, AnyConstant, returns_closed, initialised_closed}
 use Rattle.resolving_core.proofs.Known.{HasShape, IsKnown, Knows}
-use Rattle.resolving_core.proofs.Lists.{clean_if, is_some_and, each_map}
+use Rattle.resolving_core.proofs.Lists.{clean_if, is_some_and}
 use Rattle.resolving_core.proofs.Parts.{local_parts}
-use Rattle.resolving_core.specs.Read.{IsReadTerm, IsReadDeclarator, IsReadBody, IsReadParameter, IsReadFunction}
-use Rattle.resolving_core.proofs.Values.{Sound}
-use Rattle.resolving_core.proofs.Walk.{Begins, Closed, Holds, hold_none, hold_both}
+use Rattle.resolving_core.specs.Read.{IsReadDeclarator, IsReadBody, IsReadParameter, IsReadFunction}
+use Rattle.resolving_core.proofs.Walk.{Begins, Closed, Holds, hold_both}
 use Rattle.resolving_core.proofs.Walked.{list_holds, item_holds, notes_hold}
 
 -- ---- parameters
@@ -94,9 +91,10 @@ module _ (ctx : Context) (n : Names) where
   parameter_known x w at ss e b =
       let m = ctx.word at in
       let k = length w.slots in
-      let s = parameter_slot ctx.word x in
-      (is_some_and _ (slice_get n.slots k) s (ap (λ l. slice_get l k) b.1 ∙ slot_there w.slots b.0 s) (ap (parameter_name ctx.word) e, parameter_is ctx.word x),
-       look_up_tree m m (AVariable (H.Slot k)) ss ∙ ap (λ t. cond t (Some (AVariable (H.Slot k))) (Scopes.look_up ss m)) (names_same m m refl))
+      let s = parameter_slot ctx.word x in (
+        is_some_and _ (slice_get n.slots k) s (ap (λ l. slice_get l k) b.1 ∙ slot_there w.slots b.0 s) (ap (parameter_name ctx.word) e, parameter_is ctx.word x),
+        look_up_tree m m (AVariable (H.Slot k)) ss ∙ ap (λ t. cond t (Some (AVariable (H.Slot k))) (Scopes.look_up ss m)) (names_same m m refl),
+      )
 
   -- what is known behind a parameter
   behind_parameter : (defines : Bool) (x : Parameter) (w : Walk) → parameter_fault ctx defines x w [] ≡ [] → Begins (bind_parameter ctx.word x w).slots n.slots → KnownAt ctx n w.scopes → KnownAt ctx n (bind_parameter ctx.word x w).scopes
@@ -106,9 +104,10 @@ module _ (ctx : Context) (n : Names) where
           → KnownAt ctx n (elim o [ Some at ↦ bind (ctx.word at) (Local (length w.slots) (parameter_shape ctx.word x)) w.scopes | None ↦ w.scopes ])
       by None e h = i
       by (Some at) e h =
-          let m = ctx.word at in
-          (Scopes.bind m (AVariable (H.Slot (length w.slots))) i.0,
-           knows_bound n ctx.word m (Local (length w.slots) (parameter_shape ctx.word x)) (AVariable (H.Slot (length w.slots))) w.scopes i.0 h (parameter_known x w at i.0 e b) i.1)
+          let m = ctx.word at in (
+            Scopes.bind m (AVariable (H.Slot (length w.slots))) i.0,
+            knows_bound n ctx.word m (Local (length w.slots) (parameter_shape ctx.word x)) (AVariable (H.Slot (length w.slots))) w.scopes i.0 h (parameter_known x w at i.0 e b) i.1,
+          )
 
   bound_begins : (xs : List Parameter) (w : Walk) → Begins (bind_parameters ctx.word xs w).slots n.slots → Begins w.slots n.slots
   bound_begins [] w b = b
@@ -204,7 +203,12 @@ module _ (flat : FlatCounts) (word : ℕ → List ℕ) (notes : Anchor → List 
       let slots = (inside word f scopes).slots in
       let same = ap length (inside_slots word f scopes) ∙ length-map f.parameters (parameter_slot word) in
       record {
-        kinds = tt; consts = tt; returns = tt; initialised = tt; labels = tt; cases = tt;
+        kinds = tt;
+        consts = tt;
+        returns = tt;
+        initialised = tt;
+        labels = tt;
+        cases = tt;
         form = record {
           unflat = refl;
           parameters = begins_long (map (parameter_slot word) f.parameters) [] slots (length f.parameters) (inside_slots word f scopes ∙ sym (append-nil (map (parameter_slot word) f.parameters))) (length-map f.parameters (parameter_slot word));
@@ -298,8 +302,8 @@ module _ (ctx : Context) (n : Names) (defines : Bool) where
       by None j r h = record {
         new = subst (λ o. IsNewParameter (parameter_name ctx.word o) ss) (sym j) tt;
         at = at_same (bind_parameter ctx.word x w) w (Scopes.bind_parameter (parameter_name ctx.word x.name) i ss) ss
-             (ap (λ (o : Option ℕ). elim o [ Some at ↦ bind (ctx.word at) (Local (length w.slots) (parameter_shape ctx.word x)) w.scopes | None ↦ w.scopes ]) j)
-             (ap (λ o. Scopes.bind_parameter (parameter_name ctx.word o) i ss) j) a;
+            (ap (λ (o : Option ℕ). elim o [ Some at ↦ bind (ctx.word at) (Local (length w.slots) (parameter_shape ctx.word x)) w.scopes | None ↦ w.scopes ]) j)
+            (ap (λ o. Scopes.bind_parameter (parameter_name ctx.word o) i ss) j) a;
       }
       by (Some at) j r h =
           let m = ctx.word at in
@@ -313,7 +317,7 @@ module _ (ctx : Context) (n : Names) (defines : Bool) where
           record {
             new = subst (λ o. IsNewParameter (parameter_name ctx.word o) ss) (sym j) (new_parameter m ss (nearest_new w.scopes ss m a.nearest h));
             at = at_same (bind_parameter ctx.word x w) _ (Scopes.bind_parameter (parameter_name ctx.word x.name) i ss) _ scopes
-                 (ap (λ o. Scopes.bind_parameter (parameter_name ctx.word o) i ss) j ∙ (word_nonempty m i ss r.0 ∙ ap (λ k. Scopes.bind m (AVariable (H.Slot k)) ss) q)) bound;
+                (ap (λ o. Scopes.bind_parameter (parameter_name ctx.word o) i ss) j ∙ (word_nonempty m i ss r.0 ∙ ap (λ k. Scopes.bind m (AVariable (H.Slot k)) ss) q)) bound;
           }
 
   pub parameters_bound : (xs : List Parameter) (i : ℕ) (w : Walk) (ss : List Scopes.Scope) (more : List Slot) → i ≡ length w.slots → Each (IsReadParameter ctx.word) xs → parameters_faults ctx defines xs w [] ≡ []
@@ -358,9 +362,10 @@ module _ (flat : FlatCounts) (word : ℕ → List ℕ) (notes : Anchor → List 
       let g = body_grown ctx IsFine (declared_fine ctx) b w r p.body in
       let whole = g.whole ∙ ap (λ l. l ++ g.more) (inside_slots word f scopes) in
       let a = parameters_bound ctx n true f.parameters 0 at_start (Scopes.inside ss) g.more refl q p.parameters (g.more, g.whole) (start_at ctx n refl refl (knows slots)) in
-      let all : Begins slots slots = ([], sym (append-nil slots)) in
-      (subst (λ l. AreNewParameters (length f.parameters) 0 l (Scopes.inside ss)) (sym whole) a.new,
-       subst (λ x. AreBound slots x (trees_of (body_items ctx b w))) (sym (ap (λ l. with_parameters (length f.parameters) 0 l (Scopes.inside ss)) whole ∙ a.same)) (body_is_bound ctx n b w a.ss' a.at r p.body all))
+      let all : Begins slots slots = ([], sym (append-nil slots)) in (
+        subst (λ l. AreNewParameters (length f.parameters) 0 l (Scopes.inside ss)) (sym whole) a.new,
+        subst (λ x. AreBound slots x (trees_of (body_items ctx b w))) (sym (ap (λ l. with_parameters (length f.parameters) 0 l (Scopes.inside ss)) whole ∙ a.same)) (body_is_bound ctx n b w a.ss' a.at r p.body all),
+      )
 
   pub function_is_bound : IsReadFunction word notes f → BodyParts flat word notes f f.body scopes
       → let t = function_of word notes f scopes in AreNewParameters t.params 0 t.slots (Scopes.inside ss) × BodyIsBound t ss t.body

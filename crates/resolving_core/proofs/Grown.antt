@@ -1,21 +1,18 @@
 -- The slots behind a statement are those before it and those that it declares.
-use Rattle.std.proofs.Common.{ℕ, Bool, true, false, List, [], ◌∷◌, ◌++◌, append_assoc, Option, Some, None, ◌≡◌, refl, sym, ap, subst, ◌∙◌}
+use Rattle.std.proofs.Common.{ℕ, Bool, true, false, List, [], ◌∷◌, ◌++◌, append_assoc, ◌≡◌, refl, sym, ap, ◌∙◌}
 use Rattle.std.proofs.lemmas.List.{append-nil}
-use Rattle.std.specs.Prelude.{IfSome}
 use Rattle.c_tree.specs.declared.tree.Slot.{Slot}
-use Rattle.c_source.specs.Terms.{Term}
 use Rattle.c_source.specs.Items.{Declarator, Declaration, Label, Start, NoStart, StartValue, StartNames, Item, Declares, States, Plain, From, Statement, Null, Evaluate, If, IfElse, While, DoWhile, For, Switch, Block, Goto, Break, Continue, Return, Unread, Body, Braces, Lone, Items, NoItem}
 use Rattle.c_source.specs.Items as items
-use Rattle.c_kinds.specs.Scopes.{Faults}
 use Rattle.c_statements.specs.declared.extents.Kinded.{Kinded}
-use Rattle.c_statements.specs.Context.{Context, Walk, env_in, enter, leave, Around, in_loop, in_switch}
+use Rattle.c_statements.specs.Context.{Context, Walk, env_in, enter, Around, in_loop, in_switch}
 use Rattle.c_statements.specs.Declarations.{kinded, declared, all_declared, slot_of, local_faults, locals_faults}
 use Rattle.c_statements.specs.Labels.{has_case}
 use Rattle.c_statements.specs.Statements.{behind_start, behind_item, behind_plain, behind_statement, behind_body, behind_items}
 use Rattle.c_statements.specs.Violations.{start_faults, item_faults, plain_faults, statement_faults, body_faults, list_faults, switch_body_faults, outside_faults, outside_fault}
 use Rattle.c_resolved.specs.Within.{Each}
 use Rattle.resolving_core.proofs.Lists.{none_left, each_append}
-use Rattle.resolving_core.specs.Read.{IsReadDeclarator, IsReadDeclaration, IsReadStart, IsReadItem, IsReadPlain, IsReadStatement, IsReadBody, AreReadItems}
+use Rattle.resolving_core.specs.Read.{IsReadDeclarator, IsReadStart, IsReadItem, IsReadPlain, IsReadStatement, IsReadBody, AreReadItems}
 use Rattle.resolving_core.proofs.Parts.{locals_parts, states_parts, list_parts, if_parts, if_else_parts, while_parts, do_parts, for_parts, switch_parts, Outside, outside_declares, outside_parts, outside_one}
 
 -- more slots, for each of which the fact holds

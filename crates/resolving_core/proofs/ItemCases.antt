@@ -1,12 +1,12 @@
 -- The cases of each switch, by the promoted kind of its selector.
-use Rattle.std.proofs.Common.{ℕ, Bool, true, false, List, [], ◌∷◌, Option, Some, None, option_map, ◌≡◌, refl, sym, ap, subst, ◌∙◌}
+use Rattle.std.proofs.Common.{false, [], ◌∷◌, Option, Some, None, option_map, ◌≡◌, refl, sym, ap, subst, ◌∙◌}
 use Rattle.std.specs.Prelude.{IsSomeAnd}
 use Rattle.c_types.specs.Numbers.{promoted}
 use Rattle.c_tree.specs.Constants.{kind_of}
 use Rattle.c_tree.specs.Cases.{selector_kind}
-use Rattle.c_tree.specs.ExpressionTrees.{ExpressionTree, expression_tree}
+use Rattle.c_tree.specs.ExpressionTrees.{expression_tree}
 use Rattle.c_tree.specs.TestTrees.{Selects}
-use Rattle.c_tree.specs.Trees.{Sections, Switch, sections_of}
+use Rattle.c_tree.specs.Trees.{Switch, sections_of}
 use Rattle.c_source.specs.Terms.{Term}
 use Rattle.c_source.specs.Items.{Body}
 use Rattle.c_kinds.specs.declared.typed.Valued.{Valued}

@@ -1,12 +1,9 @@
 -- The form of each item: first parts of `for`, sections, and gotos that name labels.
-use Rattle.std.proofs.Common.{ℕ, suc, ◌<◌, Bool, true, false, List, [], ◌∷◌, ◌++◌, length, Option, Some, None, is_some, option_map, ◌≡◌, refl, sym, ap, subst, ◌∙◌, true≢false, slice_get}
-use Rattle.std.specs.Prelude.{IfSome, IsSomeAnd}
+use Rattle.std.proofs.Common.{ℕ, ◌<◌, true, List, [], ◌∷◌, length, Option, Some, None, is_some, ◌≡◌, refl, sym, ap, subst, ◌∙◌, true≢false, slice_get}
 use Rattle.c_tree.specs.declared.tree.Slot.{Slot}
 use Rattle.c_tree.specs.declared.tree.Function.{Function}
 use Rattle.c_tree.specs.declared.tree.Item as item
-use Rattle.c_tree.specs.ExpressionTrees.{ExpressionTree}
-use Rattle.c_tree.specs.Trees.{Tree, Forest, Nil, Then, trees_of}
-use Rattle.c_tree.specs.Trees as tree
+use Rattle.c_tree.specs.Trees.{Then, trees_of}
 use Rattle.c_tree.proofs.TreeLaws.{tree-Evaluate, tree-Local, trees-none, trees-more}
 use Rattle.c_source.specs.Items.{Declarator, Start, NoStart, StartValue, StartNames}
 use Rattle.c_kinds.specs.Scopes.{found}
@@ -15,7 +12,7 @@ use Rattle.c_statements.specs.Context.{Context, Walk, env_at, env_in, enter, in_
 use Rattle.c_statements.specs.Declarations.{kinded, declared, all_declared, slot_of, local, locals, locals_faults, initial, value_at}
 use Rattle.c_statements.specs.Statements.{behind_start, dropped_at, start_items}
 use Rattle.c_statements.specs.Violations.{start_faults}
-use Rattle.c_resolved.specs.Form.{AreAlike, IsFirstPart, NamesLabel, HasSourceForm}
+use Rattle.c_resolved.specs.Form.{AreAlike, IsFirstPart, HasSourceForm}
 use Rattle.c_resolved.specs.Within.{Each}
 use Rattle.resolving_core.specs.Read.{IsReadDeclarator, IsReadStart}
 use Rattle.resolving_core.proofs.Declared.{slot_there}

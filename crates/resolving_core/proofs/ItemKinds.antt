@@ -1,24 +1,19 @@
 -- Kinds agree in each item, values stand where values are used, and no const is assigned.
-use Rattle.std.proofs.Common.{ℕ, Bool, true, false, List, [], ◌∷◌, ◌++◌, map, length, Option, Some, None, option_map, ◌≡◌, refl, sym, ap, subst, ◌∙◌}
+use Rattle.std.proofs.Common.{ℕ, List, [], ◌∷◌, Option, Some, None, option_map, ◌≡◌}
 use Rattle.std.specs.Prelude.{IfSome}
 use Rattle.c_types.specs.declared.kinds.IntKind.{IntKind}
-use Rattle.c_tree.specs.declared.tree.Slot.{Slot}
-use Rattle.c_tree.specs.declared.tree.Expression.{Expression}
-use Rattle.c_tree.specs.declared.tree.Top.{Top}
 use Rattle.c_tree.specs.ExpressionTrees.{ExpressionTree, PlaceTree, Arguments, Typed, Var, Cell, Number, Character, EnumName, Text, Array, Read, Unary, Cast, Binary, Conditional, Assign, Update, Count, Comma, Call, NoArgument, Argument, expression_tree}
 use Rattle.c_tree.specs.Trees.{Tree, Forest, Sections}
 use Rattle.c_tree.specs.Trees as tree
-use Rattle.c_tree.specs.Everywhere.{Everywhere}
 use Rattle.c_source.specs.Terms.{Term}
-use Rattle.c_kinds.specs.Scopes.{Scope, Env, Faults, fault}
-use Rattle.c_kinds.specs.Typing.{faults}
+use Rattle.c_kinds.specs.Scopes.{Scope}
 use Rattle.c_statements.specs.Context.{Context, Walk, env_at, env_in, enter}
 use Rattle.c_statements.specs.Declarations.{declared, value_at, value_faults}
 use Rattle.c_statements.specs.Statements.{dropped_at, behind_start}
 use Rattle.c_statements.specs.Violations.{dropped_faults, optional_faults, return_faults}
-use Rattle.c_resolved.specs.Within.{Each, Within, NodeWithin, PlaceWithin, ArgumentsWithin, ItemExpressions, CaseExpressions}
+use Rattle.c_resolved.specs.Within.{Each, Within, PlaceWithin, ArgumentsWithin, CaseExpressions}
 use Rattle.c_resolved.specs.Names.{Names}
-use Rattle.c_resolved.specs.Kinds.{IsOperand, HasValue, KindAgrees, KindsAgree, WritesNoConst, UsesValues, ItemAgrees, KeepsConsts}
+use Rattle.c_resolved.specs.Kinds.{IsOperand, HasValue, KindAgrees, KindsAgree, WritesNoConst, ItemAgrees, KeepsConsts}
 use Rattle.c_resolved.specs.Scopes as Scopes
 use Rattle.resolving_core.proofs.Lists.{none_left}
 use Rattle.resolving_core.proofs.Known.{Knows}
@@ -28,7 +23,7 @@ use Rattle.resolving_core.proofs.Declared.{behind_local, knows_declared, values_
 use Rattle.resolving_core.proofs.Empty.{value_empty}
 use Rattle.resolving_core.proofs.Parts.{local_parts}
 use Rattle.resolving_core.proofs.Uses.{value_is, dropped_is, constant_is_value}
-use Rattle.resolving_core.proofs.Values.{IsSound, Sound, Operand}
+use Rattle.resolving_core.proofs.Values.{IsSound, Sound}
 use Rattle.resolving_core.proofs.Walk.{Closed}
 
 -- ---- facts within

@@ -1,6 +1,5 @@
 -- A value is returned exactly where the function gives one, and initialisers fit their variables.
-use Rattle.std.proofs.Common.{ℕ, Bool, true, false, List, [], ◌∷◌, ◌++◌, length, Option, Some, None, option_map, ◌≡◌, refl, sym, ap, subst, ◌∙◌, slice_get}
-use Rattle.std.specs.Prelude.{IfSome}
+use Rattle.std.proofs.Common.{ℕ, true, List, [], length, Option, Some, None, option_map, ◌≡◌, ap, ◌∙◌, slice_get}
 use Rattle.c_types.specs.declared.kinds.IntKind.{IntKind}
 use Rattle.c_tree.specs.declared.tree.Slot.{Slot}
 use Rattle.c_tree.specs.ExpressionTrees.{ExpressionTree, expression_tree}
@@ -13,7 +12,7 @@ use Rattle.c_statements.specs.declared.extents.Kinded.{Kinded}
 use Rattle.c_statements.specs.Context.{Context, Walk, env_at, env_in}
 use Rattle.c_statements.specs.Declarations.{declared, slot_of, initial, value_at, local_faults}
 use Rattle.c_statements.specs.Violations.{return_faults}
-use Rattle.c_resolved.specs.Files.{AreInitialisers, SlotIsInitialised}
+use Rattle.c_resolved.specs.Files.{SlotIsInitialised}
 use Rattle.c_resolved.specs.Kinds.{ReturnFits}
 use Rattle.c_resolved.specs.Resolved.{IsInitialised}
 use Rattle.resolving_core.proofs.Arrays.{array_fine}

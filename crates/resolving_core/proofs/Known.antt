@@ -1,5 +1,5 @@
 -- What is bound at a place is what the tree knows by the name.
-use Rattle.std.specs.Prelude.{ℕ, ◌≡◌, Bool, true, false, not, List, [], ◌∷◌, Option, Some, None, is_some, IsSomeAnd, IfSome, IsSome, slice_get}
+use Rattle.std.specs.Prelude.{ℕ, ◌≡◌, Bool, not, List, [], ◌∷◌, Some, None, is_some, IsSomeAnd, IfSome, IsSome, slice_get}
 use Rattle.c_types.specs.declared.kinds.IntKind.TheVariants.{Int}
 use Rattle.c_types.specs.Numbers.{IsInRange}
 use Rattle.c_tree.specs.declared.tree.Slot.{Slot}

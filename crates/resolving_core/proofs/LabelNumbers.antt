@@ -1,10 +1,8 @@
 -- The labels of a body have their numbers in text order.
-use Rattle.std.proofs.Common.{ℕ, zero, suc, ◌+◌, ◌<◌, ◌≢◌, Bool, true, false, cond, List, [], ◌∷◌, ◌++◌, append_assoc, map, length, Option, Some, None, is_some, ◌≡◌, refl, sym, ap, subst, ◌∙◌, true≢false, arith, bytes_eq}
-use Rattle.std.specs.Prelude.{IfSome}
+use Rattle.std.proofs.Common.{ℕ, suc, ◌+◌, ◌<◌, ◌≢◌, Bool, true, false, cond, List, [], ◌∷◌, ◌++◌, append_assoc, map, length, Option, Some, None, is_some, ◌≡◌, refl, sym, ap, subst, ◌∙◌, true≢false, arith, bytes_eq}
 use Rattle.std.specs.declared.cmp.Ordering.{Ordering}
 use Rattle.std.specs.declared.cmp.Ordering.TheVariants.{Less, Equal, Greater}
 use Rattle.std.specs.Ordering.{match_ordering, is_eq}
-use Rattle.std.proofs.lemmas.List.{append-nil}
 use Rattle.std.proofs.lemmas.Map.Text.{is_eq-slice_cmp}
 use Rattle.c_types.specs.Words.{name_cmp}
 use Rattle.c_tree.specs.Trees.{trees_of}
@@ -15,14 +13,14 @@ use Rattle.c_kinds.specs.Scopes.{Names, found, with_entry}
 use Rattle.c_statements.specs.declared.extents.Kinded.{Kinded}
 use Rattle.c_statements.specs.Context.{Context, Walk, env_in, enter, has_label, number_in}
 use Rattle.c_statements.specs.Declarations.{kinded, declared, local, locals, initial, value_at}
-use Rattle.c_statements.specs.Labels.{label_name, named_in, item_labels, plain_labels, statement_labels, body_labels, list_labels, with_number, numbers_from, new_name, distinct_from, twice_from}
+use Rattle.c_statements.specs.Labels.{named_in, item_labels, plain_labels, statement_labels, body_labels, list_labels, with_number, numbers_from, new_name, distinct_from, twice_from}
 use Rattle.c_statements.specs.Statements.{behind_start, behind_item, behind_body}
 use Rattle.c_resolved.specs.Form.{gathered, gathered_of, marked_label}
 use Rattle.c_resolved.specs.Form as Form
 use Rattle.c_resolved.specs.Within.{Each, AllDiffer}
 use Rattle.resolving_core.proofs.Bindings.{same_names, names_same, found_entry}
 use Rattle.resolving_core.proofs.FileParts.{twice_parts}
-use Rattle.resolving_core.proofs.Gathered.{Gathers, of_labels, of_declaration, of_start, of_item, of_plain, of_statement, of_body, of_list}
+use Rattle.resolving_core.proofs.Gathered.{Gathers, of_labels, of_start, of_item, of_plain, of_statement, of_body, of_list}
 use Rattle.resolving_core.proofs.Lists.{each_map}
 
 pub marks_gather : Gathers marked_label
@@ -140,6 +138,7 @@ below_next a known e b q n h =
     value : Option ℕ → ℕ
     value None = 0
     value (Some n) = n
+
     by : (t : Bool) → cond t (Some (length known)) (found q known) ≡ Some n → n < suc (length known)
     by true i = let j : length known ≡ n = ap value i in omega arith
     by false i = let k = b q n i in omega arith

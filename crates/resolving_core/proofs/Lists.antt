@@ -1,8 +1,7 @@
 -- Lists of violations that are empty, and choices that were made.
-use Rattle.std.proofs.Common.{ℕ, Bool, true, false, not, cond, ◌&&◌, ◌||◌, List, [], ◌∷◌, ◌++◌, Option, Some, None, ◌≡◌, refl, sym, ap, subst, ◌∙◌, true≢false}
+use Rattle.std.proofs.Common.{ℕ, Bool, true, false, not, ◌&&◌, ◌||◌, List, [], ◌∷◌, ◌++◌, Option, Some, None, ◌≡◌, refl, sym, ap, subst, true≢false}
 use Rattle.std.specs.Prelude.{IfSome, IsSomeAnd}
-use Rattle.c_kinds.specs.declared.typed.Fault.{Fault}
-use Rattle.c_kinds.specs.Scopes.{Faults, fault, fault_if}
+use Rattle.c_kinds.specs.Scopes.{Faults, fault_if}
 use Rattle.c_resolved.specs.Within.{Each}
 
 abbrev has_some : {A : Type 0} → List A → Bool

@@ -1,5 +1,5 @@
 -- A number that is read is one of its kind, and is spelled as a constant of it.
-use Rattle.std.proofs.Common.{ℕ, ℤ, pos, ◌<◌, ◌^◌, Bool, true, false, cond, List, [], ◌∷◌, drop, Option, Some, None, option_map, ◌≡◌, refl, sym, subst, arith, true≢false}
+use Rattle.std.proofs.Common.{ℕ, pos, Bool, true, false, cond, List, [], ◌∷◌, drop, Option, Some, None, option_map, ◌≡◌, refl, arith}
 use Rattle.std.specs.Prelude.{IfSome, int_le, find}
 use Rattle.std.specs.List.{prefix_len, take_while}
 use Rattle.std.proofs.lemmas.Bool.Decides.{nat_tests}

@@ -1,6 +1,6 @@
 -- A statement without a violation has none in any of its parts.
-use Rattle.std.proofs.Common.{ℕ, Bool, true, false, not, ◌||◌, List, [], ◌∷◌, Option, Some, None, option_map, ◌≡◌, refl, sym, ap, subst, ◌∙◌}
-use Rattle.c_source.specs.Terms.{Term, first_of}
+use Rattle.std.proofs.Common.{ℕ, Bool, true, false, not, ◌||◌, List, [], ◌∷◌, Option, option_map, ◌≡◌, subst}
+use Rattle.c_source.specs.Terms.{Term}
 use Rattle.c_source.specs.Items.{Declarator, Declaration, Label, Start, Item, Declares, States, Plain, From, Statement, If, IfElse, While, DoWhile, For, Switch, Body, Items, stated_first}
 use Rattle.c_source.specs.Items as items
 use Rattle.c_kinds.specs.Scopes.{Env, Faults, fault, fault_if, is_bound}
@@ -14,7 +14,7 @@ use Rattle.c_statements.specs.Labels.{has_case, label_faults, labels_faults}
 use Rattle.c_statements.specs.Statements.{declared_by, behind_start, behind_item, behind_plain, behind_body}
 use Rattle.c_statements.specs.Violations.{dropped_faults, optional_faults, declaration_faults, start_faults, is_null, item_faults, plain_faults, statement_faults, body_faults, list_faults, switch_body_faults, outside_faults, outside_fault}
 use Rattle.resolving_core.proofs.Lists.{none_left, clean_if, not_true}
-use Rattle.resolving_core.proofs.Empty.{Empties, value_empty, initial_empty, dropped_empty, start_empty, optional_empty, locals_empty, labels_empty, plain_empty, switch_empty, body_empty, list_empty, switch_body_empty, outside_empty}
+use Rattle.resolving_core.proofs.Empty.{Empties, value_empty, initial_empty, dropped_empty, optional_empty, locals_empty, labels_empty, plain_empty, switch_empty, body_empty, list_empty, switch_body_empty, outside_empty}
 
 -- behind others, and alone
 pub parted : (k l : Faults → Faults) → Empties k → k (l []) ≡ [] → (l [] ≡ []) × (k [] ≡ [])
@@ -72,7 +72,7 @@ module _ (ctx : Context) (around : Around) (w : Walk) where
   -- of a `for`: its first part, its test, its third part and its body
   pub for_parts : (first : ℕ) (start : Start) (t u : Option Term) (b : Body) → statement_faults ctx around first (For start t u b) w [] ≡ []
       → let inner = behind_start ctx start (enter w) in let env = env_at ctx inner in
-        (start_faults ctx start (enter w) [] ≡ []) × (optional_faults (value_faults env) t [] ≡ []) × (optional_faults (dropped_faults env) u [] ≡ []) × (body_faults ctx (in_loop around) b inner [] ≡ [])
+      (start_faults ctx start (enter w) [] ≡ []) × (optional_faults (value_faults env) t [] ≡ []) × (optional_faults (dropped_faults env) u [] ≡ []) × (body_faults ctx (in_loop around) b inner [] ≡ [])
   for_parts first start t u b e =
       let inner = behind_start ctx start (enter w) in
       let env = env_at ctx inner in
@@ -84,7 +84,7 @@ module _ (ctx : Context) (around : Around) (w : Walk) where
   -- of a switch: its selector, its body, and its cases
   pub switch_parts : (first : ℕ) (t : Term) (b : Body) → statement_faults ctx around first (Switch t b) w [] ≡ []
       → (value_faults (env_at ctx w) t [] ≡ []) × (switch_body_faults ctx (in_switch around) b w [] ≡ [])
-        × (switch_faults (option_map (λ v. v.kind) (value_of (typed (env_at ctx w) t))) (body_entries ctx b w []) [] ≡ [])
+      × (switch_faults (option_map (λ v. v.kind) (value_of (typed (env_at ctx w) t))) (body_entries ctx b w []) [] ≡ [])
   switch_parts first t b e =
       let kind = option_map (λ v. v.kind) (value_of (typed (env_at ctx w) t)) in
       let es = body_entries ctx b w [] in
@@ -104,8 +104,10 @@ module _ (ctx : Context) (around : Around) (w : Walk) where
       → (item_faults ctx around (States ls p) w [] ≡ []) × Outside (has_case ls) ls p xs
   outside_parts ls p xs e = by (has_case ls) e
     where
-      by : (b : Bool) → ◌≡◌ {A = Faults} (elim b [ true ↦ list_faults ctx around xs (behind_plain ctx p w) (item_faults ctx around (States ls p) w [])
-                        | false ↦ outside_faults ctx around xs (behind_plain ctx p w) (fault_if (not (is_null ls p)) (stated_first ls p) 29 (item_faults ctx around (States ls p) w [])) ]) []
+      by : (b : Bool) → ◌≡◌ {A = Faults} (elim b [
+        | true ↦ list_faults ctx around xs (behind_plain ctx p w) (item_faults ctx around (States ls p) w [])
+        | false ↦ outside_faults ctx around xs (behind_plain ctx p w) (fault_if (not (is_null ls p)) (stated_first ls p) 29 (item_faults ctx around (States ls p) w []))
+      ]) []
           → (item_faults ctx around (States ls p) w [] ≡ []) × Outside b ls p xs
       by true e = parted (list_faults ctx around xs (behind_plain ctx p w)) (item_faults ctx around (States ls p) w) (list_empty ctx around xs (behind_plain ctx p w)) e
       by false e =

@@ -1,9 +1,9 @@
 -- The sections of a switch, as plain data, are read as those of the tree.
-use Rattle.std.proofs.Common.{ℕ, Bool, true, false, not, cond, ◌&&◌, ◌||◌, List, [], ◌∷◌, ◌++◌, map, Option, Some, None, ◌≡◌, refl, sym, ap, subst, ◌∙◌, true≢false}
+use Rattle.std.proofs.Common.{Bool, true, false, not, cond, ◌&&◌, ◌||◌, List, [], ◌∷◌, ◌++◌, map, ◌≡◌, refl, sym, ap, ◌∙◌, true≢false}
 use Rattle.c_tree.specs.declared.tree.Expression.{Expression}
 use Rattle.c_tree.specs.declared.tree.Item.{Item, Item-F, out-Item, roll-Item, roll-out-Item, fold-roll-Item, map-Item}
 use Rattle.c_tree.specs.declared.tree.Item.TheOpen as Open
-use Rattle.c_tree.specs.declared.tree.Section.{Section, Section-F, out-Section, roll-Section, out-roll-Section, fold-roll-Section}
+use Rattle.c_tree.specs.declared.tree.Section.{Section, out-Section, fold-roll-Section}
 use Rattle.c_tree.specs.ExpressionTrees.{ExpressionTree, expression_tree}
 use Rattle.c_tree.specs.Trees.{Tree, Forest, SectionTree, Nil, Then, Break, layer, section_layer, expression_trees, tree_of, trees_of, section_tree, sections, sections_of}
 use Rattle.c_tree.proofs.TreeLaws.{section-parts}
@@ -83,8 +83,10 @@ passes_same s = let o = out-Section s in passing_at o.list o.ends ∙ ap passes 
 passed_by : (cases : List Expression) (default : Bool) (s : Section) (ss : List Section) (b c : Bool) → b ≡ c
     → ((cs : List Expression) (d : Bool) → map section_tree (passed_on cs d ss) ≡ passed_trees (expression_trees cs) d (map section_tree ss))
     → map section_tree (elim b [ true ↦ passed_on (cases ++ (out-Section s).cases) (default || (out-Section s).default) ss | false ↦ with_labels cases default s ∷ passed_on [] false ss ])
-      ≡ elim c [ true ↦ passed_trees (expression_trees cases ++ (section_tree s).cases) (default || (section_tree s).default) (map section_tree ss)
-               | false ↦ with_entries (expression_trees cases) default (section_tree s) ∷ passed_trees [] false (map section_tree ss) ]
+    ≡ elim c [
+      | true ↦ passed_trees (expression_trees cases ++ (section_tree s).cases) (default || (section_tree s).default) (map section_tree ss)
+      | false ↦ with_entries (expression_trees cases) default (section_tree s) ∷ passed_trees [] false (map section_tree ss)
+    ]
 passed_by cases default s ss true true e f =
     let o = out-Section s in
     f (cases ++ o.cases) (default || o.default)

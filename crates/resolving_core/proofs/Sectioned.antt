@@ -1,46 +1,28 @@
 -- The sections of a switch: each has a label, its last `break` is its end, and none that falls through is empty but the last.
-use Rattle.std.proofs.Common.{ℕ, Bool, true, false, not, cond, ◌&&◌, ◌||◌, List, [], ◌∷◌, ◌++◌, append_assoc, map, length, Option, Some, None, option_map, inl, inr, true≢false, arith, ◌≡◌, refl, sym, ap, subst, ◌∙◌}
+use Rattle.std.proofs.Common.{ℕ, Bool, true, false, not, cond, ◌&&◌, ◌||◌, List, [], ◌∷◌, ◌++◌, map, length, Option, Some, None, option_map, inl, inr, true≢false, arith, ◌≡◌, refl, sym, ap, subst, ◌∙◌}
 use Rattle.std.specs.Prelude.{IsTrue, ◌⊎◌, ◌<◌}
-use Rattle.c_tree.specs.declared.tree.Slot.{Slot}
 use Rattle.c_tree.specs.declared.tree.Item as item
 use Rattle.c_tree.specs.declared.tree.Section.{Section}
-use Rattle.c_tree.specs.declared.tree.Expression.{Expression}
-use Rattle.c_tree.specs.declared.tree.Test as test
 use Rattle.c_tree.specs.declared.tree.Selector as selector
-use Rattle.c_tree.specs.ExpressionTrees.{ExpressionTree, expression_tree}
-use Rattle.c_tree.specs.TestTrees.{TestTree, SelectorTree}
+use Rattle.c_tree.specs.ExpressionTrees.{ExpressionTree}
 use Rattle.c_tree.specs.Trees.{Tree, Forest, Sections, NoSection, SectionTree, Nil, join, expression_trees, tree_of, trees_of, section_tree, sections, sections_of}
 use Rattle.c_tree.specs.Trees as tree
-use Rattle.c_tree.specs.Everywhere.{Everywhere, EverywhereOf, EverywhereIn}
-use Rattle.c_tree.proofs.KeptLemmas.{everywhere_join}
-use Rattle.c_tree.proofs.ExpressionLaws.{test-Source, selector-Source}
-use Rattle.c_tree.proofs.TreeLaws.{tree-Evaluate, tree-Return, tree-If, tree-While, tree-Do, tree-For, tree-Switch, tree-Block, tree-Local, tree-Break, tree-Continue, tree-Goto, tree-Mark, tree-Arrival, tree-Note, trees-none, trees-more, trees-append}
-use Rattle.c_types.specs.declared.kinds.IntKind.{IntKind}
-use Rattle.c_source.specs.Terms.{Term}
+use Rattle.c_tree.proofs.TreeLaws.{tree-Evaluate, tree-Return, tree-If, tree-While, tree-Do, tree-For, tree-Switch, tree-Block, tree-Local, tree-Break, tree-Continue, tree-Goto, tree-Mark, tree-Note, trees-none, trees-more, trees-append}
 use Rattle.c_source.specs.Items.{Declarator, Declaration, Label, Named, Case, Default, Start, NoStart, StartValue, StartNames, Item, Declares, States, Plain, From, Statement, Null, Evaluate, If, IfElse, While, DoWhile, For, Switch, Block, Goto, Break, Continue, Return, Unread, Body, Braces, Lone, Items, NoItem}
 use Rattle.c_source.specs.Items as items
-use Rattle.c_kinds.specs.Scopes.{Scope, Faults, fault_if}
-use Rattle.c_kinds.specs.Typing.{typed, constant_faults}
-use Rattle.c_kinds.specs.Values.{value_of}
 use Rattle.c_statements.specs.declared.extents.Kinded.{Kinded}
-use Rattle.c_statements.specs.Cases.{switch_faults, body_entries}
-use Rattle.c_statements.specs.Context.{Anchor, Before, AtEnd, AtSection, Context, Walk, env_at, env_in, enter, leave, notes_at, number_in, has_label, Around, in_loop, in_switch}
-use Rattle.c_statements.specs.Declarations.{kinded, declared, all_declared, local, locals, initial, value_at, constant_at, value_faults, local_faults, locals_faults}
-use Rattle.c_statements.specs.Labels.{has_case, mark, label_items, labels_items, section_marks, section_cases, has_default, label_faults, labels_faults}
-use Rattle.c_statements.specs.Sections.{Reading, extended, ended, closed, passed_on}
+use Rattle.c_statements.specs.Context.{Anchor, Before, AtEnd, AtSection, Context, Walk, env_at, env_in, enter, notes_at, number_in, Around}
+use Rattle.c_statements.specs.Declarations.{kinded, declared, local, locals, initial, value_at}
+use Rattle.c_statements.specs.Labels.{has_case, mark, labels_items, section_marks, section_cases, has_default}
+use Rattle.c_statements.specs.Sections.{Reading, extended, closed, passed_on}
 use Rattle.c_statements.specs.Statements.{behind_start, behind_item, behind_plain, behind_body, behind_items, declared_by, dropped_at, test_at, start_items, begun, a_switch, item_items, plain_items, statement_items, body_items, list_items, switch_sections, sections_from, sections_at}
 use Rattle.c_statements.specs.Statements as statements
-use Rattle.c_statements.specs.Violations.{is_null, dropped_faults, optional_faults, start_faults, return_faults, item_faults, plain_faults, statement_faults, body_faults, list_faults, switch_body_faults, outside_faults, outside_fault}
+use Rattle.c_statements.specs.Violations.{is_null, switch_body_faults, outside_faults, outside_fault}
 use Rattle.c_resolved.specs.Form.{ends_with_break, IsKept, HasNoArrival, AreSections}
-use Rattle.c_resolved.specs.Within.{Each, CaseExpressions}
-use Rattle.resolving_core.proofs.Lists.{none_left, clean_if, not_true, each_map, each_append}
-use Rattle.resolving_core.specs.Read.{IsReadTerm, IsReadDeclarator, IsReadDeclaration, IsReadLabel, IsReadStart, IsReadItem, IsReadPlain, IsReadStatement, IsReadBody, AreReadItems}
-use Rattle.resolving_core.proofs.Empty.{constant_empty, labels_empty}
-use Rattle.resolving_core.proofs.Parts.{parted, locals_parts, labels_parts, states_parts, list_parts, if_parts, if_else_parts, while_parts, do_parts, for_parts, switch_parts, Outside, outside_declares, outside_parts, outside_one}
-use Rattle.resolving_core.proofs.Grown.{Grown, locals_grow, start_grows, item_grows, plain_grows, body_grows, list_grows, switch_grows, outside_grows}
+use Rattle.c_resolved.specs.Within.{Each}
+use Rattle.resolving_core.proofs.Lists.{none_left, each_append}
+use Rattle.resolving_core.proofs.Parts.{Outside, outside_declares, outside_parts, outside_one}
 use Rattle.resolving_core.proofs.SectionTrees.{section_of, ended_tree, has_entry, without_end, passes, with_entries, passed_trees, passed_same, ended_same, sections_are}
-
-
 use Rattle.resolving_core.specs.Read.{IsQuietFront, IsQuietSwitch}
 
 -- ---- lists without nested case labels
@@ -235,8 +217,10 @@ module _ (ctx : Context) where
     where
       by : (b : Bool) → has_case ls ≡ b → (has_case ls ≡ true → RawSections (sections_from ctx (begun ctx (env_at ctx w) ls (plain_items ctx p w)) xs notes (behind_plain ctx p w)))
           → (has_case ls ≡ false → RawSections (sections_from ctx (extended (Some r) (labels_items ctx (env_at ctx w) ls ++ plain_items ctx p w)) xs notes (behind_plain ctx p w)))
-          → RawSections (elim b [ true ↦ closed (Some r) ++ sections_from ctx (begun ctx (env_at ctx w) ls (plain_items ctx p w)) xs notes (behind_plain ctx p w)
-                                | false ↦ sections_from ctx (extended (Some r) (labels_items ctx (env_at ctx w) ls ++ plain_items ctx p w)) xs notes (behind_plain ctx p w) ])
+          → RawSections (elim b [
+            | true ↦ closed (Some r) ++ sections_from ctx (begun ctx (env_at ctx w) ls (plain_items ctx p w)) xs notes (behind_plain ctx p w)
+            | false ↦ sections_from ctx (extended (Some r) (labels_items ctx (env_at ctx w) ls ++ plain_items ctx p w)) xs notes (behind_plain ctx p w)
+          ])
       by true e f g = each_append _ (closed (Some r)) (sections_from ctx (begun ctx (env_at ctx w) ls (plain_items ctx p w)) xs notes (behind_plain ctx p w)) (closed_raw (Some r) h) (f e)
       by false e f g = g e
 
@@ -255,8 +239,10 @@ module _ (ctx : Context) where
     where
       outside_by : (b : Bool) → has_case ls ≡ b → Outside ctx around w b ls p xs → (has_case ls ≡ true → RawSections (sections_from ctx (begun ctx (env_at ctx w) ls (plain_items ctx p w)) xs notes (behind_plain ctx p w)))
           → (outside_faults ctx around xs (behind_plain ctx p w) [] ≡ [] → IsQuietFront ctx.word ctx.notes xs → RawSections (sections_from ctx None xs notes (behind_plain ctx p w)))
-          → RawSections (elim b [ true ↦ closed None ++ sections_from ctx (begun ctx (env_at ctx w) ls (plain_items ctx p w)) xs notes (behind_plain ctx p w)
-                                | false ↦ sections_from ctx (extended None (labels_items ctx (env_at ctx w) ls ++ plain_items ctx p w)) xs notes (behind_plain ctx p w) ])
+          → RawSections (elim b [
+            | true ↦ closed None ++ sections_from ctx (begun ctx (env_at ctx w) ls (plain_items ctx p w)) xs notes (behind_plain ctx p w)
+            | false ↦ sections_from ctx (extended None (labels_items ctx (env_at ctx w) ls ++ plain_items ctx p w)) xs notes (behind_plain ctx p w)
+          ])
       outside_by true c o f g = f c
       outside_by false c o f g =
           let n = nothing ls p w xs o.0 q in

@@ -1,9 +1,6 @@
 -- The declarations of a body declare its slots in text order.
-use Rattle.std.proofs.Common.{ℕ, zero, suc, ◌+◌, ◌-◌, List, [], ◌∷◌, ◌++◌, append_assoc, length, Option, Some, None, ◌≡◌, refl, sym, ap, subst, ◌∙◌, arith, length-append}
-use Rattle.std.proofs.lemmas.List.{append-nil}
-use Rattle.c_tree.specs.declared.tree.Slot.{Slot}
-use Rattle.c_tree.specs.Trees.{Tree, trees_of}
-use Rattle.c_tree.specs.Trees as tree
+use Rattle.std.proofs.Common.{ℕ, zero, suc, ◌+◌, ◌-◌, List, [], ◌∷◌, ◌++◌, length, ◌≡◌, refl, sym, ap, subst, ◌∙◌, arith, length-append}
+use Rattle.c_tree.specs.Trees.{trees_of}
 use Rattle.c_tree.proofs.TreeLaws.{tree-Local, trees-none, trees-more}
 use Rattle.c_source.specs.Items.{Declarator, Declaration, Label, Named, Case, Default, Start, NoStart, StartValue, StartNames, Item, Declares, States, Plain, From, Statement, Null, Evaluate, If, IfElse, While, DoWhile, For, Switch, Block, Goto, Break, Continue, Return, Unread, Body, Braces, Lone, Items, NoItem}
 use Rattle.c_source.specs.Items as items
@@ -12,7 +9,7 @@ use Rattle.c_statements.specs.Context.{Context, Walk, env_in, enter}
 use Rattle.c_statements.specs.Declarations.{kinded, declared, all_declared, slot_of, local, locals, initial, value_at}
 use Rattle.c_statements.specs.Statements.{behind_start, behind_item, behind_plain, behind_statement, behind_body, behind_items}
 use Rattle.c_resolved.specs.Form.{gathered, gathered_of, declared_slot, numbers_from}
-use Rattle.resolving_core.proofs.Gathered.{Gathers, numbers, of_labels, of_declaration, of_start, of_item, of_plain, of_statement, of_body, of_list}
+use Rattle.resolving_core.proofs.Gathered.{Gathers, of_labels, of_start, of_item, of_plain, of_statement, of_body, of_list}
 
 pub slots_gather : Gathers declared_slot
 slots_gather = record { note = λ bs. refl; breaks = refl; arrives = λ e. refl; evaluates = λ e. refl; returns = λ e. refl; continues = refl; gotos = λ l. refl }
@@ -31,6 +28,7 @@ from_both a zero l = λ i. numbers_from (start i) (none i)
   where
     start : a ≡ a + 0
     start = omega arith
+
     none : 0 + l ≡ l
     none = omega arith
 from_both a (suc k) l =

@@ -1,23 +1,20 @@
 -- The laws of resolving.
-use Rattle.std.proofs.Common.{ℕ, Bool, true, false, cond, ◌&&◌, ◌||◌, List, [], ◌∷◌, ◌++◌, Option, Some, None, is_some, Result, Ok, Err, is_ok, ◌≡◌, refl, sym, ap, subst, ◌∙◌, true≢false}
+use Rattle.std.proofs.Common.{ℕ, true, List, [], ◌∷◌, Option, Some, None, is_some, Result, Ok, Err, is_ok, ◌≡◌, refl, sym, ap, subst, ◌∙◌, true≢false}
 use Rattle.c_types.specs.declared.refusal.Refusal.{Refusal}
 use Rattle.c_tree.specs.declared.tree.Function.{Function}
 use Rattle.c_tree.specs.declared.tree.Top.{Top}
 use Rattle.c_tree.specs.declared.tree.Top.TheVariants as T
 use Rattle.c_tree.specs.declared.tree.Program.{Program}
 use Rattle.c_lexer.specs.declared.token.Token.{Token}
-use Rattle.c_lexer.specs.declared.token.Span.{Span}
-use Rattle.c_grammar.specs.declared.syntax.Syntax.{Syntax}
 use Rattle.c_source.specs.Words.{word_of}
 use Rattle.c_source.specs.Parts.{file_of}
 use Rattle.c_source.specs.Tops as tops
 use Rattle.c_kinds.specs.declared.typed.Fault.{Fault}
-use Rattle.c_kinds.specs.Scopes.{Faults, found, known_scope}
-use Rattle.c_statements.specs.Functions.{FlatCounts}
+use Rattle.c_kinds.specs.Scopes.{Faults}
 use Rattle.c_scopes.specs.FunctionNames.{has_function, bodies_of}
 use Rattle.c_tree.specs.declared.tree.Slot.{Slot}
 use Rattle.c_scopes.specs.Files.{File, start, tops_of, file_faults}
-use Rattle.c_scopes.specs.Resolving.{is_before, earlier, least, file_at, program_of, violation_of, answer, refused, resolved}
+use Rattle.c_scopes.specs.Resolving.{earlier, least, file_at, program_of, violation_of, answer}
 use Rattle.c_resolved.specs.Files.{MainIsFormed, DeclarationsAgree}
 use Rattle.c_resolved.specs.Scopes.{NamesAreBound}
 use Rattle.c_resolved.specs.Within.{Each}
@@ -27,7 +24,7 @@ use Rattle.resolving_core.proofs.Bodies.{file_bodies}
 use Rattle.resolving_core.proofs.Declarations.{file_once, settled, declarations_agree}
 use Rattle.resolving_core.proofs.FileFacts.{TopHolds, HoldFrom, file_holds}
 use Rattle.resolving_core.proofs.FileWalk.{tree_scopes}
-use Rattle.resolving_core.proofs.FileNames.{Unnamed, Same, library_same, IsDefined}
+use Rattle.resolving_core.proofs.FileNames.{IsDefined}
 use Rattle.resolving_core.proofs.FilePlaces.{defined, Place, at_end}
 use Rattle.resolving_core.proofs.Functions.{Resolves}
 use Rattle.resolving_core.proofs.Lists.{each_map}
@@ -60,7 +57,9 @@ module _ (file : File) (xs : List tops.Top) (bodies : (m : List ℕ) → defined
 
   abbrev first_place : Place file [] start.scopes
   first_place = record {
-    fs = []; rs = []; shaped = refl;
+    fs = [];
+    rs = [];
+    shaped = refl;
     inv = record { same = λ m. refl; good = λ m. tt; fresh = λ m e. tt };
   }
 

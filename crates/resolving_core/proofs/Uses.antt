@@ -1,29 +1,29 @@
 -- The expressions of statements without a violation.
-use Rattle.std.proofs.Common.{ℕ, ℤ, Bool, true, false, cond, ◌&&◌, List, [], ◌∷◌, Option, Some, None, is_some, option_map, ◌≡◌, refl, sym, ap, subst, ◌∙◌, true≢false}
-use Rattle.std.specs.Prelude.{IfSome, IsSomeAnd, IsSome}
+use Rattle.std.proofs.Common.{ℤ, Bool, true, false, cond, ◌&&◌, List, [], Option, Some, None, is_some, option_map, ◌≡◌, refl, sym, ap, subst, ◌∙◌, true≢false}
+use Rattle.std.specs.Prelude.{IsSomeAnd, IsSome}
 use Rattle.c_types.specs.declared.kinds.IntKind.{IntKind}
 use Rattle.c_tree.specs.declared.tree.Expression.{Expression}
 use Rattle.c_tree.specs.ExpressionTrees.{ExpressionTree, NodeTree, Typed, Number, Character, EnumName, Unary, Cast, Binary, Conditional, expression_tree}
-use Rattle.c_tree.specs.Constants.{kind_of, HasKind, IsConstant, IsConstantNode, constant_value}
+use Rattle.c_tree.specs.Constants.{HasKind, IsConstant, IsConstantNode, constant_value}
 use Rattle.c_source.specs.Terms.{Term, first_of}
 use Rattle.c_kinds.specs.declared.typed.Typed as typed
 use Rattle.c_kinds.specs.declared.typed.Typed.TheVariants as T
 use Rattle.c_kinds.specs.declared.typed.Valued.{Valued}
 use Rattle.c_kinds.specs.Constants.{is_constant, is_constant_node, with_value, constant_of}
-use Rattle.c_kinds.specs.Scopes.{Env, Faults, fault}
+use Rattle.c_kinds.specs.Scopes.{Env, fault}
 use Rattle.c_kinds.specs.Typing.{typed, faults, constant_faults}
 use Rattle.c_kinds.specs.Values.{expression, value_of, dropped}
 use Rattle.c_statements.specs.Declarations.{or_placeholder, value_at, constant_or_placeholder, constant_at, value_faults, placeholder}
 use Rattle.c_statements.specs.Statements.{dropped_at}
 use Rattle.c_statements.specs.Violations.{dropped_faults}
-use Rattle.c_resolved.specs.Kinds.{HasValue, IsOperand}
+use Rattle.c_resolved.specs.Kinds.{HasValue}
 use Rattle.c_resolved.specs.Names.{Names}
 use Rattle.c_resolved.specs.Scopes.{Scope}
 use Rattle.c_resolved.specs.Switches.{IsConstantValue}
-use Rattle.resolving_core.proofs.Lists.{none_left, and_left, and_right, the_some}
+use Rattle.resolving_core.proofs.Lists.{none_left, and_left, and_right}
 use Rattle.resolving_core.proofs.Known.{Knows}
 use Rattle.resolving_core.specs.Read.{IsReadTerm}
-use Rattle.resolving_core.proofs.Values.{value_tree, value_rolls, Sound, Operand, SoundTyped, SoundValue, SoundDropped}
+use Rattle.resolving_core.proofs.Values.{value_tree, value_rolls, Operand, SoundTyped, SoundValue, SoundDropped}
 use Rattle.resolving_core.proofs.Expressions.{sound, used_clean, unused_clean}
 
 kind_there : (k : Option IntKind) → is_some k ≡ true → HasKind k

@@ -1,14 +1,13 @@
 -- What the forms of expressions are on the tree: kinds agree, no const is written, and names are bound, where that holds
 -- of their operands.
-use Rattle.std.proofs.Common.{ℕ, ℤ, pos, Bool, true, false, not, cond, ◌&&◌, List, [], ◌∷◌, ◌++◌, map, Option, Some, None, is_some, option_map, ◌≡◌, refl, sym, ap, subst, ◌∙◌, true≢false, slice_get}
+use Rattle.std.proofs.Common.{ℕ, Bool, true, false, cond, ◌&&◌, List, [], Option, Some, None, is_some, ◌≡◌, refl, sym, ap, subst, ◌∙◌, true≢false, slice_get}
 use Rattle.std.specs.Prelude.{IfSome, IsSomeAnd, IsSome}
 use Rattle.std.specs.Option.{option_map_or}
 use Rattle.c_types.specs.declared.kinds.IntKind.{IntKind}
 use Rattle.c_types.specs.declared.kinds.IntKind.TheVariants.{Int}
 use Rattle.c_types.specs.declared.kinds.ArithOp.{ArithOp}
-use Rattle.c_types.specs.Numbers.{usual_kind, IsInRange}
+use Rattle.c_types.specs.Numbers.{usual_kind}
 use Rattle.c_tree.specs.declared.tree.Slot.{Slot}
-use Rattle.c_tree.specs.declared.tree.Home.{Home}
 use Rattle.c_tree.specs.declared.tree.Home.TheVariants as H
 use Rattle.c_tree.specs.declared.tree.UnaryOp.{UnaryOp}
 use Rattle.c_tree.specs.declared.tree.UnaryOp.TheVariants.{Plus, Minus, Not, Flip}
@@ -19,10 +18,9 @@ use Rattle.c_tree.specs.declared.tree.Place.{Place}
 use Rattle.c_tree.specs.declared.tree.Place as place
 use Rattle.c_tree.specs.declared.tree.Node.{Node}
 use Rattle.c_tree.specs.declared.tree.Node as node
-use Rattle.c_tree.specs.Constants.{kind_of, HasKind}
-use Rattle.c_tree.specs.TextExpressions.{home_name, slot_name}
-use Rattle.c_tree.specs.ExpressionTrees.{ExpressionTree, PlaceTree, NodeTree, Arguments, Typed, Var, Cell, Number, Character, EnumName, Text, Array, Read, Unary, Cast, Binary, Conditional, Assign, Update, Count, Comma, Call, arguments, node_layer, place_layer, expression_layer, expression_tree, node_tree, place_tree}
-use Rattle.c_tree.proofs.ExpressionLaws.{place-Var, place-Cell, node-Number, node-Character, node-EnumName, node-Array, node-Read, node-Unary, node-Cast, node-Binary, node-Conditional, node-Assign, node-Update, node-Count, node-Comma, node-Call}
+use Rattle.c_tree.specs.TextExpressions.{slot_name}
+use Rattle.c_tree.specs.ExpressionTrees.{ExpressionTree, PlaceTree, NodeTree, Typed, Cell, Unary, Cast, Binary, Conditional, Assign, Update, Comma, node_layer, place_layer, expression_layer, expression_tree, node_tree, place_tree}
+use Rattle.c_tree.proofs.ExpressionLaws.{place-Var, place-Cell, node-EnumName, node-Read, node-Unary, node-Cast, node-Binary, node-Conditional, node-Assign, node-Update, node-Count, node-Comma}
 use Rattle.c_kinds.specs.declared.binding.Shape.{Shape}
 use Rattle.c_kinds.specs.declared.binding.Binding.{Binding}
 use Rattle.c_kinds.specs.declared.binding.Binding.TheVariants as B
@@ -34,12 +32,12 @@ use Rattle.c_kinds.specs.declared.typed.Target.{Target}
 use Rattle.c_kinds.specs.declared.typed.ArrayName.{ArrayName}
 use Rattle.c_kinds.specs.Marks as Marks
 use Rattle.c_kinds.specs.Scopes.{Faults, fault, fault_if}
-use Rattle.c_kinds.specs.Values.{expression_of, expression, of_kind, value_of, dropped, use_fault, drop_fault, number_target, cell_target, target, writable, reading, variable, unary, counting, cast, cast_void, binary, choice, stored, assignment, with_left, comma}
+use Rattle.c_kinds.specs.Values.{expression_of, expression, of_kind, value_of, dropped, use_fault, drop_fault, number_target, cell_target, target, writable, reading, unary, counting, cast, cast_void, binary, choice, stored, assignment, with_left, comma}
 use Rattle.c_kinds.specs.Names.{variable_of, named, name_fault, shape_fault, target_fault}
-use Rattle.c_resolved.specs.Within.{Within, NodeWithin, PlaceWithin}
+use Rattle.c_resolved.specs.Within.{Within, PlaceWithin}
 use Rattle.c_resolved.specs.Names as Tree
 use Rattle.c_resolved.specs.Names.{Names, home_of}
-use Rattle.c_resolved.specs.Kinds.{IsOperand, HasValue, unary_kind, binary_kind, of_both, KindAgrees, PlaceAgrees, IsWritable, WritesNoConst}
+use Rattle.c_resolved.specs.Kinds.{IsOperand, HasValue, unary_kind, binary_kind, KindAgrees, PlaceAgrees, IsWritable, WritesNoConst}
 use Rattle.c_resolved.specs.Scopes as Scopes
 use Rattle.c_resolved.specs.Scopes.{Scope, AVariable, HomeIsBound, NameIsBound}
 use Rattle.resolving_core.proofs.Lists.{none_left, clean_if, the_some, is_some_and}

@@ -1,43 +1,33 @@
 -- A fact of each item of a body without violations, from the fact of each statement at its place.
-use Rattle.std.proofs.Common.{ℕ, Bool, true, false, not, cond, ◌&&◌, ◌||◌, List, [], ◌∷◌, ◌++◌, append_assoc, map, length, Option, Some, None, option_map, ◌≡◌, refl, sym, ap, subst, ◌∙◌}
+use Rattle.std.proofs.Common.{ℕ, Bool, true, false, cond, ◌&&◌, ◌||◌, List, [], ◌∷◌, ◌++◌, append_assoc, map, length, Option, Some, None, option_map, ◌≡◌, sym, ap, subst, ◌∙◌}
 use Rattle.std.specs.Prelude.{IfSome, ◌<◌}
 use Rattle.c_tree.specs.declared.tree.Slot.{Slot}
 use Rattle.c_tree.specs.declared.tree.Item as item
 use Rattle.c_tree.specs.declared.tree.Section.{Section}
-use Rattle.c_tree.specs.declared.tree.Expression.{Expression}
-use Rattle.c_tree.specs.declared.tree.Test as test
-use Rattle.c_tree.specs.declared.tree.Selector as selector
 use Rattle.c_tree.specs.ExpressionTrees.{ExpressionTree, expression_tree}
 use Rattle.c_tree.specs.TestTrees.{Source, Selects}
 use Rattle.c_tree.specs.Trees.{Tree, Forest, SectionTree, Nil, expression_trees, tree_of, trees_of, section_tree, sections, sections_of}
 use Rattle.c_tree.specs.Trees as tree
 use Rattle.c_tree.specs.Everywhere.{Everywhere, EverywhereOf, EverywhereIn}
 use Rattle.c_tree.proofs.KeptLemmas.{everywhere_join}
-use Rattle.c_tree.proofs.ExpressionLaws.{test-Source, selector-Source}
-use Rattle.c_tree.proofs.TreeLaws.{tree-Evaluate, tree-Return, tree-If, tree-While, tree-Do, tree-For, tree-Switch, tree-Block, tree-Local, tree-Break, tree-Continue, tree-Goto, tree-Mark, tree-Arrival, tree-Note, trees-none, trees-more, trees-append}
-use Rattle.c_types.specs.declared.kinds.IntKind.{IntKind}
+use Rattle.c_tree.proofs.TreeLaws.{trees-append}
 use Rattle.c_source.specs.Terms.{Term}
-use Rattle.c_source.specs.Items.{Declarator, Declaration, Label, Named, Case, Default, Start, NoStart, StartValue, StartNames, Item, Declares, States, Plain, From, Statement, Null, Evaluate, If, IfElse, While, DoWhile, For, Switch, Block, Goto, Break, Continue, Return, Unread, Body, Braces, Lone, Items, NoItem}
-use Rattle.c_source.specs.Items as items
-use Rattle.c_kinds.specs.Scopes.{Scope, Faults}
+use Rattle.c_source.specs.Items.{Declarator, Start, Body}
+use Rattle.c_kinds.specs.Scopes.{Scope}
 use Rattle.c_kinds.specs.Typing.{typed, constant_faults}
 use Rattle.c_kinds.specs.Values.{value_of}
 use Rattle.c_statements.specs.declared.extents.Kinded.{Kinded}
 use Rattle.c_statements.specs.Cases.{switch_faults, body_entries}
-use Rattle.c_statements.specs.Context.{Anchor, Before, AtEnd, AtSection, Context, Walk, env_at, env_in, enter, leave, notes_at, number_in, has_label, Around, in_loop, in_switch}
-use Rattle.c_statements.specs.Declarations.{kinded, declared, all_declared, local, locals, initial, value_at, constant_at, value_faults, local_faults, locals_faults}
-use Rattle.c_statements.specs.Labels.{has_case, mark, label_items, labels_items, section_marks, section_cases, has_default, label_faults, labels_faults}
-use Rattle.c_statements.specs.Sections.{Reading, extended, ended, closed, passed_on}
-use Rattle.c_statements.specs.Statements.{behind_start, behind_item, behind_plain, behind_body, behind_items, declared_by, dropped_at, test_at, start_items, begun, a_switch, item_items, plain_items, statement_items, body_items, list_items, switch_sections, sections_from, sections_at}
-use Rattle.c_statements.specs.Statements as statements
-use Rattle.c_statements.specs.Violations.{dropped_faults, optional_faults, start_faults, return_faults, item_faults, plain_faults, statement_faults, body_faults, list_faults, switch_body_faults, outside_faults, outside_fault}
+use Rattle.c_statements.specs.Context.{Context, Walk, env_at, env_in, enter, number_in, has_label, Around, in_switch}
+use Rattle.c_statements.specs.Declarations.{declared, initial, value_at, constant_at, value_faults, local_faults}
+use Rattle.c_statements.specs.Sections.{Reading, extended, closed, passed_on}
+use Rattle.c_statements.specs.Statements.{behind_start, dropped_at, start_items, switch_sections}
+use Rattle.c_statements.specs.Violations.{dropped_faults, optional_faults, start_faults, return_faults, switch_body_faults}
 use Rattle.c_resolved.specs.Form.{ends_with_break}
 use Rattle.c_resolved.specs.Within.{Each, CaseExpressions}
-use Rattle.resolving_core.proofs.Lists.{none_left, clean_if, not_true, each_map, each_append}
-use Rattle.resolving_core.specs.Read.{body_cases, IsQuietSwitch, IsReadTerm, IsReadDeclarator, IsReadDeclaration, IsReadLabel, IsReadStart, IsReadItem, IsReadPlain, IsReadStatement, IsReadBody, AreReadItems}
-use Rattle.resolving_core.proofs.Empty.{constant_empty, labels_empty}
-use Rattle.resolving_core.proofs.Parts.{parted, locals_parts, labels_parts, states_parts, list_parts, if_parts, if_else_parts, while_parts, do_parts, for_parts, switch_parts, Outside, outside_declares, outside_parts, outside_one}
-use Rattle.resolving_core.proofs.Grown.{Grown, locals_grow, start_grows, item_grows, plain_grows, body_grows, list_grows, switch_grows, outside_grows}
+use Rattle.resolving_core.proofs.Lists.{each_append}
+use Rattle.resolving_core.specs.Read.{body_cases, IsQuietSwitch, IsReadTerm, IsReadDeclarator, IsReadStart, IsReadBody}
+use Rattle.resolving_core.proofs.Grown.{Grown}
 use Rattle.resolving_core.proofs.SectionTrees.{section_of, ended_tree, has_entry, without_end, passes, with_entries, passed_trees, passed_same, ended_same, sections_are}
 
 -- the slots of the function begin with these

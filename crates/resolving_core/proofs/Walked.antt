@@ -1,45 +1,33 @@
 -- The walk over a body without violations: what holds of each statement at its place holds of each item.
-use Rattle.std.proofs.Common.{ℕ, Bool, true, false, not, cond, ◌&&◌, ◌||◌, List, [], ◌∷◌, ◌++◌, append_assoc, map, length, Option, Some, None, option_map, ◌≡◌, refl, sym, ap, subst, ◌∙◌}
-use Rattle.std.specs.Prelude.{IfSome}
+use Rattle.std.proofs.Common.{ℕ, Bool, true, false, not, List, [], ◌∷◌, ◌++◌, map, length, Option, Some, None, option_map, ◌≡◌, refl, sym, ap, subst, ◌∙◌}
 use Rattle.c_tree.specs.declared.tree.Slot.{Slot}
 use Rattle.c_tree.specs.declared.tree.Item as item
 use Rattle.c_tree.specs.declared.tree.Section.{Section}
-use Rattle.c_tree.specs.declared.tree.Expression.{Expression}
 use Rattle.c_tree.specs.declared.tree.Test as test
 use Rattle.c_tree.specs.declared.tree.Selector as selector
-use Rattle.c_tree.specs.ExpressionTrees.{ExpressionTree, expression_tree}
-use Rattle.c_tree.specs.TestTrees.{Source, Selects}
+use Rattle.c_tree.specs.ExpressionTrees.{ExpressionTree}
 use Rattle.c_tree.specs.Trees.{Tree, Forest, SectionTree, Nil, expression_trees, tree_of, trees_of, section_tree, sections, sections_of}
 use Rattle.c_tree.specs.Trees as tree
-use Rattle.c_tree.specs.Everywhere.{Everywhere, EverywhereOf, EverywhereIn}
-use Rattle.c_tree.proofs.KeptLemmas.{everywhere_join}
 use Rattle.c_tree.proofs.ExpressionLaws.{test-Source, selector-Source}
-use Rattle.c_tree.proofs.TreeLaws.{tree-Evaluate, tree-Return, tree-If, tree-While, tree-Do, tree-For, tree-Switch, tree-Block, tree-Local, tree-Break, tree-Continue, tree-Goto, tree-Mark, tree-Arrival, tree-Note, trees-none, trees-more, trees-append}
-use Rattle.c_types.specs.declared.kinds.IntKind.{IntKind}
-use Rattle.c_source.specs.Terms.{Term}
+use Rattle.c_tree.proofs.TreeLaws.{tree-Evaluate, tree-Return, tree-If, tree-While, tree-Do, tree-For, tree-Switch, tree-Block, tree-Local, tree-Break, tree-Continue, tree-Goto, tree-Mark, tree-Arrival, tree-Note}
 use Rattle.c_source.specs.Items.{Declarator, Declaration, Label, Named, Case, Default, Start, NoStart, StartValue, StartNames, Item, Declares, States, Plain, From, Statement, Null, Evaluate, If, IfElse, While, DoWhile, For, Switch, Block, Goto, Break, Continue, Return, Unread, Body, Braces, Lone, Items, NoItem}
 use Rattle.c_source.specs.Items as items
-use Rattle.c_kinds.specs.Scopes.{Scope, Faults, fault_if}
-use Rattle.c_kinds.specs.Typing.{typed, constant_faults}
-use Rattle.c_kinds.specs.Values.{value_of}
+use Rattle.c_kinds.specs.Scopes.{Scope, fault_if}
+use Rattle.c_kinds.specs.Typing.{constant_faults}
 use Rattle.c_statements.specs.declared.extents.Kinded.{Kinded}
-use Rattle.c_statements.specs.Cases.{switch_faults, body_entries}
-use Rattle.c_statements.specs.Context.{Anchor, Before, AtEnd, AtSection, Context, Walk, env_at, env_in, enter, leave, notes_at, number_in, has_label, Around, in_loop, in_switch}
-use Rattle.c_statements.specs.Declarations.{kinded, declared, all_declared, local, locals, initial, value_at, constant_at, value_faults, local_faults, locals_faults}
-use Rattle.c_statements.specs.Labels.{has_case, mark, label_items, labels_items, section_marks, section_cases, has_default, label_faults, labels_faults}
-use Rattle.c_statements.specs.Sections.{Reading, extended, ended, closed, passed_on}
+use Rattle.c_statements.specs.Context.{Anchor, Before, AtEnd, AtSection, Context, Walk, env_at, env_in, enter, notes_at, number_in, has_label, Around, in_loop, in_switch}
+use Rattle.c_statements.specs.Declarations.{kinded, declared, all_declared, local, locals, initial, value_at, constant_at, locals_faults}
+use Rattle.c_statements.specs.Labels.{has_case, mark, label_items, labels_items, section_marks, section_cases, label_faults, labels_faults}
+use Rattle.c_statements.specs.Sections.{Reading, extended, closed, passed_on}
 use Rattle.c_statements.specs.Statements.{behind_start, behind_item, behind_plain, behind_body, behind_items, declared_by, dropped_at, test_at, start_items, begun, a_switch, item_items, plain_items, statement_items, body_items, list_items, switch_sections, sections_from, sections_at}
 use Rattle.c_statements.specs.Statements as statements
-use Rattle.c_statements.specs.Violations.{dropped_faults, optional_faults, start_faults, return_faults, item_faults, plain_faults, statement_faults, body_faults, list_faults, switch_body_faults, outside_faults, outside_fault}
-use Rattle.c_resolved.specs.Form.{ends_with_break}
-use Rattle.c_resolved.specs.Within.{Each, CaseExpressions}
-use Rattle.resolving_core.proofs.Lists.{none_left, clean_if, not_true, each_map, each_append}
-use Rattle.resolving_core.specs.Read.{IsReadTerm, IsReadDeclarator, IsReadDeclaration, IsReadLabel, IsReadStart, IsReadItem, IsReadPlain, IsReadStatement, IsReadBody, AreReadItems}
-use Rattle.resolving_core.proofs.Empty.{constant_empty, labels_empty}
+use Rattle.c_statements.specs.Violations.{start_faults, item_faults, plain_faults, statement_faults, body_faults, list_faults, switch_body_faults, outside_faults, outside_fault}
+use Rattle.c_resolved.specs.Within.{Each}
+use Rattle.resolving_core.proofs.Lists.{none_left, clean_if, not_true, each_append}
+use Rattle.resolving_core.specs.Read.{IsReadDeclarator, IsReadLabel, IsReadStart, IsReadItem, IsReadPlain, IsReadStatement, IsReadBody, AreReadItems}
+use Rattle.resolving_core.proofs.Empty.{constant_empty}
 use Rattle.resolving_core.proofs.Parts.{parted, locals_parts, labels_parts, states_parts, list_parts, if_parts, if_else_parts, while_parts, do_parts, for_parts, switch_parts, Outside, outside_declares, outside_parts, outside_one}
-use Rattle.resolving_core.proofs.Grown.{Grown, locals_grow, start_grows, item_grows, plain_grows, body_grows, list_grows, switch_grows, outside_grows}
-use Rattle.resolving_core.proofs.SectionTrees.{section_of, ended_tree, has_entry, without_end, passes, with_entries, passed_trees, passed_same, ended_same, sections_are}
-
+use Rattle.resolving_core.proofs.Grown.{Grown, locals_grow, body_grows, list_grows, outside_grows}
 use Rattle.resolving_core.proofs.Walk.{Begins, Any, begins_before, Closed, Holds, hold_none, hold_more, hold_one, hold_both, hold_as, SectionsHold, ReadingHolds, extended_holds, closed_holds, switch_holds}
 
 -- a statement leaves the scopes as they are
@@ -203,7 +191,7 @@ module _ (ctx : Context) (final : List Slot) (I : List Scope → Type 0) (P : Tr
         let a = body_items ctx b w in
         let v = value_at (env_at ctx w) t in
         hold_one P (item.If (test.Source v) a []) (hold_as P _ _ (tree-If (test.Source v) a [] ∙ ap (λ x. tree.If x (trees_of a) (trees_of [])) (test-Source v))
-          (c.ifs w t (trees_of a) (trees_of []) i r.0 p.0, body_holds around b w r.1 p.1 i z, hold_none P))
+        (c.ifs w t (trees_of a) (trees_of []) i r.0 p.0, body_holds around b w r.1 p.1 i z, hold_none P))
     statement_holds around first (IfElse t b k) w r e i z =
         let p = if_else_parts ctx around w first t b k e in
         let u = behind_body ctx b w in
@@ -212,19 +200,19 @@ module _ (ctx : Context) (final : List Slot) (I : List Scope → Type 0) (P : Tr
         let v = value_at (env_at ctx w) t in
         let g = begins_before u.slots (behind_body ctx k u).slots final (body_grows ctx Any (λ k d w r e. tt) around k u r.2 p.2) z in
         hold_one P (item.If (test.Source v) a d) (hold_as P _ _ (tree-If (test.Source v) a d ∙ ap (λ x. tree.If x (trees_of a) (trees_of d)) (test-Source v))
-          (c.ifs w t (trees_of a) (trees_of d) i r.0 p.0, body_holds around b w r.1 p.1 i g, body_holds around k u r.2 p.2 (body_here b w i) z))
+        (c.ifs w t (trees_of a) (trees_of d) i r.0 p.0, body_holds around b w r.1 p.1 i g, body_holds around k u r.2 p.2 (body_here b w i) z))
     statement_holds around first (While t b) w r e i z =
         let p = while_parts ctx around w first t b e in
         let a = body_items ctx b w in
         let v = value_at (env_at ctx w) t in
         hold_one P (item.While (test.Source v) a) (hold_as P _ _ (tree-While (test.Source v) a ∙ ap (λ x. tree.While x (trees_of a)) (test-Source v))
-          (c.whiles w t (trees_of a) i r.0 p.0, body_holds (in_loop around) b w r.1 p.1 i z))
+        (c.whiles w t (trees_of a) i r.0 p.0, body_holds (in_loop around) b w r.1 p.1 i z))
     statement_holds around first (DoWhile b t) w r e i z =
         let p = do_parts ctx around w first b t e in
         let a = body_items ctx b w in
         let v = value_at (env_at ctx w) t in
         hold_one P (item.Do a (test.Source v)) (hold_as P _ _ (tree-Do a (test.Source v) ∙ ap (tree.Do (trees_of a)) (test-Source v))
-          (c.dos w t (trees_of a) i r.1 p.0, body_holds (in_loop around) b w r.0 p.1 i z))
+        (c.dos w t (trees_of a) i r.1 p.0, body_holds (in_loop around) b w r.0 p.1 i z))
     statement_holds around first (For start t u b) w r e i z =
         let p = for_parts ctx around w first start t u b e in
         let inner = behind_start ctx start (enter w) in
@@ -236,14 +224,14 @@ module _ (ctx : Context) (final : List Slot) (I : List Scope → Type 0) (P : Tr
         let g = begins_before inner.slots (behind_body ctx b inner).slots final (body_grows ctx Any (λ k d w r e. tt) (in_loop around) b inner r.3 p.3) z in
         let s = start_holds start (enter w) r.0 p.0 (c.into w.scopes i) g in
         hold_one P (item.For f x y a) (hold_as P _ _ (tree-For f x y a)
-          (c.fors w start t u (trees_of a) i s.1 g r.0 r.1 r.2 p.0 p.1 p.2, s.0, body_holds (in_loop around) b inner r.3 p.3 s.1 z))
+        (c.fors w start t u (trees_of a) i s.1 g r.0 r.1 r.2 p.0 p.1 p.2, s.0, body_holds (in_loop around) b inner r.3 p.3 s.1 z))
     statement_holds around first (Switch t b) w r e i z =
         let p = switch_parts ctx around w first t b e in
         let v = value_at (env_at ctx w) t in
         let ss = passed_on [] false (switch_sections ctx b w) in
         let h = switch_holds P C (switch_sections ctx b w) (sections_hold around b w r.1 p.1 i z) in
         hold_one P (item.Switch (selector.Source v) ss) (hold_as P _ _ (tree-Switch (selector.Source v) ss ∙ ap (λ x. tree.Switch x (sections_of ss)) (selector-Source v))
-          (c.switches around w t b i r.0 r.1 r.2 r.3 p.0 p.1 p.2 h.1, h.0))
+        (c.switches around w t b i r.0 r.1 r.2 r.3 p.0 p.1 p.2 h.1, h.0))
     statement_holds around first (Block b) w r e i z =
         let a = body_items ctx b w in
         hold_one P (item.Block a) (hold_as P _ _ (tree-Block a) (c.block (trees_of a), body_holds around b w r e i z))

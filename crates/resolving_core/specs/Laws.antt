@@ -1,5 +1,5 @@
 -- What the functions of this crate state: the program that resolving answers is a resolved program.
-use Rattle.std.specs.Prelude.{ℕ, ◌≡◌, ◌≤◌, ◌+◌, ◌-◌, false, negsuc, List, [], length, Result, Ok, option_map}
+use Rattle.std.specs.Prelude.{ℕ, ◌≡◌, negsuc, List, Ok, option_map}
 use Rattle.c_lexer.specs.declared.token.Token.{Token}
 use Rattle.c_lexer.specs.declared.token.Span.{Span}
 use Rattle.c_grammar.specs.declared.syntax.Syntax.{Syntax}

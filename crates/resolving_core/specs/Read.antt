@@ -1,6 +1,6 @@
 -- Source trees as derivations write them: each expression and each statement is one, targets stand where they are
 -- assigned or counted, and lists that the grammar asks for have an element.
-use Rattle.std.specs.Prelude.{ℕ, ◌≡◌, ◌<◌, ◌+◌, Bool, true, false, List, [], ◌∷◌, Option, Some, None, IfSome, length}
+use Rattle.std.specs.Prelude.{ℕ, ◌≡◌, ◌<◌, ◌+◌, Bool, List, [], ◌∷◌, Option, Some, None, IfSome, length}
 use Rattle.c_lexer.specs.Marks.{mark_of}
 use Rattle.c_source.specs.Terms.{Term, Form, Terms, At, Constant, Variable, Cell, Prefix, Suffix, CastTo, CastVoid, Binary, Choice, Assign, Commas, Call, Texts, Unknown, NoTerm}
 use Rattle.c_source.specs.Terms as terms
