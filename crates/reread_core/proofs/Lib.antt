@@ -28,4 +28,5 @@ pub mod SectionEnds
 pub mod SwitchRead
 pub mod ItemsRead
 pub mod BodyRead
+pub mod GoodGiven
 pub mod TheLaws
