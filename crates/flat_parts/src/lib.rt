@@ -8,6 +8,7 @@ mod endings;
 mod exits;
 mod jumps;
 mod named;
+mod selectors;
 
 pub use arrivals::{is_scattered, switch_has_default};
 pub use cases::{case_number, case_numbers};
@@ -15,3 +16,4 @@ pub use endings::{Ending, ends_by, is_gone, keeps_break, kept_length, leaves};
 pub use exits::{has_break, has_continue, sections_have_continue};
 pub use jumps::{has_jumps, holds_jump, is_flagged, sections_hold_jump};
 pub use named::named_labels;
+pub use selectors::{selector_source, switch_kind};

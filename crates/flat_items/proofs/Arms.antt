@@ -1,0 +1,223 @@
+-- Items by their kinds: what stands in their place, and the numbers of what comes behind them.
+use Rattle.std.proofs.Common.{◌≡◌, ℕ, ℤ, zero, suc, ◌+◌, ◌<◌, ◌≤◌, Bool, true, false, not, ◌&&◌, cond, List, [], length, map, drop, get_or, Option, Some, None, arith, refl, sym, ap, ◌∙◌}
+use Rattle.std.proofs.lemmas.List.{length-map}
+use Rattle.std.proofs.lemmas.Bool.{false≢true}
+use Rattle.std.proofs.Math.Path.{fun_ext}
+use Rattle.c_types.specs.declared.kinds.IntKind.{IntKind}
+use Rattle.c_tree.specs.Cases.{case_number, selector_source}
+use Rattle.c_tree.specs.Changed.{one}
+use Rattle.c_tree.specs.Everywhere.{total, total_of, total_in}
+use Rattle.c_tree.specs.Numerals.{constant}
+use Rattle.c_tree.specs.declared.tree.Item.{Item, Item-F, Break, Block, out-Item, roll-Item, roll-out-Item}
+use Rattle.c_tree.specs.declared.tree.Item.TheVariants.{rolls-Break, rolls-Block}
+use Rattle.c_tree.specs.declared.tree.Item.TheOpen as O
+use Rattle.c_tree.specs.declared.tree.Section as Real
+use Rattle.c_tree.specs.ExpressionTrees.{ExpressionTree}
+use Rattle.c_tree.specs.TestTrees.{SelectorTree}
+use Rattle.c_tree.specs.Trees as P
+use Rattle.c_tree.specs.Trees.{Tree, Forest, Nil, Then, Sections, Switch, Evaluate, Goto, trees_of, sections_of, expression_trees, join}
+use Rattle.c_tree.proofs.TreeLaws.{join-nil}
+use Rattle.jump_meaning.specs.Step.{switch_kind}
+use Rattle.loose_core.specs.Pieces.{Aim, Names, mark_of, assign_number, tests_among}
+use Rattle.loose_core.specs.Loose.{Arrivals, NoArrival, Arrives}
+use Rattle.flat_core.specs.Parts.{Here, Ending, Gone, Breaks, Jumps, Otherwise, constructs_of, cases_of, variables_of, past, past_item, inside, is_gone, later, gone_or, if_jumps, ending, ending_of, last_ending, is_scattered, leaves, switch_labels, cases_among}
+use Rattle.flat_core.specs.FlatForm.{Plan, is_jumpy_switch, flat_sections, flat, flat_item, flat_last, flat_last_item, names_of, scatter_aim, otherwise_label, dissolved, if_breaks, spread}
+use Rattle.flat_parts.proofs.EndLaws.{goes, ends_here}
+use Rattle.c_tree.specs.declared.tree.Expression.{Expression}
+use Rattle.tree_views.specs.Views.{layer_at, tree_at, before}
+use Rattle.tree_views.proofs.Views.{trees-at}
+use Rattle.flat_items.specs.declared.plans.Plan as L
+use Rattle.flat_items.specs.declared.plans.Cases as C
+use Rattle.flat_items.specs.Forms.{switch_breaks, entered_of, past_among, kept_form, scattered_form, local_form, section_form, is_breaks}
+use Rattle.flat_items.specs.Pieces.{number_tests}
+use Rattle.flat_items.specs.Plans.{plan_of, case_names, number_label}
+use Rattle.flat_items.proofs.Joining.{joined}
+use Rattle.flat_items.proofs.Steps.{same_here, still, past_more, past_Switch}
+use Rattle.flat_items.proofs.Tests.{tests_are}
+
+-- ---- a switch
+
+entered_is : (s : SelectorTree) (d : Sections) (h : Here) → is_scattered d ≡ false → entered_of h ≡ inside (Switch s d) h
+entered_is s d h e =
+    same_here refl (ap (λ y. h.case + cond y (length (cases_among (switch_labels d))) 0) (sym e)) (ap (λ y. h.variable + cond {A = ℕ} y 1 0) (sym e))
+
+pub past_kept : (s : SelectorTree) (d : Sections) (h : Here) → is_scattered d ≡ false → past_among d (entered_of h) ≡ past_item (Switch s d) h
+past_kept s d h e = ap (past_among d) (entered_is s d h e) ∙ past_Switch s d h
+
+either : (y z : Bool) (x a b : Forest) → z ≡ y → (y ≡ false → a ≡ b) → cond z x a ≡ cond z x b
+either true z x a b e f = ap (λ w. cond w x a) e ∙ sym (ap (λ w. cond w x b) e)
+either false z x a b e f = ap (cond z x) (f refl)
+
+-- a switch that stays, with these numbers inside it
+abbrev kept_with : Plan → Here → Aim → SelectorTree → Sections → Here → Forest
+kept_with p h c s d g = Then (Switch s (flat_sections p g (is_jumpy_switch p c d) (switch_breaks p h.construct c d) c d)) (mark_of (switch_breaks p h.construct c d))
+
+pub switch_item : (p : Plan) (h : Here) (b c : Aim) (r : Arrivals) (s : SelectorTree) (d : Sections) → cond (is_scattered d) (scattered_form p h c s d) (kept_form p h c s d) ≡ flat_item p h b c r (Switch s d)
+switch_item p h b c r s d =
+    either (is_scattered d) (is_scattered d) (scattered_form p h c s d) (kept_form p h c s d) (kept_with p h c s d (inside (Switch s d) h)) refl (λ e. ap (kept_with p h c s d) (entered_is s d h e))
+
+-- ---- items that hold no list
+
+pub last_other : (p : Plan) (h : Here) (b c : Aim) (r : Arrivals) (x : Item) → ((a : List Item) → x ≡ Block a → ⊥) → flat_last_item p h b c r (tree_at x) ≡ Nil
+last_other p h b c r x other = put (out-Item x) (sym (roll-out-Item x)) where
+  put : (y : Item-F Item Real.Section) → x ≡ roll-Item y → flat_last_item p h b c r (layer_at y) ≡ Nil
+  put (O.Block a) e = absurd (other a (e ∙ rolls-Block a))
+  put _ e = refl
+
+no_break : (e : Ending) → if_jumps e ≡ Breaks → ⊥
+no_break Gone h = cc
+no_break Breaks h = cc
+no_break Jumps h = cc
+no_break Otherwise h = cc
+
+no_break_if : (y : Bool) (e : Ending) → cond y (if_jumps e) Otherwise ≡ Breaks → ⊥
+no_break_if true e h = no_break e h
+no_break_if false e h = cc
+
+gone_or_no : (y : Bool) → gone_or y ≡ Breaks → ⊥
+gone_or_no true h = cc
+gone_or_no false h = cc
+
+pub past_other : (live : ℕ → Bool) (h : Here) (x : Item) → ((a : List Item) → x ≡ Block a → ⊥) → ending_of live (tree_at x) ≡ Breaks → h ≡ past_item (tree_at x) h
+past_other live h x other = put (out-Item x) (sym (roll-out-Item x)) where
+  put : (y : Item-F Item Real.Section) → x ≡ roll-Item y → ending_of live (layer_at y) ≡ Breaks → h ≡ past_item (layer_at y) h
+  put (O.Block a) e q = absurd (other a (e ∙ rolls-Block a))
+  put O.Break e q = sym (still h)
+  put (O.Switch s d) e q = absurd (no_break_if (is_scattered (sections_of d) && not (leaves (sections_of d))) (last_ending live (sections_of d)) q)
+  put (O.Mark l) e q = absurd (gone_or_no (live l) q)
+  put (O.Local x None) e q = cc
+  put (O.Local x (Some es)) e q = cc
+  put _ e q = cc
+
+-- ---- what goes has nothing in it that is numbered
+
+abbrev none_of : (Tree → ℕ) → Type 0
+none_of f = ((x : ℕ) → f (P.Local x None) ≡ 0) × ((l : ℕ) → f (P.Mark l) ≡ 0) × ((a : Forest) → f (P.Block a) ≡ 0)
+
+later_both : (e f : Ending) → is_gone (later e f) ≡ true → (is_gone e ≡ true) × (is_gone f ≡ true)
+later_both Gone f h = (refl, h)
+later_both Breaks f h = absurd (false≢true h)
+later_both Jumps f h = absurd (false≢true h)
+later_both Otherwise f h = absurd (false≢true h)
+
+not_gone : (e : Ending) → is_gone (if_jumps e) ≡ true → ⊥
+not_gone Gone h = false≢true h
+not_gone Breaks h = false≢true h
+not_gone Jumps h = false≢true h
+not_gone Otherwise h = false≢true h
+
+not_gone_if : (y : Bool) (e : Ending) → is_gone (cond y (if_jumps e) Otherwise) ≡ true → ⊥
+not_gone_if true e h = not_gone e h
+not_gone_if false e h = false≢true h
+
+module _ (live : ℕ → Bool) (f : Tree → ℕ) (none : none_of f) where
+  mutual
+    nothing : (xs : Forest) → is_gone (ending live xs) ≡ true → total f xs ≡ 0
+    nothing Nil h = refl
+    nothing (Then x xs) h =
+        let both = later_both (ending live xs) (ending_of live x) h in
+        let a = nothing_in x both.1 in
+        let b = nothing xs both.0 in
+        omega arith
+
+    nothing_in : (x : Tree) → is_gone (ending_of live x) ≡ true → total_of f x ≡ 0
+    nothing_in (P.Local x None) h = none.0 x
+    nothing_in (P.Mark l) h = none.1 l
+    nothing_in (P.Block a) h = let e = none.2 a in let g = nothing a h in omega arith
+    nothing_in (P.Switch s d) h = absurd (not_gone_if (is_scattered d && not (leaves d)) (last_ending live d) h)
+    nothing_in (P.Local x (Some es)) h = absurd (false≢true h)
+    nothing_in _ h = absurd (false≢true h)
+
+pub past_gone : (live : ℕ → Bool) (xs : Forest) (h : Here) → is_gone (ending live xs) ≡ true → past xs h ≡ h
+past_gone live xs h e =
+    let a = nothing live constructs_of (λ x. refl, λ l. refl, λ a. refl) xs e in
+    let b = nothing live cases_of (λ x. refl, λ l. refl, λ a. refl) xs e in
+    let c = nothing live variables_of (λ x. refl, λ l. refl, λ a. refl) xs e in
+    same_here (omega arith) (omega arith) (omega arith)
+
+-- ---- a list that ends by a `break`
+
+pub breaks_is : (e : Ending) → is_breaks e ≡ true → e ≡ Breaks
+breaks_is Breaks h = refl
+breaks_is Gone h = absurd (false≢true h)
+breaks_is Jumps h = absurd (false≢true h)
+breaks_is Otherwise h = absurd (false≢true h)
+
+pub other_end : (e : Ending) (a b : Forest) → is_breaks e ≡ false → if_breaks e a b ≡ b
+other_end Breaks a b h = absurd (false≢true (sym h))
+other_end Gone a b h = refl
+other_end Jumps a b h = refl
+other_end Otherwise a b h = refl
+
+later_kept : (e f : Ending) → is_gone e ≡ false → later e f ≡ e
+later_kept Gone f h = absurd (false≢true (sym h))
+later_kept Breaks f h = refl
+later_kept Jumps f h = refl
+later_kept Otherwise f h = refl
+
+-- where something stays behind an item, the list ends as behind it
+pub ends_on : (live : ℕ → Bool) (xs : List Item) (i : ℕ) (x : Item) → i < length xs → x ≡ get_or xs i x → goes live xs (i + 1) ≡ false → ending live (trees_of (drop i xs)) ≡ ending live (trees_of (drop (i + 1) xs))
+ends_on live xs i x l e g = ap (ending live) (trees-at xs i x l e) ∙ later_kept (ending live (trees_of (drop (i + 1) xs))) (ending_of live (tree_at x)) g
+
+-- behind the item by which the list ends
+pub past_last : (live : ℕ → Bool) (xs : List Item) (i : ℕ) (x : Item) → i < length xs → x ≡ get_or xs i x → goes live xs (i + 1) ≡ true → (h h' all : Here) → h' ≡ past_item (tree_at x) h → past (trees_of (drop i xs)) h ≡ all → h' ≡ all
+past_last live xs i x l e g h h' all q inv =
+    let rest = trees_of (drop (i + 1) xs) in
+    q ∙ sym (past_gone live rest (past_item (tree_at x) h) g) ∙ sym (past_more (tree_at x) rest h) ∙ sym (ap (λ a. past a h) (trees-at xs i x l e)) ∙ inv
+
+-- ---- a scattered switch
+
+-- its cases
+abbrev pub cases_record : SelectorTree → Sections → Here → C.Cases
+cases_record s d h = record { bound = true; kind = switch_kind s; first = h.case; construct = h.construct; numbers = map (case_number (switch_kind s)) (cases_among (switch_labels d)) }
+
+cases_equal : {b b' : Bool} {k k' : IntKind} {f f' n n' : ℕ} {ns ns' : List (Option ℤ)} → b ≡ b' → k ≡ k' → f ≡ f' → n ≡ n' → ns ≡ ns'
+    → (let a : C.Cases = record { bound = b; kind = k; first = f; construct = n; numbers = ns } in a) ≡ record { bound = b'; kind = k'; first = f'; construct = n'; numbers = ns' }
+cases_equal a b c d e = cc
+
+pub cases_are : (cs : C.Cases) (s : SelectorTree) (d : Sections) (h : Here) → cs.bound ≡ true → cs.kind ≡ switch_kind s → cs.first ≡ h.case → cs.construct ≡ h.construct → cs.numbers ≡ map (case_number (switch_kind s)) (cases_among (switch_labels d)) → cs ≡ cases_record s d h
+cases_are cs s d h a b c e f = cases_equal a b c e f
+
+pub inside_scattered : (s : SelectorTree) (d : Sections) (h : Here) (n : ℕ) (g : Here) → is_scattered d ≡ true → n ≡ length (map (case_number (switch_kind s)) (cases_among (switch_labels d)))
+    → g.construct ≡ suc h.construct → g.case ≡ h.case + n → g.variable ≡ h.variable + 1 → g ≡ inside (Switch s d) h
+inside_scattered s d h n g y e a b c =
+    same_here a (b ∙ ap (λ m. h.case + m) (e ∙ length-map (cases_among (switch_labels d)) (case_number (switch_kind s))) ∙ ap (λ z. h.case + cond z (length (cases_among (switch_labels d))) 0) (sym y))
+    (c ∙ ap (λ z. h.variable + cond {A = ℕ} z 1 0) (sym y))
+
+names_are : (p : L.Plan) (s : SelectorTree) (d : Sections) (h : Here) → case_names p (cases_record s d h) ≡ names_of (plan_of p) h (switch_kind s) d
+names_are p s d h = fun_ext (λ e. at e) where
+  at : (e : Option ExpressionTree) → case_names p (cases_record s d h) e ≡ names_of (plan_of p) h (switch_kind s) d e
+  at None = refl
+  at (Some e) = refl
+
+regrouped : (out t : Forest) (x y : Tree) (s : Forest) → join (join out (Then x (join t (one y)))) s ≡ join out (Then x (join t (Then y s)))
+regrouped out t x y s = joined out (Then x (join t (one y))) s ∙ ap (λ z. join out (Then x z)) (joined t (one y) s)
+
+pub scattered_is : (p : L.Plan) (cs : C.Cases) (s : SelectorTree) (d : Sections) (h g : Here) (b c : Aim) (out one_out last : Forest) → cs ≡ cases_record s d h
+    → one_out ≡ join out (Then (Evaluate (assign_number cs.kind h.variable (selector_source s))) (join (number_tests cs.kind h.variable (number_label p cs) cs.numbers) (one (Goto (otherwise_label (plan_of p) h d)))))
+    → last ≡ join one_out (spread (plan_of p) g b c (case_names p cs) d) → g ≡ inside (Switch s d) h → b ≡ scatter_aim (plan_of p) h d → last ≡ join out (scattered_form (plan_of p) h c s d)
+scattered_is p cs s d h g b c out one_out last same first second gs bs =
+    let q = plan_of p in
+    let k = switch_kind s in
+    let x = Evaluate (assign_number k h.variable (selector_source s)) in
+    let y = Goto (otherwise_label q h d) in
+    let t = number_tests k h.variable (number_label p (cases_record s d h)) (map (case_number k) (cases_among (switch_labels d))) in
+    let ns = names_of q h k d in
+    second ∙ ap (λ z. join z (spread q g b c (case_names p cs) d)) first
+    ∙ ap (λ (w : C.Cases). join (join out (Then (Evaluate (assign_number w.kind h.variable (selector_source s))) (join (number_tests w.kind h.variable (number_label p w) w.numbers) (one y)))) (spread q g b c (case_names p w) d)) same
+    ∙ ap (λ n. join (join out (Then x (join t (one y)))) (spread q g b c n d)) (names_are p s d h)
+    ∙ ap (λ z. join (join out (Then x (join t (one y)))) (spread q z b c ns d)) gs
+    ∙ ap (λ z. join (join out (Then x (join t (one y)))) (spread q (inside (Switch s d) h) z c ns d)) bs
+    ∙ ap (λ z. join (join out (Then x (join z (one y)))) (spread q (inside (Switch s d) h) (scatter_aim q h d) c ns d)) (sym (tests_are k h.variable ns (number_label p (cases_record s d h)) (λ e. refl) d))
+    ∙ regrouped out (tests_among constant k h.variable ns d) x y (spread q (inside (Switch s d) h) (scatter_aim q h d) c ns d)
+
+-- ---- declarations
+
+pub local_is : (p : Plan) (h : Here) (b c : Aim) (r : Arrivals) (x : ℕ) (es : Option (List ExpressionTree)) → local_form p x es ≡ flat_item p h b c r (P.Local x es)
+local_is p h b c r x None = refl
+local_is p h b c r x (Some es) = refl
+
+-- ---- a section that is made
+
+pub section_made : (es : List Expression) (default : Bool) (a : List Item) (ends : Bool) (d : Sections) → before (Real.roll-Section (record { cases = es; default = default; list = a; ends = ends })) d ≡ P.Section (expression_trees es) default (trees_of a) ends d
+section_made es default a ends d = ap (λ (o : Real.Section-F Item Real.Section). P.Section (expression_trees o.cases) o.default (trees_of o.list) o.ends d) (Real.out-roll-Section (record { cases = es; default = default; list = a; ends = ends }))

@@ -1,0 +1,5 @@
+pub mod Spelling
+pub mod Joining
+pub mod Tests
+pub mod Steps
+pub mod Arms

@@ -1,0 +1,3 @@
+pub mod Plans
+pub mod Pieces
+pub mod Forms
