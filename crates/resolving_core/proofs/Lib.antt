@@ -39,3 +39,4 @@ pub mod ItemForms
 pub mod Entries
 pub mod Compared
 pub mod ItemCases
+pub mod Counted
