@@ -30,11 +30,18 @@ use Rattle.reread_core.proofs.ExpressionWords.{as_end}
 use Rattle.reread_core.proofs.ListsRead.{settled, all_settled, written_front, end_front, behind_front}
 use Rattle.reread_core.proofs.LeavesRead.{a_mark}
 use Rattle.reread_core.proofs.ItemsRead.{list_reads}
+use Rattle.c_statements.specs.Labels.{list_labels}
+use Rattle.c_resolved.specs.Form.{gathered, marked_label}
+use Rattle.reread_core.proofs.ListsRead.{names_of}
 
 module _ (ts : List Top) (f : Function) (ctx : Context) (tokens : List Spelling) (words : AreWords ctx.word tokens) where
   nothing_behind : (xs : List Item) → xs ++ [] ≡ xs
   nothing_behind [] = refl
   nothing_behind (x ∷ xs) = ap (λ l. x ∷ l) (nothing_behind xs)
+
+  names_end : (ns : List (List ℕ)) → ns ++ [] ≡ ns
+  names_end [] = refl
+  names_end (x ∷ ns) = ap (λ l. x ∷ l) (names_end ns)
 
   pub body_reads : (ss : List Scope) (k : ℕ) (w : Walk) (at depth : ℕ) (xs : List Item) (ps : List Piece) → Standing (names_in ts f) ss k w → AreGood (names_in ts f) f ctx ss k no_construct (trees_of xs)
       → NotesOfBody f.slots ctx.notes at (trees_of xs) → Stands tokens at (braced (map (printed f) xs) depth ps) → BodyReads ts f ctx tokens ss k w at xs ps
@@ -53,5 +60,6 @@ module _ (ts : List Top) (f : Function) (ctx : Context) (tokens : List Spelling)
             ∙ ap (λ l. l ++ map item.Note (trailing [] a)) (u.items source.NoItem ∙ nothing_behind (settled ts f ctx tokens words [] a)) ∙ all_settled ts f ctx tokens words a [] ∙ items_whole f xs;
         standing = subst (λ v. Standing (names_in ts f) (behind_all f.slots ss a) (k + slots_in a) v) (sym (ap (λ l. behind_items ctx l w) e ∙ behind_front ts f ctx tokens words a (at + 1) source.NoItem w)) (u.standing);
         clear = λ vs. ap (λ l. list_faults ctx no_construct l w vs) e ∙ u.clear source.NoItem vs;
+        labels = ap (λ l. map ctx.word (list_labels l [])) e ∙ u.labels source.NoItem [] ∙ names_end (names_of ts f ctx tokens words (gathered marked_label a));
         behind = as_end f.slots tokens ctx.word words (items_end (at + 1) (items_of f.slots a NoItems) + 1) (x + 1) ps (ap (λ i. i + 1) (end_front ts f ctx tokens words a (at + 1) NoItems)) c;
       }

@@ -46,6 +46,9 @@ use Rattle.reread_core.specs.Places.{Standing}
 use Rattle.reread_core.proofs.ListsRead.{entered, left, passed, settled, all_settled, written_front, end_front, behind_front, ReadsOne, ReadsList}
 use Rattle.reread_core.proofs.LeavesRead.{full_read, value_here, values_clear, keyword_here, a_mark}
 use Rattle.c_tree.specs.TextItems as text
+use Rattle.c_statements.specs.Labels.{body_labels, list_labels}
+use Rattle.c_resolved.specs.Form.{gathered, marked_label}
+use Rattle.reread_core.proofs.ListsRead.{names_of, names_both, names_alone}
 
 -- ---- tests
 
@@ -83,6 +86,7 @@ module _ (ts : List Top) (f : Function) (ctx : Context) (tokens : List Spelling)
     pub items : body_items ctx (written_body at x) w ≡ forest_in a
     pub standing : Standing (names_in ts f) ss (k + slots_in a) (behind_body ctx (written_body at x) w)
     pub clear : (vs : Faults) → body_faults ctx around (written_body at x) w vs ≡ vs
+    pub labels : (rest : List ℕ) → map ctx.word (body_labels (written_body at x) rest) ≡ names_of ts f ctx tokens words (gathered marked_label a) ++ map ctx.word rest
 
   nothing_behind : (xs : List Item) → xs ++ [] ≡ xs
   nothing_behind [] = refl
@@ -104,6 +108,7 @@ module _ (ts : List Top) (f : Function) (ctx : Context) (tokens : List Spelling)
             ∙ ap (λ l. l ++ map item.Note (trailing [] a)) (u.items source.NoItem ∙ nothing_behind (settled ts f ctx tokens words [] a)) ∙ all_settled ts f ctx tokens words a [];
         standing = subst (λ v. Standing (names_in ts f) ss (k + slots_in a) (leave w v)) (sym (ap (λ l. behind_items ctx l (enter w)) e ∙ behind_front ts f ctx tokens words a (at + 1) source.NoItem (enter w)))
             (left (names_in ts f) ss (behind_all f.slots (inside ss) a) k (k + slots_in a) w (passed ts f ctx tokens words (at + 1) a (enter w)) h (u.standing));
+        labels = λ rest. ap (λ l. map ctx.word (list_labels l rest)) e ∙ u.labels source.NoItem rest;
         clear = λ vs. ap (λ l. list_faults ctx around l (enter w) vs) e ∙ u.clear source.NoItem vs;
       }
 
@@ -112,7 +117,7 @@ module _ (ts : List Top) (f : Function) (ctx : Context) (tokens : List Spelling)
   pub block_reads : (a : Forest) → ReadsList ts f ctx tokens words a → ReadsOne ts f ctx tokens words (t.Block a)
   block_reads a r ss k around w at depth ps h g p s =
       let u = braced_read a r ss k around w at depth (newline ps) h g p s in
-      record { behind_it = u.behind_it; keywords = u.keywords; items = λ i. notes_at ctx (Before at) ++ item.Block (u.items i) ∷ []; standing = u.standing; clear = u.clear }
+      record { behind_it = u.behind_it; keywords = u.keywords; items = λ i. notes_at ctx (Before at) ++ item.Block (u.items i) ∷ []; standing = u.standing; clear = u.clear; labels = u.labels }
 
   pub while_reads : (c : TestTree) (a : Forest) → ReadsList ts f ctx tokens words a → ReadsOne ts f ctx tokens words (t.While c a)
   while_reads c a r ss k around w at depth ps h g p s =
@@ -125,6 +130,7 @@ module _ (ts : List Top) (f : Function) (ctx : Context) (tokens : List Spelling)
         keywords = (m.0, u.keywords);
         items = λ i. notes_at ctx (Before at) ++ item.While (o.test_is_read i) (u.items i) ∷ [];
         standing = u.standing;
+        labels = u.labels;
         clear = λ vs. ap (body_faults ctx (in_loop around) (written_body x (block (items_of f.slots a NoItems))) w) (o.clear vs) ∙ u.clear vs;
       }
 
@@ -142,6 +148,7 @@ module _ (ts : List Top) (f : Function) (ctx : Context) (tokens : List Spelling)
         keywords = (m.0, u.keywords);
         items = λ i. notes_at ctx (Before at) ++ item.Do (u.items i) (o.test_is_read i) ∷ [];
         standing = u.standing;
+        labels = u.labels;
         clear = λ vs. o.clear (body_faults ctx (in_loop around) (written_body (at + 1) (block (items_of f.slots a NoItems))) w vs) ∙ u.clear vs;
       }
 
@@ -172,6 +179,7 @@ module _ (ts : List Top) (f : Function) (ctx : Context) (tokens : List Spelling)
         keywords = (m.0, u.keywords);
         items = λ i. notes_at ctx (Before at) ++ item.If (o.test_is_read i) (u.items i) [] ∷ [];
         standing = subst (λ j. Standing (names_in ts f) ss j (behind_body ctx (written_body x (block (items_of f.slots a NoItems))) w)) e (u.standing);
+        labels = λ rest. u.labels rest ∙ names_alone ts f ctx tokens words (gathered marked_label a) (map ctx.word rest);
         clear = λ vs. ap (body_faults ctx around (written_body x (block (items_of f.slots a NoItems))) w) (o.clear vs) ∙ u.clear vs;
       }
   if_reads c a (Then y ys) r q ss k around w at depth ps h g p s =
@@ -192,6 +200,8 @@ module _ (ts : List Top) (f : Function) (ctx : Context) (tokens : List Spelling)
         keywords = (m.0, u.keywords, d.keywords);
         items = λ i. notes_at ctx (Before at) ++ item.If (o.test_is_read i) (u.items i) (d.items i) ∷ [];
         standing = subst (λ j. Standing (names_in ts f) ss j (behind_body ctx (written_body (z + 1) t2) v)) e (d.standing);
+        labels = λ rest. u.labels (body_labels (written_body (z + 1) t2) rest) ∙ ap (λ l. names_of ts f ctx tokens words (gathered marked_label a) ++ l) (d.labels rest)
+            ∙ names_both ts f ctx tokens words (gathered marked_label a) (gathered marked_label (Then y ys)) (map ctx.word rest);
         clear = λ vs. ap (λ l. body_faults ctx around (written_body (z + 1) t2) v (body_faults ctx around (written_body x t1) w l)) (o.clear vs)
             ∙ ap (body_faults ctx around (written_body (z + 1) t2) v) (u.clear vs) ∙ d.clear vs;
       }

@@ -27,6 +27,9 @@ use Rattle.reread_core.specs.Places.{Standing}
 use Rattle.reread_core.proofs.ListsRead.{entered, left, source_of, ItemRead, ReadsOne, ReadsList}
 use Rattle.reread_core.proofs.ConstructsRead.{BodyRead, braced_read, ReadsElse}
 use Rattle.c_statements.specs.Statements.{behind_item}
+use Rattle.c_statements.specs.Labels.{body_labels}
+use Rattle.c_resolved.specs.Form.{gathered_of, marked_label}
+use Rattle.reread_core.proofs.ListsRead.{names_alone}
 
 -- ---- an `if` alone behind `else`
 
@@ -48,6 +51,7 @@ module _ (ts : List Top) (f : Function) (ctx : Context) (tokens : List Spelling)
         items = ap (λ z. body_items ctx z w) body ∙ (λ j. (r.items ∙ ap (λ z. map item.Note z ++ tree_in (t.If c a b) ∷ []) first) j ++ map item.Note (last j));
         standing = subst (λ z. Standing (names_in ts f) ss (k + (slots_of (t.If c a b) + 0)) (behind_body ctx z w)) (sym body)
             (subst (λ j. Standing (names_in ts f) ss j (leave w (behind_item ctx y (enter w)))) i (left (names_in ts f) ss (inside ss) k (k + slots_of (t.If c a b)) w (behind_item ctx y (enter w)) h (r.standing)));
+        labels = λ rest. ap (λ z. map ctx.word (body_labels z rest)) body ∙ r.labels rest ∙ names_alone ts f ctx tokens words (gathered_of marked_label (t.If c a b)) (map ctx.word rest);
         clear = λ vs. ap (λ z. body_faults ctx around z w vs) body ∙ r.clear vs;
       }
 
@@ -65,7 +69,7 @@ module _ (ts : List Top) (f : Function) (ctx : Context) (tokens : List Spelling)
       lone c a (Then y ys) _ ss k around w at ps refl refl h (p.0) (p.2) (r (inside ss) k around (enter w) at depth ps (entered (names_in ts f) ss k w h) (g.0) (p.1) s)
 
   past_line : (ss : List Scope) (k : ℕ) (around : Around) (w : Walk) (at : ℕ) (x : g.Statement) (a : Forest) (ps : List Piece) → BodyRead ts f ctx tokens words ss k around w at x a (newline ps) → BodyRead ts f ctx tokens words ss k around w at x a ps
-  past_line ss k around w at x a ps r = record { behind_it = r.behind_it; keywords = r.keywords; items = r.items; standing = r.standing; clear = r.clear }
+  past_line ss k around w at x a ps r = record { behind_it = r.behind_it; keywords = r.keywords; items = r.items; standing = r.standing; clear = r.clear; labels = r.labels }
 
   more_reads : (x y : Tree) (ys : Forest) → ReadsList ts f ctx tokens words (Then x (Then y ys)) → ReadsElse ts f ctx tokens words (Then x (Then y ys))
   more_reads (t.Note bytes) y ys r = λ ss k around w at depth ps h g p s. past_line ss k around w at _ (Then (t.Note bytes) (Then y ys)) ps (braced_read ts f ctx tokens words (Then (t.Note bytes) (Then y ys)) r ss k around w at depth (newline ps) h g p s)

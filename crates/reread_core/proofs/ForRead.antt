@@ -55,6 +55,9 @@ use Rattle.printed_syntax.specs.StatementDerivations.{declarator_of, no_declarat
 use Rattle.reread_core.specs.GoodItems.{with_slot, AreFurther, IsStart}
 use Rattle.reread_core.specs.WrittenStatements.{written_declarator, further_declarators, written_start}
 use Rattle.reread_core.proofs.DeclarationsRead.{kinds_of}
+use Rattle.c_resolved.specs.Form.{gathered, marked_label}
+use Rattle.reread_core.proofs.ListsRead.{names_of}
+use Rattle.reread_core.proofs.Readings.{there}
 
 module _ (ts : List Top) (f : Function) (ctx : Context) (tokens : List Spelling) (words : AreWords ctx.word tokens) where
   abbrev nm : Names
@@ -170,7 +173,7 @@ module _ (ts : List Top) (f : Function) (ctx : Context) (tokens : List Spelling)
   local_reads j given ss k around w at depth ps h g p b =
       subst (λ i. Stands tokens at ((printed_tree f (t.Local i given)).lines depth ps) → ItemRead ts f ctx tokens words ss k around w at (t.Local i given) ps) (sym (g.0))
       (λ c. let u = local_at k given (slice_get f.slots k) ss w at (newline ps) h (g.1) c in
-      record { behind_it = u.behind_it; keywords = tt; items = ap (λ l. notes_at ctx (Before at) ++ l) (u.locals_are); standing = u.standing; clear = u.clear }) b
+      record { behind_it = u.behind_it; keywords = tt; items = ap (λ l. notes_at ctx (Before at) ++ l) (u.locals_are); standing = u.standing; clear = u.clear; labels = λ rest. refl }) b
 
   -- ---- the first part of a `for`, up to its `;`
 
@@ -211,6 +214,23 @@ module _ (ts : List Top) (f : Function) (ctx : Context) (tokens : List Spelling)
   start_read (Then (t.Local j given) xs) ss k w at ps h g b = start_local j given xs ss k w at ps h g b
   start_read (Then (t.Evaluate x) (Then y ys)) ss k w at ps h g b = absurd g
   start_read (Then _ xs) ss k w at ps h g b = absurd g
+
+  -- no label stands in it
+  further_no_marks : (xs : Forest) (ss : List Scope) (k : ℕ) (s : Slot) → AreFurther nm f ctx ss k s xs → gathered marked_label xs ≡ []
+  further_no_marks Nil ss k s h = refl
+  further_no_marks (Then (t.Local j given) xs) ss k s h =
+      let y = there (slice_get f.slots k) (λ r. IsVariable nm ss k r given × (r.kind ≡ s.kind) × (r.constant ≡ s.constant) × AreFurther nm f ctx (with_slot k r ss) (suc k) s xs) (h.1) in
+      further_no_marks xs (with_slot k (y.slot) ss) (suc k) s ((y.holds).3)
+  further_no_marks (Then _ xs) ss k s h = absurd h
+
+  no_marks : (first : Forest) (ss : List Scope) (k : ℕ) → IsStart nm f ctx ss k first → gathered marked_label first ≡ []
+  no_marks Nil ss k h = refl
+  no_marks (Then (t.Evaluate x) Nil) ss k h = refl
+  no_marks (Then (t.Local j given) xs) ss k h =
+      let y = there (slice_get f.slots k) (λ s. IsVariable nm ss k s given × AreFurther nm f ctx (with_slot k s ss) (suc k) s xs) (h.1) in
+      further_no_marks xs (with_slot k (y.slot) ss) (suc k) (y.slot) ((y.holds).1)
+  no_marks (Then (t.Evaluate x) (Then z zs)) ss k h = absurd h
+  no_marks (Then _ xs) ss k h = absurd h
 
   -- ---- `for`
 
@@ -261,6 +281,7 @@ module _ (ts : List Top) (f : Function) (ctx : Context) (tokens : List Spelling)
         keywords = (m.0, l.keywords);
         items = λ j. notes_at ctx (Before at) ++ item.For (st.items j) (tc.0 j) (tu.0 j) (l.items j) ∷ [];
         standing = subst (λ j. Standing nm ss j (leave w (behind_body ctx body v))) count (left nm ss rs k (i + slots_in a) w (behind_body ctx body v) h (l.standing));
+        labels = λ rest. l.labels rest ∙ (λ j. names_of ts f ctx tokens words (sym (no_marks first (inside ss) k (g.0)) j ++ gathered marked_label a) ++ map ctx.word rest);
         clear = λ vs.
             ap (λ q. body_faults ctx (in_loop around) body v (optional_faults (dropped_faults (env_at ctx v)) (optional_term (y + 1) (option_map derivation_of u)) (optional_faults (value_faults (env_at ctx v)) (optional_term x (option_map derivation_of c)) q))) (st.clear vs)
             ∙ ap (λ q. body_faults ctx (in_loop around) body v (optional_faults (dropped_faults (env_at ctx v)) (optional_term (y + 1) (option_map derivation_of u)) q)) (tc.1 vs)

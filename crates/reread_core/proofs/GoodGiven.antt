@@ -1,5 +1,5 @@
 -- The items of a resolved function are what reading their text needs at each place.
-use Rattle.std.proofs.Common.{◌≡◌, ◌≤◌, ◌<◌, ◌+◌, ◌-◌, ◌⊎◌, ℕ, zero, suc, Bool, true, false, ◌||◌, List, [], ◌∷◌, ◌++◌, map, length, drop, Option, Some, None, is_some, refl, ap, sym, subst, ◌∙◌, arith, length-append}
+use Rattle.std.proofs.Common.{◌≡◌, ◌≤◌, ◌<◌, ◌+◌, ℕ, zero, suc, Bool, true, false, ◌||◌, List, [], ◌∷◌, ◌++◌, length, Option, Some, None, is_some, refl, ap, sym, subst, ◌∙◌, arith, length-append}
 use Rattle.std.specs.Prelude.{slice_get, IfSome, IsSomeAnd}
 use Rattle.std.specs.Option.{option_map_or}
 use Rattle.c_types.specs.declared.kinds.IntKind.{IntKind}
@@ -28,10 +28,10 @@ use Rattle.c_resolved.specs.Form.{gathered, gathered_of, gathered_in, declared_s
 use Rattle.c_resolved.specs.Switches.{AreLabels, HasCases, IsConstantValue, arrivals, section_labels, switch_labels, cases_among}
 use Rattle.c_resolved.specs.Scopes as resolved
 use Rattle.c_resolved.specs.Files.{IsLength, AreInitialisers}
-use Rattle.c_resolved.specs.PrintableStatements.{OptionPrints, TestPrints, SelectorPrints, FullPrints, ListPrints, ValuesPrint, DeclaratorPrints, SlotPrints, FurtherPrint, StartPrints, ItemPrints, ItemsPrint, SectionsPrint}
+use Rattle.c_resolved.specs.PrintableStatements.{OptionPrints, TestPrints, SelectorPrints, FullPrints, ListPrints, ValuesPrint, SlotPrints, FurtherPrint, StartPrints, ItemPrints, ItemsPrint, SectionsPrint}
 use Rattle.c_resolved.specs.Resolved.{names_in, IsInitialised}
 use Rattle.reread_core.specs.Places.{IsExpressionOf}
-use Rattle.reread_core.specs.GoodItems.{IsValueOf, with_slot, IsVariable, slots_in, slots_of, slots_within, IsTest, AreFurther, IsStart, IsLabel, IsCase, IsSelector, IsGood, AreGood, SectionsAreGood}
+use Rattle.reread_core.specs.GoodItems.{IsValueOf, with_slot, IsVariable, slots_in, slots_of, slots_within, IsTest, AreFurther, IsStart, IsCase, IsSelector, IsGood, AreGood, SectionsAreGood}
 
 -- ---- two facts everywhere
 
@@ -271,9 +271,11 @@ module _ (ts : List Top) (f : Function) (ctx : Context) (result : ctx.result ≡
       let r = l.slot in
       let name : slot_name f.slots j ≡ r.name = ap (λ o. option_map_or (λ (r : Slot). r.name) o []) (l.is) in
       let alike = subst (λ z. IsSomeAnd z (λ r. (r.kind ≡ s.kind) × (r.constant ≡ s.constant))) (l.is) (a.0) in
-      let rest = further_good xs s (bind (slot_name f.slots j) (AVariable (H.Slot j)) ss) (suc k) (a.1) (h.1) (p.1) (b.1) (q.1) (omega (arith, low)) in
-      (q.0, some_slot (slice_get f.slots k) r (λ r. IsVariable nm ss k r given × (r.kind ≡ s.kind) × (r.constant ≡ s.constant) × AreFurther nm f ctx (with_slot k r ss) (suc k) s xs) (ap (slice_get f.slots) (sym (q.0)) ∙ l.is)
-        (subst (λ i. IsVariable nm ss i r given) (q.0) (l.good), alike.0, alike.1, subst (λ i. AreFurther nm f ctx (bind r.name (AVariable (H.Slot i)) ss) (suc k) s xs) (q.0) (subst (λ m. AreFurther nm f ctx (bind m (AVariable (H.Slot j)) ss) (suc k) s xs) name rest)))
+      let rest = further_good xs s (bind (slot_name f.slots j) (AVariable (H.Slot j)) ss) (suc k) (a.1) (h.1) (p.1) (b.1) (q.1) (omega (arith, low)) in (
+        q.0,
+        some_slot (slice_get f.slots k) r (λ r. IsVariable nm ss k r given × (r.kind ≡ s.kind) × (r.constant ≡ s.constant) × AreFurther nm f ctx (with_slot k r ss) (suc k) s xs) (ap (slice_get f.slots) (sym (q.0)) ∙ l.is)
+            (subst (λ i. IsVariable nm ss i r given) (q.0) (l.good), alike.0, alike.1, subst (λ i. AreFurther nm f ctx (bind r.name (AVariable (H.Slot i)) ss) (suc k) s xs) (q.0) (subst (λ m. AreFurther nm f ctx (bind m (AVariable (H.Slot j)) ss) (suc k) s xs) name rest)),
+      )
   further_good (Then _ xs) s ss k a h p b o low = absurd a
 
   start_good : (first : Forest) (ss : List Scope) (k : ℕ) → IsFirstPart f.slots first → Everywhere Fact first → StartPrints f.slots first → AreBound f.slots ss first → Ordered k (gathered declared_slot first) (slots_in first) → f.params ≤ k → IsStart nm f ctx ss k first
@@ -288,9 +290,11 @@ module _ (ts : List Top) (f : Function) (ctx : Context) (result : ctx.result ≡
       let r = l.slot in
       let name : slot_name f.slots j ≡ r.name = ap (λ o. option_map_or (λ (r : Slot). r.name) o []) (l.is) in
       let alike = subst (λ z. IsSomeAnd z (λ s. AreAlike f.slots s xs)) (l.is) a in
-      let rest = further_good xs r (bind (slot_name f.slots j) (AVariable (H.Slot j)) ss) (suc k) alike (h.1) (p.1) (b.1) (q.1) (omega (arith, low)) in
-      (q.0, some_slot (slice_get f.slots k) r (λ r. IsVariable nm ss k r given × AreFurther nm f ctx (with_slot k r ss) (suc k) r xs) (ap (slice_get f.slots) (sym (q.0)) ∙ l.is)
-        (subst (λ i. IsVariable nm ss i r given) (q.0) (l.good), subst (λ i. AreFurther nm f ctx (bind r.name (AVariable (H.Slot i)) ss) (suc k) r xs) (q.0) (subst (λ m. AreFurther nm f ctx (bind m (AVariable (H.Slot j)) ss) (suc k) r xs) name rest)))
+      let rest = further_good xs r (bind (slot_name f.slots j) (AVariable (H.Slot j)) ss) (suc k) alike (h.1) (p.1) (b.1) (q.1) (omega (arith, low)) in (
+        q.0,
+        some_slot (slice_get f.slots k) r (λ r. IsVariable nm ss k r given × AreFurther nm f ctx (with_slot k r ss) (suc k) r xs) (ap (slice_get f.slots) (sym (q.0)) ∙ l.is)
+            (subst (λ i. IsVariable nm ss i r given) (q.0) (l.good), subst (λ i. AreFurther nm f ctx (bind r.name (AVariable (H.Slot i)) ss) (suc k) r xs) (q.0) (subst (λ m. AreFurther nm f ctx (bind m (AVariable (H.Slot j)) ss) (suc k) r xs) name rest)),
+      )
   start_good (Then (t.Evaluate x) (Then y ys)) ss k a h p b o low = absurd a
   start_good (Then _ xs) ss k a h p b o low = absurd a
 
@@ -350,8 +354,7 @@ module _ (ts : List Top) (f : Function) (ctx : Context) (result : ctx.result ≡
     good_of (t.If c a d) ss k around h p b o m low z =
         let x = t.If c a d in
         let ks = kinds_in x (h.0) in
-        let r = split (gathered declared_slot a) (gathered declared_slot d) k (slots_in a) (slots_in d) (slots_counted a) o in
-        (
+        let r = split (gathered declared_slot a) (gathered declared_slot d) k (slots_in a) (slots_in d) (slots_counted a) o in (
           test_good ss c (ks.kinds) (b.0) (consts_in x (h.0)) (ks.values) (p.0),
           good_in a (inside ss) k around (h.1) (p.1) (b.1) (r.first) (each_first (λ l. l < length f.labels) (gathered marked_label a) (gathered marked_label d) m) low (exits_first around (breaks a) (continues a) (breaks d) (continues d) z),
           good_in d (inside ss) (k + slots_in a) around (h.2) (p.2) (b.2) (r.last) (each_last (λ l. l < length f.labels) (gathered marked_label a) (gathered marked_label d) m) (omega (arith, low)) (exits_last around (breaks a) (continues a) (breaks d) (continues d) z),
@@ -369,8 +372,7 @@ module _ (ts : List Top) (f : Function) (ctx : Context) (result : ctx.result ≡
         let ks = kinds_in x (h.0) in
         let cs = consts_in x (h.0) in
         let rs = behind_all f.slots (inside ss) first in
-        let r = split (gathered declared_slot first) (gathered declared_slot a) k (slots_in first) (slots_in a) (slots_counted first) o in
-        (
+        let r = split (gathered declared_slot first) (gathered declared_slot a) k (slots_in first) (slots_in a) (slots_counted first) o in (
           start_good first (inside ss) k (form_in x (h.0)) (h.1) (p.0) (b.0) (r.first) low,
           optional_value rs c (ks.kinds.0) (b.1) (cs.0) (ks.values.0) (p.1),
           optional_dropped rs u (ks.kinds.1) (b.2) (cs.1) (ks.values.1) (p.2),
@@ -379,8 +381,7 @@ module _ (ts : List Top) (f : Function) (ctx : Context) (result : ctx.result ≡
     good_of (t.Switch s c) ss k around h p b o m low z =
         let x = t.Switch s c in
         let ks = kinds_in x (h.0) in
-        let cs = consts_in x (h.0) in
-        (
+        let cs = consts_in x (h.0) in (
           selector_good ss s (ks.kinds.0) (b.0) (cs.0) (ks.values) (p.0),
           cases_in x (h.0),
           sections_good c (inside ss) k (in_switch around) (h.1) (p.1) (b.1) o m low (in_a_switch around (breaks_in c) (continues_in c) (z.continues_are)) (ks.kinds.1) (cs.1) ((form_in x (h.0)).0) (labels_of_switch s c (cases_in x (h.0))),
@@ -404,8 +405,7 @@ module _ (ts : List Top) (f : Function) (ctx : Context) (result : ctx.result ≡
         → Exits around (breaks xs) (continues xs) → AreGood nm f ctx ss k around xs
     good_in Nil ss k around h p b o m low z = tt
     good_in (Then x xs) ss k around h p b o m low z =
-        let r = split (gathered_of declared_slot x) (gathered declared_slot xs) k (slots_of x) (slots_in xs) (counted_of x) o in
-        (
+        let r = split (gathered_of declared_slot x) (gathered declared_slot xs) k (slots_of x) (slots_in xs) (counted_of x) o in (
           good_of x ss k around (h.0) (p.0) (b.0) (r.first) (each_first (λ l. l < length f.labels) (gathered_of marked_label x) (gathered marked_label xs) m) low (exits_first around (breaks_of x) (continues_of x) (breaks xs) (continues xs) z),
           good_in xs (behind f.slots ss x) (k + slots_of x) around (h.1) (p.1) (b.1) (r.last) (each_last (λ l. l < length f.labels) (gathered_of marked_label x) (gathered marked_label xs) m) (omega (arith, low)) (exits_last around (breaks_of x) (continues_of x) (breaks xs) (continues xs) z),
         )
@@ -418,8 +418,7 @@ module _ (ts : List Top) (f : Function) (ctx : Context) (result : ctx.result ≡
         let v1 = subst (Each IsConstantValue) (cases_both (section_labels cases default) (arrivals a ++ switch_labels c)) v in
         let own = subst (Each IsConstantValue) (section_cases cases default) (each_first IsConstantValue (cases_among (section_labels cases default)) (cases_among (arrivals a ++ switch_labels c)) v1) in
         let v2 = subst (Each IsConstantValue) (cases_both (arrivals a) (switch_labels c)) (each_last IsConstantValue (cases_among (section_labels cases default)) (cases_among (arrivals a ++ switch_labels c)) v1) in
-        let later = each_last IsConstantValue (cases_among (arrivals a)) (cases_among (switch_labels c)) v2 in
-        (
+        let later = each_last IsConstantValue (cases_among (arrivals a)) (cases_among (switch_labels c)) v2 in (
           cases_good ss cases (ks.0) (b.0) (cs.0) own (p.0),
           s.0,
           good_in a ss k around (h.0) (p.1) (b.1) (r.first) (each_first (λ l. l < length f.labels) (gathered marked_label a) (gathered_in marked_label c) m) low (exits_first around (breaks a) (continues a) (breaks_in c) (continues_in c) z),

@@ -24,6 +24,9 @@ use Rattle.reread_core.proofs.ConstructsRead.{block_reads, while_reads, do_reads
 use Rattle.reread_core.proofs.ElseRead.{ReadsLone, else_reads}
 use Rattle.reread_core.proofs.SwitchRead.{ReadsSections, no_section, one_section, switch_reads}
 use Rattle.reread_core.proofs.ForRead.{local_reads, for_reads}
+use Rattle.c_statements.specs.Labels.{list_labels}
+use Rattle.c_resolved.specs.Form.{gathered, gathered_of, marked_label}
+use Rattle.reread_core.proofs.ListsRead.{names_of, names_both}
 
 module _ (ts : List Top) (f : Function) (ctx : Context) (tokens : List Spelling) (words : AreWords ctx.word tokens) where
   mutual
@@ -60,8 +63,8 @@ module _ (ts : List Top) (f : Function) (ctx : Context) (tokens : List Spelling)
     list_reads (Then (t.Arrival e) xs) = λ ns ss k around w at depth ps h g p b. absurd (g.0)
     list_reads (Then (t.Local j given) xs) = λ ns ss k around w at depth ps h g p b.
         let x = t.Local j given in
-        let rest = list_text (printed_forest f xs) depth ps in
-        let i = local_reads ts f ctx tokens words j given ss k around w at depth rest h (g.0) (p.1) (past_indentation tokens at ((printed_tree f x).lines depth rest) depth b) in
+        let lines = list_text (printed_forest f xs) depth ps in
+        let i = local_reads ts f ctx tokens words j given ss k around w at depth lines h (g.0) (p.1) (past_indentation tokens at ((printed_tree f x).lines depth lines) depth b) in
         let v = behind_item ctx (source_of ts f ctx tokens words at x) w in
         let y = item_end f.slots at x in
         let l = list_reads xs [] (behind f.slots ss x) (k + slots_of x) around v y depth ps (i.standing) (g.1) (p.2) (i.behind_it) in
@@ -72,11 +75,13 @@ module _ (ts : List Top) (f : Function) (ctx : Context) (tokens : List Spelling)
           items = λ others. (λ j. (i.items ∙ ap (λ z. map item.Note z ++ tree_in x ∷ []) (p.0)) j ++ l.items others j)
               ∙ regroup ts f ctx tokens words (map item.Note ns) (settled ts f ctx tokens words [] xs) (list_items ctx others (passed ts f ctx tokens words y xs v)) (tree_in x);
           standing = subst (λ j. Standing (names_in ts f) (behind_all f.slots (behind f.slots ss x) xs) j (passed ts f ctx tokens words y xs v)) count (l.standing);
+          labels = λ others rest. i.labels (list_labels (front ts f ctx tokens words y xs others) rest) ∙ ap (λ z. names_of ts f ctx tokens words (gathered_of marked_label x) ++ z) (l.labels others rest)
+              ∙ names_both ts f ctx tokens words (gathered_of marked_label x) (gathered marked_label xs) (map ctx.word (list_labels others rest));
           clear = λ others vs. ap (list_faults ctx around (front ts f ctx tokens words y xs others) v) (i.clear vs) ∙ l.clear others vs;
         }
     list_reads (Then x xs) = λ ns ss k around w at depth ps h g p b.
-        let rest = list_text (printed_forest f xs) depth ps in
-        let i = item_reads x ss k around w at depth rest h (g.0) (p.1) (past_indentation tokens at ((printed_tree f x).lines depth rest) depth b) in
+        let lines = list_text (printed_forest f xs) depth ps in
+        let i = item_reads x ss k around w at depth lines h (g.0) (p.1) (past_indentation tokens at ((printed_tree f x).lines depth lines) depth b) in
         let v = behind_item ctx (source_of ts f ctx tokens words at x) w in
         let y = item_end f.slots at x in
         let l = list_reads xs [] (behind f.slots ss x) (k + slots_of x) around v y depth ps (i.standing) (g.1) (p.2) (i.behind_it) in
@@ -87,6 +92,8 @@ module _ (ts : List Top) (f : Function) (ctx : Context) (tokens : List Spelling)
           items = λ others. (λ j. (i.items ∙ ap (λ z. map item.Note z ++ tree_in x ∷ []) (p.0)) j ++ l.items others j)
               ∙ regroup ts f ctx tokens words (map item.Note ns) (settled ts f ctx tokens words [] xs) (list_items ctx others (passed ts f ctx tokens words y xs v)) (tree_in x);
           standing = subst (λ j. Standing (names_in ts f) (behind_all f.slots (behind f.slots ss x) xs) j (passed ts f ctx tokens words y xs v)) count (l.standing);
+          labels = λ others rest. i.labels (list_labels (front ts f ctx tokens words y xs others) rest) ∙ ap (λ z. names_of ts f ctx tokens words (gathered_of marked_label x) ++ z) (l.labels others rest)
+              ∙ names_both ts f ctx tokens words (gathered_of marked_label x) (gathered marked_label xs) (map ctx.word (list_labels others rest));
           clear = λ others vs. ap (list_faults ctx around (front ts f ctx tokens words y xs others) v) (i.clear vs) ∙ l.clear others vs;
         }
 

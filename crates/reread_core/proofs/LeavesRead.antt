@@ -133,6 +133,7 @@ module _ (ts : List Top) (f : Function) (ctx : Context) (tokens : List Spelling)
         keywords = tt;
         items = λ i. notes_at ctx (Before at) ++ item.Evaluate (dropped_is ss w at x _ u i) ∷ [];
         standing = still n ss k w h;
+        labels = λ rest. refl;
         clear = λ vs. drops_clear ss w at x _ u vs;
       }
 
@@ -144,6 +145,7 @@ module _ (ts : List Top) (f : Function) (ctx : Context) (tokens : List Spelling)
         keywords = m.0;
         items = refl;
         standing = still n ss k w h;
+        labels = λ rest. refl;
         clear = λ vs. ap (λ b. fault_if (not b) at 27 vs) g;
       }
 
@@ -155,6 +157,7 @@ module _ (ts : List Top) (f : Function) (ctx : Context) (tokens : List Spelling)
         keywords = m.0;
         items = refl;
         standing = still n ss k w h;
+        labels = λ rest. refl;
         clear = λ vs. ap (λ b. fault_if (not b) at 28 vs) g;
       }
 
@@ -171,6 +174,7 @@ module _ (ts : List Top) (f : Function) (ctx : Context) (tokens : List Spelling)
         keywords = m.0;
         items = λ i. notes_at ctx (Before at) ++ item.Goto (label_number l (ctx.word (at + 1)) (o.0) (g.number) i) ∷ [];
         standing = still n ss k w h;
+        labels = λ rest. refl;
         clear = λ vs. (λ i. fault_if (not (has_label ctx.labels (o.0 i))) (at + 1) 33 vs) ∙ ap (λ r. fault_if (not (is_some r)) (at + 1) 33 vs) (g.number);
       }
 
@@ -185,6 +189,7 @@ module _ (ts : List Top) (f : Function) (ctx : Context) (tokens : List Spelling)
         keywords = (ap keyword_class (o.0) ∙ not_keyword (label_name f l) (g.name.1), ap keyword_class (m.0));
         items = (λ i. ((notes_at ctx (Before at) ++ item.Mark (number i) ∷ []) ++ []) ++ (map item.Note (p i) ++ [])) ∙ nothing_more (notes_at ctx (Before at) ++ item.Mark l ∷ []);
         standing = still n ss k w h;
+        labels = λ rest i. o.0 i ∷ map ctx.word rest;
         clear = λ vs. refl;
       }
     where
@@ -207,6 +212,7 @@ module _ (ts : List Top) (f : Function) (ctx : Context) (tokens : List Spelling)
         keywords = m.0;
         items = refl;
         standing = still n ss k w h;
+        labels = λ rest. refl;
         clear = λ vs. ap (λ r. return_faults r (env_at ctx w) at None vs) g;
       }
   return_reads (Some x) ss k around w at depth ps h g p s =
@@ -217,5 +223,6 @@ module _ (ts : List Top) (f : Function) (ctx : Context) (tokens : List Spelling)
         keywords = m.0;
         items = λ i. notes_at ctx (Before at) ++ item.Return (Some (value_here ss w (at + 1) x _ u ((g.0).kind) i)) ∷ [];
         standing = still n ss k w h;
+        labels = λ rest. refl;
         clear = λ vs. returned ctx.result (env_at ctx w) at (expression_term (at + 1) (derivation_of x)) vs (g.1) ∙ values_clear ss w (at + 1) x _ u ((g.0).kind) vs;
       }

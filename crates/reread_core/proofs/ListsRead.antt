@@ -16,6 +16,9 @@ use Rattle.c_kinds.specs.Scopes.{Faults}
 use Rattle.c_statements.specs.Context.{Context, Walk, Around, Before, enter, leave, notes_at}
 use Rattle.c_statements.specs.Statements.{behind_item, behind_items, item_items, list_items}
 use Rattle.c_statements.specs.Violations.{item_faults, list_faults}
+use Rattle.c_tree.specs.TextItems.{label_name}
+use Rattle.c_statements.specs.Labels.{item_labels, list_labels}
+use Rattle.c_resolved.specs.Form.{gathered, gathered_of, marked_label}
 use Rattle.c_resolved.specs.Names.{Names}
 use Rattle.c_resolved.specs.Resolved.{names_in}
 use Rattle.c_resolved.specs.Scopes.{Scope, behind, behind_all, inside}
@@ -108,6 +111,10 @@ module _ (ts : List Top) (f : Function) (ctx : Context) (tokens : List Spelling)
   behind_front (Then (t.Note bytes) xs) at rest w = behind_front xs at rest w
   behind_front (Then x xs) at rest w = behind_front xs (item_end f.slots at x) rest (behind_item ctx (source_of at x) w)
 
+  -- the names of labels
+  abbrev pub names_of : List ℕ → List (List ℕ)
+  names_of ls = map (label_name f) ls
+
   -- ---- how items and lists are read
 
   abbrev pub ItemHasKeywords : ℕ → Tree → Type 0
@@ -120,6 +127,7 @@ module _ (ts : List Top) (f : Function) (ctx : Context) (tokens : List Spelling)
     pub items : item_items ctx (source_of at x) w ≡ notes_at ctx (Before at) ++ tree_in x ∷ []
     pub standing : Standing n (behind f.slots ss x) (k + slots_of x) (behind_item ctx (source_of at x) w)
     pub clear : (vs : Faults) → item_faults ctx around (source_of at x) w vs ≡ vs
+    pub labels : (rest : List ℕ) → map ctx.word (item_labels (source_of at x) rest) ≡ names_of (gathered_of marked_label x) ++ map ctx.word rest
 
   pub record ListRead (ns : List (List ℕ)) (ss : List Scope) (k : ℕ) (around : Around) (w : Walk) (at : ℕ) (xs : Forest) (ps : List Piece) : Type 0 where
     pub behind_it : Stands tokens (list_end f.slots at xs) ps
@@ -127,6 +135,7 @@ module _ (ts : List Top) (f : Function) (ctx : Context) (tokens : List Spelling)
     pub items : (rest : s.Items) → list_items ctx (front at xs rest) w ≡ settled ns xs ++ list_items ctx rest (passed at xs w)
     pub standing : Standing n (behind_all f.slots ss xs) (k + slots_in xs) (passed at xs w)
     pub clear : (rest : s.Items) (vs : Faults) → list_faults ctx around (front at xs rest) w vs ≡ list_faults ctx around rest (passed at xs w) vs
+    pub labels : (others : s.Items) (rest : List ℕ) → map ctx.word (list_labels (front at xs others) rest) ≡ names_of (gathered marked_label xs) ++ map ctx.word (list_labels others rest)
 
   abbrev pub ReadsOne : Tree → Type 0
   ReadsOne x = (ss : List Scope) (k : ℕ) (around : Around) (w : Walk) (at depth : ℕ) (ps : List Piece) → Standing n ss k w → IsGood n f ctx ss k around x → NotesWithin f.slots ctx.notes at x
@@ -143,7 +152,7 @@ module _ (ts : List Top) (f : Function) (ctx : Context) (tokens : List Spelling)
   -- ---- lists
 
   pub none_read : ReadsList Nil
-  none_read ns ss k around w at depth ps h g p s = record { behind_it = s; keywords = λ others e. e; items = λ rest. refl; standing = still n ss k w h; clear = λ rest vs. refl }
+  none_read ns ss k around w at depth ps h g p s = record { behind_it = s; keywords = λ others e. e; items = λ rest. refl; standing = still n ss k w h; clear = λ rest vs. refl; labels = λ others rest. refl }
 
   pub note_read : (bytes : List ℕ) (xs : Forest) → ReadsList xs → ReadsList (Then (t.Note bytes) xs)
   note_read bytes xs r ns ss k around w at depth ps h g p s =
@@ -152,7 +161,15 @@ module _ (ts : List Top) (f : Function) (ctx : Context) (tokens : List Spelling)
       let e : k + 0 ≡ k = omega arith in
       let u = r (ns ++ bytes ∷ []) ss k around w at depth ps h (subst (λ i. AreGood n f ctx ss i around xs) e (g.1)) p s2 in
       let a : k + slots_in xs ≡ k + (0 + slots_in xs) = omega arith in
-      record { behind_it = u.behind_it; keywords = u.keywords; items = u.items; standing = subst (λ i. Standing n (behind_all f.slots ss xs) i (passed at xs w)) a (u.standing); clear = u.clear }
+      record { behind_it = u.behind_it; keywords = u.keywords; items = u.items; standing = subst (λ i. Standing n (behind_all f.slots ss xs) i (passed at xs w)) a (u.standing); clear = u.clear; labels = u.labels }
+
+  pub names_both : (a b : List ℕ) (rest : List (List ℕ)) → names_of a ++ (names_of b ++ rest) ≡ names_of (a ++ b) ++ rest
+  names_both [] b rest = refl
+  names_both (l ∷ a) b rest = ap (λ r. label_name f l ∷ r) (names_both a b rest)
+
+  pub names_alone : (a : List ℕ) (rest : List (List ℕ)) → names_of a ++ rest ≡ names_of (a ++ []) ++ rest
+  names_alone [] rest = refl
+  names_alone (l ∷ a) rest = ap (λ r. label_name f l ∷ r) (names_alone a rest)
 
   -- two lists of items, one after the other
   pub regroup : (a b c : List Item) (x : Item) → (a ++ x ∷ []) ++ (b ++ c) ≡ (a ++ (x ∷ b)) ++ c

@@ -29,6 +29,7 @@ use Rattle.reread_core.specs.WrittenExpressions.{conditional_form}
 use Rattle.reread_core.specs.WrittenStatements.{written_items, behind_labels, written_labels}
 use Rattle.reread_core.specs.Keywords.{ItemsHaveKeywords, HasKeywords}
 use Rattle.reread_core.specs.PlacedNotes.{cases_end, section_labels_end}
+use Rattle.c_statements.specs.Labels.{named_in, plain_labels, list_labels}
 
 -- ---- the labels of a section
 
@@ -243,3 +244,15 @@ module _ (ctx : Context) where
   walk_begin put (s.Then (s.States ls p) xs) w n = refl
   walk_begin put s.NoItem w n = absurd n
   walk_begin put (s.Then (s.Declares first after d) xs) w n = absurd n
+
+-- ---- the labels with names
+
+no_names : (cases : List ExpressionTree) (at : ℕ) (default : Bool) (ls : List s.Label) (rest : List ℕ) → named_in (section_list at cases default ls) rest ≡ named_in ls rest
+no_names [] at false ls rest = refl
+no_names [] at true ls rest = refl
+no_names (e ∷ es) at default ls rest = no_names es (conditional_end (at + 1) (conditional_of e) + 1) default ls rest
+
+pub labels_begin : (cases : List ExpressionTree) (at : ℕ) (default : Bool) (xs : s.Items) (rest : List ℕ) → BeginsNamed xs → list_labels (with_labels (section_list at cases default) xs) rest ≡ list_labels xs rest
+labels_begin cases at default (s.Then (s.States ls p) xs) rest n = no_names cases at default ls (plain_labels p (list_labels xs rest))
+labels_begin cases at default s.NoItem rest n = absurd n
+labels_begin cases at default (s.Then (s.Declares first after d) xs) rest n = absurd n

@@ -80,6 +80,10 @@ use Rattle.reread_core.proofs.Readings.{has_valued, value_is as value_is_read}
 use Rattle.reread_core.proofs.ListsRead.{ReadsOne, entered, left}
 use Rattle.reread_core.proofs.LeavesRead.{full_read, value_here, values_clear}
 use Rattle.reread_core.proofs.CaseConstants.{entries_clear}
+use Rattle.c_statements.specs.Labels.{list_labels}
+use Rattle.c_resolved.specs.Form.{gathered, gathered_in, marked_label}
+use Rattle.reread_core.proofs.ListsRead.{names_of, names_both}
+use Rattle.reread_core.proofs.SectionSources.{labels_begin}
 
 -- ---- what the list and the end of a section write
 
@@ -144,6 +148,7 @@ module _ (ts : List Top) (f : Function) (ctx : Context) (tokens : List Spelling)
     pub entries : List Entry
     pub entries_are : (found : List Entry) → list_entries ctx (written_items at (sections_of f.slots cs)) w found ≡ found ++ entries
     pub matches : Match (switch_labels cs) entries
+    pub labels : (rest : List ℕ) → map ctx.word (list_labels (written_items at (sections_of f.slots cs)) rest) ≡ names_of ts f ctx tokens words (gathered_in marked_label cs) ++ map ctx.word rest
 
   abbrev pub ReadsSections : Sections → Type 0
   ReadsSections cs = (ss : List Scope) (k : ℕ) (around : Around) (w : Walk) (at depth : ℕ) (ps : List Piece) → around.switch ≡ true → Standing (names_in ts f) ss k w → SectionsAreGood (names_in ts f) f ctx ss k around cs
@@ -161,6 +166,7 @@ module _ (ts : List Top) (f : Function) (ctx : Context) (tokens : List Spelling)
     entries = [];
     entries_are = none_more;
     matches = tt;
+    labels = λ rest. refl;
   }
     where
       by_reading : (reading : Option Reading) → sections_from ctx reading source.NoItem [] w ≡ closed reading ++ []
@@ -204,6 +210,14 @@ module _ (ts : List Top) (f : Function) (ctx : Context) (tokens : List Spelling)
   end_entries : (ends h : Bool) (z : ℕ) (rest : source.Items) (w : Walk) (found : List Entry) → list_entries ctx (end_source ends h z rest) w found ≡ list_entries ctx rest w found
   end_entries true h z rest w found = refl
   end_entries false h z rest w found = null_entries h z rest w found
+
+  null_labels : (b : Bool) (y : ℕ) (rest : source.Items) (others : List ℕ) → map ctx.word (list_labels (opt_null b y rest) others) ≡ map ctx.word (list_labels rest others)
+  null_labels true y rest others = refl
+  null_labels false y rest others = refl
+
+  end_labels : (ends h : Bool) (z : ℕ) (rest : source.Items) (others : List ℕ) → map ctx.word (list_labels (end_source ends h z rest) others) ≡ map ctx.word (list_labels rest others)
+  end_labels true h z rest others = refl
+  end_labels false h z rest others = null_labels h z rest others
 
   -- the list of a section as it is read, with a `break` that ends it
   abbrev with_end : Bool → List Item → List Item
@@ -299,6 +313,10 @@ module _ (ts : List Top) (f : Function) (ctx : Context) (tokens : List Spelling)
         clear = cleared;
         outside = λ vs.
             ap (λ l. outside_faults ctx around l w vs) wl ∙ outside_begin ctx around cases at default (written_items y x0) w (g.1) bn vs ∙ sym (ap (λ l. list_faults ctx around l w vs) wl) ∙ cleared vs;
+        labels = λ others.
+            ap (λ l. map ctx.word (list_labels l others)) wl ∙ ap (map ctx.word) (labels_begin cases at default (written_items y x0) others bn) ∙ ap (λ l. map ctx.word (list_labels l others)) wx ∙ null_labels there y body others
+            ∙ u4.labels tail others ∙ ap (λ l. names_of ts f ctx tokens words (gathered marked_label a) ++ l) (end_labels ends (has_last a last) z rest others ∙ u6.labels others)
+            ∙ names_both ts f ctx tokens words (gathered marked_label a) (gathered_in marked_label c) (map ctx.word others);
         entries = new ++ (u6.entries);
         entries_are = λ found.
             ap (λ l. list_entries ctx l w found) wl ∙ entries_begin ctx cases at default (written_items y x0) w found bn
@@ -364,6 +382,7 @@ module _ (ts : List Top) (f : Function) (ctx : Context) (tokens : List Spelling)
         items = λ i. notes_at ctx (Before at) ++ item.Switch (selector.Source (o.value_is i))
             ((ap (λ l. passed_on [] false (sections_from ctx None src (map item.Note l) (enter w))) (p.1) ∙ ap (passed_on [] false) (u.sections None) ∙ all_passed_on c (all_kept c (inside ss) k (in_switch around) (g.2))) i) ∷ [];
         standing = left (names_in ts f) ss (u.after) k (k + slots_within c) w (behind_items ctx src (enter w)) h (u.standing);
+        labels = u.labels;
         clear = λ vs.
             ap (λ l. switch_faults (option_map (λ (v : Valued). v.kind) (value_of (typed env term))) (list_entries ctx src (enter w) []) (outside_faults ctx (in_switch around) src (enter w) l)) (o.clear vs)
             ∙ ap (λ l. switch_faults (option_map (λ (v : Valued). v.kind) (value_of (typed env term))) (list_entries ctx src (enter w) []) l) (u.outside vs)

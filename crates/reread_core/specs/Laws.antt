@@ -1,12 +1,12 @@
 -- The laws of this crate: what is printed of a resolved program reads back as it was.
-use Rattle.std.specs.Prelude.{◌≡◌, ◌+◌, ℕ, List, map, Some}
+use Rattle.std.specs.Prelude.{◌≡◌, ◌+◌, ℕ, List, [], map, Some}
 use Rattle.c_tree.specs.declared.tree.Expression.{Expression, out-Expression}
 use Rattle.c_tree.specs.ExpressionTrees.{ExpressionTree, expression_tree}
 use Rattle.c_tree.specs.declared.tree.Function.{Function}
 use Rattle.c_tree.specs.declared.tree.Top.{Top}
 use Rattle.c_tree.specs.declared.tree.Item.{Item}
 use Rattle.c_tree.specs.Trees.{trees_of}
-use Rattle.c_tree.specs.TextItems.{braced, printed}
+use Rattle.c_tree.specs.TextItems.{braced, printed, label_name}
 use Rattle.c_tree.specs.TextPieces.{Piece}
 use Rattle.c_tree.specs.TextExpressions.{expression_text}
 use Rattle.c_grammar.specs.declared.syntax.Syntax.{Syntax}
@@ -23,6 +23,8 @@ use Rattle.c_kinds.specs.Typing.{typed, faults}
 use Rattle.c_resolved.specs.Names.{Names}
 use Rattle.c_statements.specs.Context.{Context, Walk, no_construct}
 use Rattle.c_statements.specs.Functions.{body_items, behind_body, body_faults}
+use Rattle.c_statements.specs.Labels.{body_labels}
+use Rattle.c_resolved.specs.Form.{gathered, marked_label}
 use Rattle.c_resolved.specs.Resolved.{names_in}
 use Rattle.c_resolved.specs.Scopes.{Scope, behind_all}
 use Rattle.printed_syntax.specs.Reread.{Spelling}
@@ -60,6 +62,8 @@ pub record BodyReads (ts : List Top) (f : Function) (ctx : Context) (tokens : Li
   pub standing : Standing (names_in ts f) (behind_all f.slots ss (trees_of xs)) (k + slots_in (trees_of xs)) (behind_body ctx (written_block at (items_of f.slots (trees_of xs) NoItems)) w)
   pub clear : (vs : Faults) → body_faults ctx (written_block at (items_of f.slots (trees_of xs) NoItems)) w vs ≡ vs
   pub behind : Stands tokens (block_end at (Braces (items_of f.slots (trees_of xs) NoItems))) ps
+  -- its labels are those of its Marks, in text order
+  pub labels : map ctx.word (body_labels (written_block at (items_of f.slots (trees_of xs) NoItems)) []) ≡ map (label_name f) (gathered marked_label (trees_of xs))
 
 pub record RereadLaws : Type 0 where
   -- what the syntax of a derivation writes
