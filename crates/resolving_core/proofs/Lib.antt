@@ -40,3 +40,4 @@ pub mod Entries
 pub mod Compared
 pub mod ItemCases
 pub mod Counted
+pub mod Limited

@@ -1,10 +1,13 @@
 -- The counted tokens of an expression as it is printed, by what is written: each operator, the brackets that the levels of
 -- the grammar ask for, the bracket of an index and of a call, and `?`.
-use Rattle.std.specs.Prelude.{ℕ, ◌+◌, List}
+use Rattle.std.specs.Prelude.{ℕ, ◌+◌, ◌≤◌, List, [], ◌∷◌, IfSome}
 use Rattle.c_lexer.specs.Marks.{mark_of}
 use Rattle.c_tree.specs.TextExpressions.{binary_level}
 use Rattle.c_source.specs.Terms.{Term, Form, Terms, At, Constant, Variable, Cell, Prefix, Suffix, CastTo, CastVoid, Binary, Choice, Assign, Commas, Call, Texts, Unknown, NoTerm, Then}
+use Rattle.c_source.specs.Items.{Initialiser, NoValue, OneValue, ValueList, Declarator, Declaration, Label, Case, Start, NoStart, StartValue, StartNames, Item, Declares, States, Plain, From, Statement, Evaluate, If, IfElse, While, DoWhile, For, Switch, Block, Return, Body, Braces, Lone, Items, NoItem}
+use Rattle.c_source.specs.Items as items
 use Rattle.c_kinds.specs.Marks.{binary_op}
+use Rattle.c_resolved.specs.Within.{Each}
 use Rattle.c_resolved.specs.PrintableExpressions.{bracket_count}
 
 module _ (word : ℕ → List ℕ) where
@@ -49,3 +52,58 @@ module _ (word : ℕ → List ℕ) where
     pub all_counted : Terms → ℕ
     all_counted NoTerm = 0
     all_counted (Then x xs) = term_counted x + bracket_count (term_level x) 2 + all_counted xs
+
+-- ---- full expressions, of which each counts at most so many
+
+module _ (word : ℕ → List ℕ) (most : ℕ) where
+  -- where the grammar needs a level
+  abbrev pub IsFew : ℕ → Term → Type 0
+  IsFew need t = term_counted word t + bracket_count (term_level word t) need ≤ most
+
+  abbrev pub IsFewInitialiser : Initialiser → Type 0
+  IsFewInitialiser NoValue = Unit {0}
+  IsFewInitialiser (OneValue t) = IsFew 2 t
+  IsFewInitialiser (ValueList ts) = Each (IsFew 2) ts
+
+  abbrev pub IsFewDeclarator : Declarator → Type 0
+  IsFewDeclarator d = IsFewInitialiser d.value
+
+  abbrev pub IsFewDeclaration : Declaration → Type 0
+  IsFewDeclaration d = Each IsFewDeclarator d.names
+
+  abbrev pub IsFewLabel : Label → Type 0
+  IsFewLabel (Case first after t) = IsFew 3 t
+  IsFewLabel _ = Unit {0}
+
+  abbrev pub IsFewStart : Start → Type 0
+  IsFewStart NoStart = Unit {0}
+  IsFewStart (StartValue t) = IsFew 1 t
+  IsFewStart (StartNames d) = IsFewDeclaration d
+
+  abbrev mutual
+    pub IsFewItem : Item → Type 0
+    IsFewItem (Declares first after d) = IsFewDeclaration d
+    IsFewItem (States ls p) = Each IsFewLabel ls × IsFewPlain p
+
+    pub IsFewPlain : Plain → Type 0
+    IsFewPlain (From first after s) = IsFewStatement s
+
+    pub IsFewStatement : Statement → Type 0
+    IsFewStatement (Evaluate t) = IsFew 1 t
+    IsFewStatement (If t b) = IsFew 1 t × IsFewBody b
+    IsFewStatement (IfElse t b c) = IsFew 1 t × IsFewBody b × IsFewBody c
+    IsFewStatement (While t b) = IsFew 1 t × IsFewBody b
+    IsFewStatement (DoWhile b t) = IsFewBody b × IsFew 1 t
+    IsFewStatement (For start t u b) = IsFewStart start × IfSome t (IsFew 1) × IfSome u (IsFew 1) × IsFewBody b
+    IsFewStatement (Switch t b) = IsFew 1 t × IsFewBody b
+    IsFewStatement (Block b) = IsFewBody b
+    IsFewStatement (Return t) = IfSome t (IsFew 1)
+    IsFewStatement _ = Unit {0}
+
+    pub IsFewBody : Body → Type 0
+    IsFewBody (Braces first after xs) = AreFewItems xs
+    IsFewBody (Lone first after x) = IsFewItem x
+
+    pub AreFewItems : Items → Type 0
+    AreFewItems NoItem = Unit {0}
+    AreFewItems (items.Then x xs) = IsFewItem x × AreFewItems xs
