@@ -71,7 +71,7 @@ module _ (P Q : Tree → Type 0) where
 -- ---- numbers in order
 
 mutual
-  slots_counted : (xs : Forest) → length (gathered declared_slot xs) ≡ slots_in xs
+  pub slots_counted : (xs : Forest) → length (gathered declared_slot xs) ≡ slots_in xs
   slots_counted Nil = refl
   slots_counted (Then x xs) = length-append (gathered_of declared_slot x) (gathered declared_slot xs) ∙ (λ i. counted_of x i + slots_counted xs i)
 

@@ -29,4 +29,6 @@ pub mod SwitchRead
 pub mod ItemsRead
 pub mod BodyRead
 pub mod GoodGiven
+pub mod LabelNumbers
+pub mod BodyGiven
 pub mod TheLaws

@@ -11,6 +11,7 @@ use Rattle.reread_core.specs.WrittenExpressions.{expression_form, assignment_for
 use Rattle.reread_core.proofs.ExpressionSources.{term_is, expression_writes, assignment_writes, conditional_writes}
 use Rattle.reread_core.proofs.DeclarationSources.{local_known}
 use Rattle.reread_core.proofs.StatementSources.{block_writes}
+use Rattle.reread_core.proofs.BodyGiven.{resolved_reads}
 use Rattle.reread_core.proofs.BodyRead.{body_reads}
 use Rattle.reread_core.proofs.FullExpressions.{open_full, assigned_full, chosen_full, reads_whole, stands_tree}
 
@@ -37,4 +38,5 @@ reread_laws = record {
       reads_whole n ss env tokens h _ at _ _ ps e (term_is env.word (conditional_node at d) p.Conditional at (conditional_form at d) (conditional_writes env.word at d))
       (chosen_full n ss env tokens h at ps x g (stands_tree n ss env tokens h 3 at ps e s));
   bodies = λ ts f ctx tokens ss k w at depth xs ps words h g p b. body_reads ts f ctx tokens words ss k w at depth xs ps h g p b;
+  resolved_bodies = λ counts ts f word notes x tokens ss w at depth body ps h words r st p b. resolved_reads counts ts f word notes x tokens ss w at depth body ps h words r st p b;
 }

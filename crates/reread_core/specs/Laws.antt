@@ -21,12 +21,16 @@ use Rattle.c_kinds.specs.Scopes.{Env, Faults}
 use Rattle.c_kinds.specs.Values.{of_result}
 use Rattle.c_kinds.specs.Typing.{typed, faults}
 use Rattle.c_resolved.specs.Names.{Names}
-use Rattle.c_statements.specs.Context.{Context, Walk, no_construct}
-use Rattle.c_statements.specs.Functions.{body_items, behind_body, body_faults}
-use Rattle.c_statements.specs.Labels.{body_labels}
+use Rattle.c_statements.specs.Context.{Anchor, Context, Walk, no_construct}
+use Rattle.c_statements.specs.Functions.{result_kind, context, body_items, behind_body, body_faults}
+use Rattle.c_statements.specs.Labels.{body_labels, distinct, twice_faults}
 use Rattle.c_resolved.specs.Form.{gathered, marked_label}
-use Rattle.c_resolved.specs.Resolved.{names_in}
-use Rattle.c_resolved.specs.Scopes.{Scope, behind_all}
+use Rattle.c_resolved.specs.Resolved.{names_in, IsResolvedFunction}
+use Rattle.c_resolved.specs.Limits.{FlatCounts}
+use Rattle.c_resolved.specs.Within.{AllDiffer}
+use Rattle.c_resolved.specs.PrintableStatements.{ItemsPrint}
+use Rattle.c_source.specs.Tops as tops
+use Rattle.c_resolved.specs.Scopes.{Scope, behind_all, AreBound}
 use Rattle.printed_syntax.specs.Reread.{Spelling}
 use Rattle.printed_syntax.specs.Standing.{Stands}
 use Rattle.printed_syntax.specs.ExpressionDerivations.{derivation_of}
@@ -65,6 +69,22 @@ pub record BodyReads (ts : List Top) (f : Function) (ctx : Context) (tokens : Li
   -- its labels are those of its Marks, in text order
   pub labels : map ctx.word (body_labels (written_block at (items_of f.slots (trees_of xs) NoItems)) []) ≡ map (label_name f) (gathered marked_label (trees_of xs))
 
+-- ---- bodies of resolved functions
+
+-- a body that prints, in these scopes
+pub record IsBody (counts : FlatCounts) (ts : List Top) (f : Function) (ss : List Scope) (body : List Item) : Type 0 where
+  pub is : f.body ≡ Some body
+  pub resolved : IsResolvedFunction counts ts f
+  pub labels : AllDiffer f.labels
+  pub prints : ItemsPrint f (trees_of body)
+  pub bound : AreBound f.slots ss (trees_of body)
+
+-- it reads back, with the labels of the function, none of them twice
+pub record ResolvedBodyReads (ts : List Top) (f : Function) (word : ℕ → List ℕ) (notes : Anchor → List (List ℕ)) (x : tops.Function) (tokens : List Spelling) (ss : List Scope) (w : Walk) (at : ℕ) (body : List Item) (ps : List Piece) : Type 0 where
+  pub reads : BodyReads ts f (context word notes x (written_block at (items_of f.slots (trees_of body) NoItems))) tokens ss f.params w at body ps
+  pub names : distinct (map word (body_labels (written_block at (items_of f.slots (trees_of body) NoItems)) [])) ≡ f.labels
+  pub once : (vs : Faults) → twice_faults word (body_labels (written_block at (items_of f.slots (trees_of body) NoItems)) []) vs ≡ vs
+
 pub record RereadLaws : Type 0 where
   -- what the syntax of a derivation writes
   pub expression : (word : ℕ → List ℕ) (at : ℕ) (e : g.Expression) → term_of word (expression_node at e) ≡ At at (expression_form at e)
@@ -80,3 +100,7 @@ pub record RereadLaws : Type 0 where
   -- and that of a body as the body, where the comments stand where its Notes are printed
   pub bodies : (ts : List Top) (f : Function) (ctx : Context) (tokens : List Spelling) (ss : List Scope) (k : ℕ) (w : Walk) (at depth : ℕ) (xs : List Item) (ps : List Piece) → AreWords ctx.word tokens → Standing (names_in ts f) ss k w
       → AreGood (names_in ts f) f ctx ss k no_construct (trees_of xs) → NotesOfBody f.slots ctx.notes at (trees_of xs) → Stands tokens at (braced (map (printed f) xs) depth ps) → BodyReads ts f ctx tokens ss k w at xs ps
+  -- so that the body of a resolved function reads back, whatever function has its result
+  pub resolved_bodies : (counts : FlatCounts) (ts : List Top) (f : Function) (word : ℕ → List ℕ) (notes : Anchor → List (List ℕ)) (x : tops.Function) (tokens : List Spelling) (ss : List Scope) (w : Walk) (at depth : ℕ) (body : List Item) (ps : List Piece)
+      → IsBody counts ts f ss body → AreWords word tokens → result_kind word x ≡ f.result → Standing (names_in ts f) ss f.params w → NotesOfBody f.slots notes at (trees_of body) → Stands tokens at (braced (map (printed f) body) depth ps)
+      → ResolvedBodyReads ts f word notes x tokens ss w at body ps
