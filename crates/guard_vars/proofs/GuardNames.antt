@@ -1,5 +1,6 @@
 -- The names of guards: one for each label, each new.
-use Rattle.std.proofs.Common.{◌≡◌, ℕ, suc, ◌||◌, Bool, true, false, List, [], ◌∷◌, ◌++◌, length, refl, sym, ap, ◌∙◌, subst}
+use Rattle.std.proofs.Common.{◌≡◌, ℕ, suc, ◌||◌, false, List, [], ◌∷◌, ◌++◌, length, refl, sym, ap, ◌∙◌, subst}
+use Rattle.std.proofs.Math.Bool.{or_assoc}
 use Rattle.std.specs.Str.{bytes_eq}
 use Rattle.c_tree.specs.declared.tree.Function.{Function}
 use Rattle.c_copies.specs.Names.{has_name, with_name, with_names}
@@ -14,10 +15,6 @@ length-named_guards used (l ∷ ls) = ap suc (length-named_guards (with_name use
 -- a name for each label
 pub length-guard_names : (ns : List (List ℕ)) (f : Function) → length (guard_names ns f) ≡ length f.labels
 length-guard_names ns f = length-named_guards _ f.labels
-
-or_then : (a b c : Bool) → ((a || b) || c) ≡ (a || (b || c))
-or_then true b c = refl
-or_then false b c = refl
 
 -- what is used after these names are given
 abbrev pub used_after : List (List ℕ) → List (List ℕ) → List (List ℕ)
@@ -59,7 +56,7 @@ new_where_same us vs (g ∷ gs) same new = (sym (same g) ∙ new.0, new_where_sa
 -- what stands in one of two lists stands in both together
 name_in_both : (us vs : List (List ℕ)) (q : List ℕ) → has_name (us ++ vs) q ≡ (has_name us q || has_name vs q)
 name_in_both [] vs q = refl
-name_in_both (u ∷ us) vs q = ap (λ b. bytes_eq q u || b) (name_in_both us vs q) ∙ sym (or_then (bytes_eq q u) (has_name us q) (has_name vs q))
+name_in_both (u ∷ us) vs q = ap (λ b. bytes_eq q u || b) (name_in_both us vs q) ∙ sym (or_assoc (bytes_eq q u) (has_name us q) (has_name vs q))
 
 -- the names that are used in a function, as one list
 pub same_beside : (file own : List (List ℕ)) → AreSameNames (with_names file own) (file ++ own)

@@ -1,5 +1,6 @@
 -- The marks that a walk over a body sets are those of the labels whose guards stand in it.
 use Rattle.std.proofs.Common.{◌≡◌, ℕ, zero, suc, ◌+◌, ◌≤◌, ◌==◌, Bool, true, false, ◌||◌, cond, eqb, Option, List, [], ◌∷◌, ◌++◌, map, length, get_or, slice_set, refl, sym, ap, subst, ◌∙◌, eqb-true, eq-eqb, arith}
+use Rattle.std.proofs.Math.Bool.{or_assoc}
 use Rattle.c_tree.specs.declared.tree.Item.{Item, Item-F, roll-Item, fold-roll-Item, ind-Item, map-Item}
 use Rattle.c_tree.specs.declared.tree.Item.TheOpen.{Section-F, Evaluate, Return, If, While, Do, For, Switch, Block, Local, Break, Continue, Goto, Mark, Arm, Leap, Land, Arrival, Note}
 use Rattle.c_tree.specs.declared.tree.Item as V
@@ -23,10 +24,6 @@ or_none : (b : Bool) → (b || false) ≡ b
 or_none true = refl
 or_none false = refl
 
-or_then : (a b c : Bool) → ((a || b) || c) ≡ (a || (b || c))
-or_then true b c = refl
-or_then false b c = refl
-
 or_true : (b : Bool) → true ≡ (b || true)
 or_true true = refl
 or_true false = refl
@@ -37,7 +34,7 @@ more_same n (b ∷ bs) f g h = ap (λ c. (b || c) ∷ more (n + 1) bs f) (h n) �
 
 more_then : (n : ℕ) (ms : List Bool) (f g : ℕ → Bool) → more n (more n ms f) g ≡ more n ms (λ l. f l || g l)
 more_then n [] f g = refl
-more_then n (b ∷ bs) f g = ap (λ c. c ∷ more (n + 1) (more (n + 1) bs f) g) (or_then b (f n) (g n)) ∙ ap (λ t. (b || (f n || g n)) ∷ t) (more_then (n + 1) bs f g)
+more_then n (b ∷ bs) f g = ap (λ c. c ∷ more (n + 1) (more (n + 1) bs f) g) (or_assoc b (f n) (g n)) ∙ ap (λ t. (b || (f n || g n)) ∷ t) (more_then (n + 1) bs f g)
 
 -- none more, where no label from n on is asked for
 more_none : (n : ℕ) (ms : List Bool) (f : ℕ → Bool) → ((l : ℕ) → n ≤ l → f l ≡ false) → more n ms f ≡ ms

@@ -1,5 +1,6 @@
 -- Sections that give to the next, one after another from the front.
 use Rattle.std.proofs.Common.{◌≡◌, ℕ, zero, suc, ◌+◌, Option, Some, None, MatchOption, arith, Bool, true, false, not, ◌&&◌, ◌||◌, cond, List, [], ◌∷◌, ◌++◌, length, get_or, refl, sym, ap, ◌∙◌, append_assoc, append-nil, map}
+use Rattle.std.proofs.Math.Bool.{or_assoc}
 use Rattle.c_tree.specs.declared.tree.Expression.{Expression}
 use Rattle.c_tree.specs.declared.tree.Item.{Item}
 use Rattle.c_tree.specs.declared.tree.Section.{Section, out-Section, roll-Section}
@@ -43,10 +44,6 @@ ended_without cases default list left ends h e =
 abbrev pub gives : Section → Bool
 gives c = is_empty (out-Section c).list && not (out-Section c).ends
 
-or_then : (a b c : Bool) → ((a || b) || c) ≡ (a || (b || c))
-or_then true b c = refl
-or_then false b c = refl
-
 -- entries before entries before a section
 entries_twice : (c d e : Section) → with_entries (out-Section (with_entries (out-Section c) d)) e ≡ with_entries (out-Section c) (with_entries (out-Section d) e)
 entries_twice c d e =
@@ -54,7 +51,7 @@ entries_twice c d e =
     let y = out-Section d in
     let z = out-Section e in
     ap (λ cs. roll-Section (record { cases = cs; default = (x.default || y.default) || z.default; list = z.list; ends = z.ends })) (append_assoc x.cases y.cases z.cases)
-    ∙ ap (λ b. roll-Section (record { cases = x.cases ++ (y.cases ++ z.cases); default = b; list = z.list; ends = z.ends })) (or_then x.default y.default z.default)
+    ∙ ap (λ b. roll-Section (record { cases = x.cases ++ (y.cases ++ z.cases); default = b; list = z.list; ends = z.ends })) (or_assoc x.default y.default z.default)
 
 give_by : (b : Bool) (c d : Section) (ds : List Section) → gives c ≡ b → give_to c (d ∷ ds) ≡ cond b (with_entries (out-Section c) d ∷ ds) (c ∷ d ∷ ds)
 give_by b c d ds e = ap (λ z. cond z (with_entries (out-Section c) d ∷ ds) (c ∷ d ∷ ds)) e
