@@ -41,3 +41,5 @@ pub mod Compared
 pub mod ItemCases
 pub mod Counted
 pub mod Limited
+pub mod Longest
+pub mod Untangled
