@@ -225,7 +225,7 @@ module _ (file : File) (ts : List Top) (known : (slots : List Slot) → IsDefine
   abbrev pub TopHolds : Top → Type 0
   TopHolds (T.Enum xs) = HaveValues ts (negsuc 0) xs
   TopHolds (T.Global g) = IsGlobal ts g (option_map expression_trees g.init)
-  TopHolds (T.Function f) = Resolves ts f
+  TopHolds (T.Function f) = Resolves file.flat ts f
   TopHolds _ = Unit {0}
 
   abbrev pub Hold : List Top → Type 0

@@ -3,6 +3,7 @@ use Rattle.std.proofs.Common.{ℕ, suc, ◌+◌, ◌-◌, ◌≤◌, ◌<◌, Bo
 use Rattle.std.specs.Prelude.{IfSome}
 use Rattle.std.proofs.lemmas.List.{append-nil, length-map}
 use Rattle.c_tree.specs.declared.tree.Slot.{Slot}
+use Rattle.c_tree.specs.declared.tree.Item as item
 use Rattle.c_tree.specs.declared.tree.Function as tree
 use Rattle.c_tree.specs.declared.tree.Home.TheVariants as H
 use Rattle.c_tree.specs.declared.tree.Top.{Top}
@@ -24,6 +25,7 @@ use Rattle.c_statements.specs.Statements.{list_items, item_items, behind_item, b
 use Rattle.c_resolved.specs.Files.{IsLength, IsParameterLength, AreLengths}
 use Rattle.c_resolved.specs.Form.{gathered, declared_slot, marked_label, numbers_from, HasSourceForm, HasForm}
 use Rattle.c_resolved.specs.Kinds.{ItemAgrees, KeepsConsts, ReturnFits}
+use Rattle.c_resolved.specs.Limits.{IsWithinLimits}
 use Rattle.c_resolved.specs.Names.{Names}
 use Rattle.c_resolved.specs.PrintableExpressions.{IsName}
 use Rattle.c_resolved.specs.Resolved.{names_in, HasLengths, IsInitialised}
@@ -50,6 +52,8 @@ use Rattle.resolving_core.proofs.ItemReturns.{Anywhere, AnyConstant, returns_clo
 use Rattle.resolving_core.proofs.Known.{HasShape, IsKnown, Knows}
 use Rattle.resolving_core.proofs.Lists.{clean_if, is_some_and}
 use Rattle.resolving_core.proofs.Parts.{local_parts}
+use Rattle.resolving_core.specs.Counts.{IsFewBody}
+use Rattle.resolving_core.proofs.Untangled.{within_limits}
 use Rattle.resolving_core.specs.Read.{IsReadDeclarator, IsReadBody, IsReadParameter, IsReadFunction}
 use Rattle.resolving_core.proofs.Walk.{Begins, Closed, Holds, hold_both}
 use Rattle.resolving_core.proofs.Walked.{list_holds, item_holds, notes_hold}
@@ -149,8 +153,13 @@ lengths_of : (ss : List Slot) → Each IsFine ss → AreLengths IsLength ss
 lengths_of [] h = tt
 lengths_of (s ∷ ss) h = (h.0.length, lengths_of ss h.1)
 
+-- the counts of a body, where there is one
+abbrev flat_of : FlatCounts → Option (List item.Item) → Option (ℕ × ℕ)
+flat_of flat None = None
+flat_of flat (Some xs) = flat xs
+
 -- what is proved of a function
-pub record Resolves (ts : List Top) (t : tree.Function) : Type 0 where
+pub record Resolves (flat : FlatCounts) (ts : List Top) (t : tree.Function) : Type 0 where
   pub kinds : Everywhere (ItemAgrees (names_in ts t)) (body_of t)
   pub consts : Everywhere (KeepsConsts (names_in ts t)) (body_of t)
   pub returns : Everywhere (ReturnFits t.result) (body_of t)
@@ -159,6 +168,7 @@ pub record Resolves (ts : List Top) (t : tree.Function) : Type 0 where
   pub form : HasForm t
   pub labels : AllDiffer t.labels
   pub cases : Everywhere HasCases (body_of t)
+  pub untangled : (xs : List item.Item) → t.body ≡ Some xs → (n : ℕ × ℕ) → flat xs ≡ Some n → IsWithinLimits t n
 
 -- ---- slots, labels and exits
 
@@ -197,8 +207,8 @@ module _ (flat : FlatCounts) (word : ℕ → List ℕ) (notes : Anchor → List 
   abbrev pub KnownOutside : Type 0
   KnownOutside = (slots : List Slot) → (ss : List Scopes.Scope) × Knows (record { tops = ts; slots = slots }) ss (record { word = word; scopes = scopes })
 
-  resolves_by : (o : Option Body) → IfSome o (IsReadBody word notes) → BodyParts flat word notes f o scopes → KnownOutside → Resolves ts (defined word notes f o scopes)
-  resolves_by None r p k =
+  resolves_by : (o : Option Body) → IfSome o (IsReadBody word notes) → IfSome o (IsFewBody word f.counted) → BodyParts flat word notes f o scopes → KnownOutside → Resolves flat ts (defined word notes f o scopes)
+  resolves_by None r few p k =
       let b = behind_parameters flat word notes f scopes None r p in
       let slots = (inside word f scopes).slots in
       let same = ap length (inside_slots word f scopes) ∙ length-map f.parameters (parameter_slot word) in
@@ -209,6 +219,7 @@ module _ (flat : FlatCounts) (word : ℕ → List ℕ) (notes : Anchor → List 
         initialised = tt;
         labels = tt;
         cases = tt;
+        untangled = λ xs e n h. absurd (true≢false (sym (ap is_some e)));
         form = record {
           unflat = refl;
           parameters = begins_long (map (parameter_slot word) f.parameters) [] slots (length f.parameters) (inside_slots word f scopes ∙ sym (append-nil (map (parameter_slot word) f.parameters))) (length-map f.parameters (parameter_slot word));
@@ -224,7 +235,7 @@ module _ (flat : FlatCounts) (word : ℕ → List ℕ) (notes : Anchor → List 
           others = subst (AreLengths IsLength) (sym (ap (drop (length f.parameters)) (inside_slots word f scopes ∙ sym (append-nil (map (parameter_slot word) f.parameters))) ∙ drop_all (parameter_slot word) f.parameters [])) tt;
         };
       }
-  resolves_by (Some b) r p k =
+  resolves_by (Some b) r few p k =
       let ctx = context word notes f b in
       let w = inside word f scopes in
       let slots = (behind_body ctx b w).slots in
@@ -256,6 +267,7 @@ module _ (flat : FlatCounts) (word : ℕ → List ℕ) (notes : Anchor → List 
           exits = λ i. x.breaking refl i + x.continuing refl i;
         };
         labels = subst AllDiffer (sym ls.names) ls.differ;
+        untangled = λ xs e k h. within_limits word notes f b scopes k few (p.tangle k (ap (flat_of flat) e ∙ h)) ls.names;
         cases = body_holds ctx slots (KnownAt ctx n) HasCases AnyConstant (cases_closed ctx n) b w r p.body i all;
         lengths = record {
           parameters = subst (AreLengths IsParameterLength) (sym (ap (take (length f.parameters)) q ∙ take_all (parameter_slot word) f.parameters g.more)) (parameter_lengths word f.parameters);
@@ -263,8 +275,8 @@ module _ (flat : FlatCounts) (word : ℕ → List ℕ) (notes : Anchor → List 
         };
       }
 
-  pub resolves : IsReadFunction word notes f → BodyParts flat word notes f f.body scopes → KnownOutside → Resolves ts (function_of word notes f scopes)
-  resolves r p k = resolves_by f.body r.body p k
+  pub resolves : IsReadFunction word notes f → BodyParts flat word notes f f.body scopes → KnownOutside → Resolves flat ts (function_of word notes f scopes)
+  resolves r p k = resolves_by f.body r.body r.few p k
 
 -- ---- the names of a function
 

@@ -18,7 +18,14 @@ use Rattle.c_scopes.specs.Resolving.{earlier, least, file_at, program_of, violat
 use Rattle.c_resolved.specs.Files.{MainIsFormed, DeclarationsAgree}
 use Rattle.c_resolved.specs.Scopes.{NamesAreBound}
 use Rattle.c_resolved.specs.Within.{Each}
-use Rattle.resolving_core.specs.Laws.{Gives, OfFunction, HasConstants, ResolvingLaws}
+use Rattle.resolving_core.specs.Laws.{GivesWith, Gives, OfFunction, HasConstants, AreCounts, ResolvingLaws}
+use Rattle.c_statements.specs.Functions.{FlatCounts}
+use Rattle.c_resolved.specs.Limits as Limits
+use Rattle.c_resolved.specs.Limits.{IsWithinLimits, IsUntangled}
+use Rattle.c_tree.specs.declared.tree.Item.{Item}
+use Rattle.c_tree.specs.Trees.{Nil, trees_of}
+use Rattle.std.specs.Prelude.{IfSome}
+use Rattle.std.specs.Option.{option_map_or}
 use Rattle.resolving_core.specs.Read.{IsReadFile}
 use Rattle.resolving_core.proofs.Bodies.{file_bodies}
 use Rattle.resolving_core.proofs.Declarations.{file_once, settled, declarations_agree}
@@ -75,12 +82,12 @@ module _ (file : File) (xs : List tops.Top) (bodies : (m : List ℕ) → defined
 -- ---- each law
 
 -- what is proved of the program that is answered
-pub record Answered (p : Program) : Type 0 where
+pub record Answered (flat : FlatCounts) (p : Program) : Type 0 where
   pub main : Each MainIsFormed p.tops
   pub declarations : DeclarationsAgree p.tops
   pub constants : Each (HasConstants p.tops) p.tops
   pub bound : NamesAreBound p.tops
-  pub functions : Each (OfFunction (Resolves p.tops)) p.tops
+  pub functions : Each (OfFunction (Resolves flat p.tops)) p.tops
 
 module _ (file : File) (ts : List Top) (known : (slots : List Slot) → IsDefined (defined file) ts slots) where
   one_constant : (t : Top) → TopHolds file ts known t → HasConstants ts t
@@ -90,14 +97,14 @@ module _ (file : File) (ts : List Top) (known : (slots : List Slot) → IsDefine
   one_constant (T.Include bs) h = tt
   one_constant (T.Note bs) h = tt
 
-  one_function : (t : Top) → TopHolds file ts known t → OfFunction (Resolves ts) t
+  one_function : (t : Top) → TopHolds file ts known t → OfFunction (Resolves file.flat ts) t
   one_function (T.Function f) h = h
   one_function (T.Enum es) h = tt
   one_function (T.Global g) h = tt
   one_function (T.Include bs) h = tt
   one_function (T.Note bs) h = tt
 
-file_answered : (file : File) (xs : List tops.Top) → ((m : List ℕ) → defined file m ≡ has_function (bodies_of file.word xs) m) → IsReadFile file.word file.notes xs → file_faults file xs start [] ≡ [] → Answered (program_of file xs)
+file_answered : (file : File) (xs : List tops.Top) → ((m : List ℕ) → defined file m ≡ has_function (bodies_of file.word xs) m) → IsReadFile file.word file.notes xs → file_faults file xs start [] ≡ [] → Answered file.flat (program_of file xs)
 file_answered file xs bodies r e =
     let ts = tops_of file xs start in
     let k = known file xs bodies r e in
@@ -107,16 +114,16 @@ file_answered file xs bodies r e =
       bound = h.1;
       declarations = declared file xs bodies r e;
       constants = each_map (TopHolds file ts k) (HasConstants ts) (one_constant file ts k) ts h.0.0;
-      functions = each_map (TopHolds file ts k) (OfFunction (Resolves ts)) (one_function file ts k) ts h.0.0;
+      functions = each_map (TopHolds file ts k) (OfFunction (Resolves file.flat ts)) (one_function file ts k) ts h.0.0;
     }
 
-pub all_answered : Gives Answered
+pub all_answered : (flat : FlatCounts) → GivesWith flat (Answered flat)
 all_answered flat text tokens comments x p r e =
     let word = word_of text tokens in
     let xs = file_of word x in
     let file = file_at flat text tokens comments xs in
     let a = answered text tokens (program_of file xs) p (violation_of file xs) e in
-    subst Answered a.1 (file_answered file xs (λ m. refl) r (none_reported (file_faults file xs start []) a.0))
+    subst (Answered flat) a.1 (file_answered file xs (λ m. refl) r (none_reported (file_faults file xs start []) a.0))
 
 of_map : (P Q : Function → Type 0) → ((f : Function) → P f → Q f) → (t : Top) → OfFunction P t → OfFunction Q t
 of_map P Q g (T.Function f) h = g f h
@@ -125,9 +132,21 @@ of_map P Q g (T.Global v) h = tt
 of_map P Q g (T.Include bs) h = tt
 of_map P Q g (T.Note bs) h = tt
 
-each_function : (P : List Top → Function → Type 0) → ((ts : List Top) (f : Function) → Resolves ts f → P ts f) → Gives (λ p. Each (OfFunction (P p.tops)) p.tops)
+each_function : (P : List Top → Function → Type 0) → ((flat : FlatCounts) (ts : List Top) (f : Function) → Resolves flat ts f → P ts f) → Gives (λ p. Each (OfFunction (P p.tops)) p.tops)
 each_function P g flat text tokens comments x p r e =
-    each_map (OfFunction (Resolves p.tops)) (OfFunction (P p.tops)) (of_map (Resolves p.tops) (P p.tops) (g p.tops)) p.tops (all_answered flat text tokens comments x p r e).functions
+    each_map (OfFunction (Resolves flat p.tops)) (OfFunction (P p.tops)) (of_map (Resolves flat p.tops) (P p.tops) (g flat p.tops)) p.tops (all_answered flat text tokens comments x p r e).functions
+
+-- the measures of a function, by those of its flat form
+is_untangled : (counts : Limits.FlatCounts) (flat : FlatCounts) → AreCounts flat counts → (ts : List Top) (f : Function) → Resolves flat ts f → IsUntangled counts f
+is_untangled counts flat c ts f r = by f.body refl
+  where
+    by : (o : Option (List Item)) → f.body ≡ o → IfSome (counts (option_map_or trees_of o Nil)) (IsWithinLimits f)
+    by None e = subst (λ o. IfSome o (IsWithinLimits f)) (sym c.none) tt
+    by (Some xs) e = each (flat xs) refl (c.same xs)
+      where
+        each : (o : Option (ℕ × ℕ)) → flat xs ≡ o → flat xs ≡ counts (trees_of xs) → IfSome (counts (trees_of xs)) (IsWithinLimits f)
+        each None i j = subst (λ o. IfSome o (IsWithinLimits f)) (sym i ∙ j) tt
+        each (Some n) i j = subst (λ o. IfSome o (IsWithinLimits f)) (sym i ∙ j) (r.untangled xs e n i)
 
 pub resolving_laws : ResolvingLaws
 resolving_laws = record {
@@ -135,12 +154,14 @@ resolving_laws = record {
   declarations = λ flat text tokens comments x p r e. (all_answered flat text tokens comments x p r e).declarations;
   bound = λ flat text tokens comments x p r e. (all_answered flat text tokens comments x p r e).bound;
   constants = λ flat text tokens comments x p r e. (all_answered flat text tokens comments x p r e).constants;
-  kinds = each_function _ (λ ts f h. h.kinds);
-  consts = each_function _ (λ ts f h. h.consts);
-  returns = each_function _ (λ ts f h. h.returns);
-  lengths = each_function _ (λ ts f h. h.lengths);
-  initialised = each_function _ (λ ts f h. h.initialised);
-  form = each_function _ (λ ts f h. h.form);
-  cases = each_function _ (λ ts f h. h.cases);
-  labels = each_function _ (λ ts f h. h.labels);
+  kinds = each_function _ (λ flat ts f h. h.kinds);
+  consts = each_function _ (λ flat ts f h. h.consts);
+  returns = each_function _ (λ flat ts f h. h.returns);
+  lengths = each_function _ (λ flat ts f h. h.lengths);
+  initialised = each_function _ (λ flat ts f h. h.initialised);
+  form = each_function _ (λ flat ts f h. h.form);
+  cases = each_function _ (λ flat ts f h. h.cases);
+  labels = each_function _ (λ flat ts f h. h.labels);
+  untangled = λ counts flat c text tokens comments x p r e.
+      each_map (OfFunction (Resolves flat p.tops)) (OfFunction (IsUntangled counts)) (of_map (Resolves flat p.tops) (IsUntangled counts) (is_untangled counts flat c p.tops)) p.tops (all_answered flat text tokens comments x p r e).functions;
 }

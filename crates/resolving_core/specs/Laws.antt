@@ -1,5 +1,5 @@
 -- What the functions of this crate state: the program that resolving answers is a resolved program.
-use Rattle.std.specs.Prelude.{ℕ, ◌≡◌, negsuc, List, Ok, option_map}
+use Rattle.std.specs.Prelude.{ℕ, ◌≡◌, negsuc, List, Ok, option_map, None}
 use Rattle.c_lexer.specs.declared.token.Token.{Token}
 use Rattle.c_lexer.specs.declared.token.Span.{Span}
 use Rattle.c_grammar.specs.declared.syntax.Syntax.{Syntax}
@@ -7,7 +7,8 @@ use Rattle.c_tree.specs.declared.tree.Function.{Function}
 use Rattle.c_tree.specs.declared.tree.Top.{Top}
 use Rattle.c_tree.specs.declared.tree.Top.TheVariants as T
 use Rattle.c_tree.specs.declared.tree.Program.{Program}
-use Rattle.c_tree.specs.Trees.{expression_trees}
+use Rattle.c_tree.specs.declared.tree.Item.{Item}
+use Rattle.c_tree.specs.Trees.{Nil, expression_trees, trees_of}
 use Rattle.c_tree.specs.Everywhere.{Everywhere}
 use Rattle.c_tree.specs.InRange.{body_of}
 use Rattle.c_source.specs.Words.{word_of}
@@ -17,6 +18,8 @@ use Rattle.c_scopes.specs.Notes.{notes_of}
 use Rattle.c_scopes.specs.Resolving.{resolved}
 use Rattle.c_resolved.specs.Files.{HaveValues, IsGlobal, DeclarationsAgree, MainIsFormed}
 use Rattle.c_resolved.specs.Form.{HasForm}
+use Rattle.c_resolved.specs.Limits as Limits
+use Rattle.c_resolved.specs.Limits.{IsUntangled}
 use Rattle.c_resolved.specs.Kinds.{ItemAgrees, KeepsConsts, ReturnFits}
 use Rattle.c_resolved.specs.Resolved.{names_in, HasLengths, IsInitialised}
 use Rattle.c_resolved.specs.Scopes.{NamesAreBound}
@@ -24,11 +27,15 @@ use Rattle.c_resolved.specs.Switches.{HasCases}
 use Rattle.c_resolved.specs.Within.{Each, AllDiffer}
 use Rattle.resolving_core.specs.Read.{IsReadFile}
 
--- what holds of each program that resolving answers, where the source trees of the syntax are those of a derivation
+-- what holds of each program that resolving answers with these counts, where the source trees of the syntax are those
+-- of a derivation
+abbrev pub GivesWith : FlatCounts → (Program → Type 0) → Type 0
+GivesWith flat P =
+    (text : List ℕ) (tokens : List Token) (comments : List Span) (x : Syntax) (p : Program) →
+    let word = word_of text tokens in let xs = file_of word x in IsReadFile word (notes_of text tokens comments xs) xs → resolved flat text tokens comments x ≡ Ok p → P p
+
 abbrev pub Gives : (Program → Type 0) → Type 0
-Gives P =
-    (flat : FlatCounts) (text : List ℕ) (tokens : List Token) (comments : List Span) (x : Syntax) (p : Program)
-    → let word = word_of text tokens in let xs = file_of word x in IsReadFile word (notes_of text tokens comments xs) xs → resolved flat text tokens comments x ≡ Ok p → P p
+Gives P = (flat : FlatCounts) → GivesWith flat P
 
 -- a fact of each function
 abbrev pub OfFunction : (Function → Type 0) → Top → Type 0
@@ -43,6 +50,11 @@ abbrev pub HasConstants : List Top → Top → Type 0
 HasConstants ts (T.Enum xs) = HaveValues ts (negsuc 0) xs
 HasConstants ts (T.Global g) = IsGlobal ts g (option_map expression_trees g.init)
 HasConstants ts _ = Unit {0}
+
+-- the numbers of gotos and labels of flat forms, of items and of their trees; an empty body has no jumps
+pub record AreCounts (flat : FlatCounts) (counts : Limits.FlatCounts) : Type 0 where
+  pub same : (xs : List Item) → flat xs ≡ counts (trees_of xs)
+  pub none : counts Nil ≡ None
 
 pub record ResolvingLaws : Type 0 where
   -- nothing is called `main` but `int main(void)`, and the declarations of each function agree
@@ -67,3 +79,5 @@ pub record ResolvingLaws : Type 0 where
   pub cases : Gives (λ p. Functions (λ ts f. Everywhere HasCases (body_of f)) p)
   -- the labels of a function differ
   pub labels : Gives (λ p. Functions (λ ts f. AllDiffer f.labels) p)
+  -- a function with jumps is not too tangled
+  pub untangled : (counts : Limits.FlatCounts) (flat : FlatCounts) → AreCounts flat counts → GivesWith flat (λ p. Functions (λ ts f. IsUntangled counts f) p)

@@ -1,3 +1,3 @@
-pub mod Read
 pub mod Counts
+pub mod Read
 pub mod Laws

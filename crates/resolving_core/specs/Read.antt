@@ -12,6 +12,7 @@ use Rattle.c_kinds.specs.Marks.{step_of}
 use Rattle.c_statements.specs.Context.{Anchor, Before}
 use Rattle.c_resolved.specs.PrintableExpressions.{IsName}
 use Rattle.c_resolved.specs.Within.{Each}
+use Rattle.resolving_core.specs.Counts.{IsFewBody}
 
 -- a variable or a cell
 abbrev pub IsTargetForm : Form → Type 0
@@ -176,6 +177,8 @@ module _ (word : ℕ → List ℕ) (notes : Anchor → List (List ℕ)) where
     pub named : IsNameAt word f.name
     pub parameters : Each (IsReadParameter word) f.parameters
     pub body : IfSome f.body IsReadBody
+    -- the count of the function is that of its longest full expression
+    pub few : IfSome f.body (IsFewBody word f.counted)
 
   abbrev pub IsReadTopForm : tops.Form → Type 0
   IsReadTopForm Line = Unit {0}
