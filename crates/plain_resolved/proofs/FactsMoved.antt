@@ -110,7 +110,7 @@ module _ (V O C : ExpressionTree → Type 0) (R : Option ExpressionTree → Type
   abbrev H : Tree → Type 0
   H x = ItemHas V O C R N x
 
-  declarations_have : V (number Int (pos 0)) → (base end : ℕ) (a : Forest) → AreDeclarations base end a → Everywhere H a
+  pub declarations_have : V (number Int (pos 0)) → (base end : ℕ) (a : Forest) → AreDeclarations base end a → Everywhere H a
   declarations_have z base end Nil none = tt
   declarations_have z base end (Then x a) (one_more (variable y) r) = (tt, declarations_have z base end a r)
   declarations_have z base end (Then x a) (one_more (guarding y i j) r) = ((z, tt), declarations_have z base end a r)

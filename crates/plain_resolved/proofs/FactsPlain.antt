@@ -23,7 +23,7 @@ use Rattle.plain_resolved.proofs.Facts.{ItemHas}
 
 -- ---- cases stay, in their order
 
-plain_cases : (slot : ℕ → ℕ) (c : Sections) → all_cases (plain_sections slot c) ≡ all_cases c
+pub plain_cases : (slot : ℕ → ℕ) (c : Sections) → all_cases (plain_sections slot c) ≡ all_cases c
 plain_cases slot NoSection = refl
 plain_cases slot (Section cases default a ends c) = ap (λ es. cases ++ es) (plain_cases slot c)
 

@@ -11,16 +11,15 @@ use Rattle.c_tree.specs.InRange.{body_of}
 use Rattle.flat_core.specs.Unlabelled.{unlabelled}
 use Rattle.whole_core.proofs.Source.{source_function}
 use Rattle.c_resolved.specs.Within.{Each, AllDiffer}
-use Rattle.c_resolved.specs.Limits.{FlatCounts}
 use Rattle.c_resolved.specs.PrintableExpressions.{IsName}
 use Rattle.c_resolved.specs.PrintableStatements.{most, depth}
 use Rattle.c_resolved.specs.PrintablePrograms.{ParametersPrint}
-use Rattle.c_resolved.specs.Resolved.{IsResolvedFunction, IsResolvedTop, IsResolvedWith}
+use Rattle.c_resolved.specs.Resolved.{IsResolvedFunction, IsResolvedTop}
 use Rattle.c_resolved.specs.Spelling.{AreSpelled, BodyIsSpelled, HasName, FunctionIsSpelled, TopIsSpelled}
-use Rattle.resolved_core.specs.Counts.{flat_counts}
+use Rattle.resolved_core.specs.Counts.{flat_counts, IsResolved}
 use Rattle.plain_resolved.specs.Names.{HasOwnNames}
-use Rattle.plain_resolved.specs.Limits.{IsWithin}
 use Rattle.plain_resolved.proofs.FactsMoved.{left_trees}
+use Rattle.plain_resolved.proofs.Measured.{within_counts}
 use Rattle.plain_resolved.proofs.MovedSpelled.{moved_items}
 use Rattle.plain_resolved.proofs.PlainForms.{left_plain}
 use Rattle.plain_resolved.proofs.PlainTops.{IsMovedForm, IsUnmovedForm, PlainTop, pt_moved, pt_unmoved, pt_declared, pt_other, PlainTops, pt_none, pt_more}
@@ -54,31 +53,31 @@ function_spelled f h d ls s items shallow = record {
   body = body_spelled h h.body refl items shallow;
 }
 
-module _ (counts : FlatCounts) (p : Program) (r : IsResolvedWith counts p) (Own : Function → Type 0) (own : (h : Function) → Own h → HasOwnNames p.tops h × IsWithin h) (us : List Top) where
-  moved_spelled : (f h : Function) (m : IsMovedForm f h) → Own h → IsResolvedFunction counts p.tops f → IsResolvedFunction flat_counts us h → FunctionIsSpelled f → FunctionIsSpelled h
+module _ (p : Program) (r : IsResolved p) (Own : Function → Type 0) (own : (h : Function) → Own h → HasOwnNames p.tops h × (1 + depth (body_of h) ≤ most)) (us : List Top) where
+  moved_spelled : (f h : Function) (m : IsMovedForm f h) → Own h → IsResolvedFunction flat_counts p.tops f → IsResolvedFunction flat_counts us h → FunctionIsSpelled f → FunctionIsSpelled h
   moved_spelled f h m o g k s =
       let params = g.form.parameters in
       let n = own h o in
-      let items = moved_items f h m params p.tops n.0 flat_counts us k counts p.tops g (spelled_body f f.body refl s.body).0 n.1 in
-      function_spelled f h (moved_declared f h m params) (ap (λ (j : Function). j.labels) m.plain) s items n.1.shallow
+      let items = moved_items f h m params p.tops n.0 flat_counts us k flat_counts p.tops g (spelled_body f f.body refl s.body).0 (within_counts p.tops f h g m) in
+      function_spelled f h (moved_declared f h m params) (ap (λ (j : Function). j.labels) m.plain) s items n.1
 
-  unmoved_spelled : (f h : Function) (m : IsUnmovedForm f h) → IsResolvedFunction counts p.tops f → FunctionIsSpelled f → FunctionIsSpelled h
+  unmoved_spelled : (f h : Function) (m : IsUnmovedForm f h) → IsResolvedFunction flat_counts p.tops f → FunctionIsSpelled f → FunctionIsSpelled h
   unmoved_spelled f h m g s =
       let b = spelled_body f f.body refl s.body in
       let e = left_trees f h m in
-      let plain = tidy_plain (unlabelled (body_of f)) (left_plain f h m (source_function counts p r f g) g.form) in
+      let plain = tidy_plain (unlabelled (body_of f)) (left_plain f h m (source_function flat_counts p r f g) g.form) in
       let d = depth_unmoved (body_of f) in
       let shallow = b.1 in
       function_spelled f h (unmoved_declared f h m) (ap (λ (j : Function). j.labels) m.plain ∙ m.is_left.labels) s
       (subst (AreSpelled h) (sym e) (spelled_unmoved f h (unmoved_slots f h m) (body_of f) plain b.0))
       (subst (λ a. 1 + depth a ≤ most) (sym e) (omega (arith, d, shallow)))
 
-  top_spelled : {t u : Top} → PlainTop Own t u → IsResolvedTop counts p.tops t → IsResolvedTop flat_counts us u → TopIsSpelled t → TopIsSpelled u
+  top_spelled : {t u : Top} → PlainTop Own t u → IsResolvedTop flat_counts p.tops t → IsResolvedTop flat_counts us u → TopIsSpelled t → TopIsSpelled u
   top_spelled (pt_moved {f = f} {h = h} m o) g k s = moved_spelled f h m o g k s
   top_spelled (pt_unmoved {f = f} {h = h} m) g k s = unmoved_spelled f h m g s
   top_spelled (pt_declared f e) g k s = s
   top_spelled (pt_other t n) g k s = s
 
-  pub tops_spelled : {ts vs : List Top} → PlainTops Own ts vs → Each (IsResolvedTop counts p.tops) ts → Each (IsResolvedTop flat_counts us) vs → Each TopIsSpelled ts → Each TopIsSpelled vs
+  pub tops_spelled : {ts vs : List Top} → PlainTops Own ts vs → Each (IsResolvedTop flat_counts p.tops) ts → Each (IsResolvedTop flat_counts us) vs → Each TopIsSpelled ts → Each TopIsSpelled vs
   tops_spelled pt_none g k s = tt
   tops_spelled (pt_more t w) g k s = (top_spelled t g.0 k.0 s.0, tops_spelled w g.1 k.1 s.1)

@@ -27,3 +27,9 @@ pub mod MovedSpelled
 pub mod UnmovedSpelled
 pub mod FileSpelled
 pub mod Resolved
+pub mod Wrappers
+pub mod Simple
+pub mod FewCounted
+pub mod SameCounts
+pub mod JumpsKept
+pub mod Measured

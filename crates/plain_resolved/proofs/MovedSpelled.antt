@@ -43,16 +43,15 @@ use Rattle.plain_core.proofs.Statements.{promoted_twice}
 use Rattle.whole_core.specs.Rewritten.{plan_of, setting}
 use Rattle.whole_core.proofs.Unlabelled.{IsPlainItem}
 use Rattle.c_resolved.specs.Files.{IsLength, AreLengths, AreInitialisers}
-use Rattle.c_resolved.specs.Limits.{FlatCounts}
+use Rattle.c_resolved.specs.Limits.{FlatCounts, most_counted}
 use Rattle.c_resolved.specs.PrintableExpressions.{IsName, Prints}
-use Rattle.c_resolved.specs.PrintableStatements.{FullPrints, LengthPrints, ValuesPrint, SlotPrints}
+use Rattle.c_resolved.specs.PrintableStatements.{most, FullPrints, LengthPrints, ValuesPrint, SlotPrints}
 use Rattle.c_resolved.specs.Resolved.{IsInitialised, IsResolvedFunction}
 use Rattle.c_resolved.specs.Spelling.{AreSpelled}
 use Rattle.resolved_core.proofs.Ranged.{function_ranged}
 use Rattle.resolved_core.proofs.SourceGiven.{Declared, function_declared}
 use Rattle.c_resolved.specs.Verbatims.{IsComment}
 use Rattle.plain_resolved.specs.Names.{HasOwnNames}
-use Rattle.plain_resolved.specs.Limits.{IsWithin}
 use Rattle.plain_resolved.proofs.FactsFlat.{Tests}
 use Rattle.plain_resolved.proofs.FactsMoved.{labels_of, slot_of, reached_of, Left, Source, plain_trees, facts_of_plain}
 use Rattle.plain_resolved.proofs.FactsPlain.{GuardFacts}
@@ -377,5 +376,5 @@ module _ (f h : Function) (m : IsMovedForm f h) (params : f.params ≤ length f.
         everywhere_both (HasText h) (λ x. IsPlainItem x × (NilFirst x × OfLocals (Printed h) x)) a (text_there counts' ts' r s)
         (everywhere_both IsPlainItem (λ x. NilFirst x × OfLocals (Printed h) x) a plain (everywhere_both NilFirst (OfLocals (Printed h)) a (everywhere_map Simple NilFirst (λ x i. i.0) a simple) locals))
 
-    pub moved_items : (counts' : FlatCounts) (ts' : List Top) → IsResolvedFunction counts' ts' f → AreSpelled f (body_of f) → IsWithin h → AreSpelled h (body_of h)
-    moved_items counts' ts' r s w = spelled_list h (body_of h) (ready counts' ts' r s) w.few
+    pub moved_items : (counts' : FlatCounts) (ts' : List Top) → IsResolvedFunction counts' ts' f → AreSpelled f (body_of f) → most_counted (body_of h) ≤ most → AreSpelled h (body_of h)
+    moved_items counts' ts' r s w = spelled_list h (body_of h) (ready counts' ts' r s) w

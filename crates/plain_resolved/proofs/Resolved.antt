@@ -10,6 +10,7 @@ use Rattle.jump_meaning.specs.Code.{code_of}
 use Rattle.plain_core.specs.Laws.{IsTopReady}
 use Rattle.plain_core.specs.Plain.{plain_top}
 use Rattle.plain_core.proofs.TheLaws.{plain_laws}
+use Rattle.resolved_core.specs.Counts.{flat_counts}
 use Rattle.whole_core.proofs.Whole.{resolved_ready}
 use Rattle.plain_resolved.specs.Laws.{IsOwn, IsTopOwn, PlainFormIsResolved}
 use Rattle.plain_resolved.proofs.FileBound.{names_bound}
@@ -31,17 +32,17 @@ own_tops ts names [] h = tt
 own_tops ts names (u ∷ us) h = (own_top ts names u h.0, own_tops ts names us h.1)
 
 pub plain_form_resolved : PlainFormIsResolved
-plain_form_resolved counts names p q ms r w named own =
+plain_form_resolved names p q ms r w named own =
     let Own = IsOwn p.tops in
     let us = map (plain_top names) q.tops in
-    let ready = resolved_ready counts names p q ms r w named in
+    let ready = resolved_ready flat_counts names p q ms r w named in
     let tops : PlainTops Own p.tops us = plain_tops Own (code_of q) names w.flattened w.moved (recursion_from_All (IsTopReady (code_of q) names) q.tops ready) (own_tops p.tops names q.tops (recursion_from_All (IsTopOwn p.tops names) q.tops own)) in
-    let same : SameFile p.tops us = same_file Own counts p.tops tops r.tops in
+    let same : SameFile p.tops us = same_file Own flat_counts p.tops tops r.tops in
     let range = recursion_from_All IsTopInRange us (plain_laws.ranged names q ready) in
-    let resolved = tops_resolved counts p r us same tops range r.tops in
+    let resolved = tops_resolved flat_counts p r us same tops range r.tops in
     record {
-      spelled = tops_spelled counts p r Own (λ h o. (o.names, o.within)) us tops r.tops resolved r.spelled;
-      bound = names_bound counts p Own (λ h o. o.names) tops r.tops r.bound;
+      spelled = tops_spelled p r Own (λ h o. (o.names, o.shallow)) us tops r.tops resolved r.spelled;
+      bound = names_bound flat_counts p Own (λ h o. o.names) tops r.tops r.bound;
       declarations = declarations_over same r.declarations;
       main = main_over same r.main;
       tops = resolved;

@@ -1,23 +1,22 @@
 -- What the function of this crate states.
-use Rattle.std.specs.Prelude.{ℕ, ◌≡◌, true, List, All}
+use Rattle.std.specs.Prelude.{ℕ, ◌≡◌, ◌≤◌, ◌+◌, true, List, All}
 use Rattle.c_tree.specs.declared.tree.Function.{Function}
 use Rattle.c_tree.specs.declared.tree.Top.{Top}
 use Rattle.c_tree.specs.declared.tree.Top.TheVariants as T
 use Rattle.c_tree.specs.declared.tree.Program.{Program}
+use Rattle.c_tree.specs.InRange.{body_of}
 use Rattle.plain_core.specs.Plain.{plain_function, plain_with}
-use Rattle.c_resolved.specs.Limits.{FlatCounts}
-use Rattle.c_resolved.specs.Resolved.{IsResolvedWith}
+use Rattle.c_resolved.specs.PrintableStatements.{most, depth}
 use Rattle.resolved_core.specs.Counts.{IsResolved}
 use Rattle.whole_core.specs.Rewritten.{Made, IsRewritten}
 use Rattle.whole_core.specs.Laws.{IsTopNamed}
 use Rattle.plain_resolved.specs.Names.{HasOwnNames}
-use Rattle.plain_resolved.specs.Limits.{IsWithin}
 
--- in the plain form of a flat function each variable has a name of its own, in the file with these tops, and its text is
--- within the limits
+-- in the plain form of a flat function each variable has a name of its own, in the file with these tops, and its statements
+-- don't nest too deeply
 pub record IsOwn (ts : List Top) (h : Function) : Type 0 where
   pub names : HasOwnNames ts h
-  pub within : IsWithin h
+  pub shallow : 1 + depth (body_of h) ≤ most
 
 abbrev pub IsTopOwn : List Top → (Function → List (List ℕ)) → Top → Type 0
 IsTopOwn ts names (T.Function g) = g.flat ≡ true → IsOwn ts (plain_function (names g) g)
@@ -26,5 +25,4 @@ IsTopOwn ts names _ = Unit {0}
 -- the plain form of what a resolved program is rewritten to is resolved
 abbrev pub PlainFormIsResolved : Type 0
 PlainFormIsResolved =
-    (counts : FlatCounts) (names : Function → List (List ℕ)) (p q : Program) (ms : List Made) → IsResolvedWith counts p → IsRewritten p q ms → All (IsTopNamed names) q.tops → All (IsTopOwn p.tops names) q.tops
-    → IsResolved (plain_with names q)
+    (names : Function → List (List ℕ)) (p q : Program) (ms : List Made) → IsResolved p → IsRewritten p q ms → All (IsTopNamed names) q.tops → All (IsTopOwn p.tops names) q.tops → IsResolved (plain_with names q)

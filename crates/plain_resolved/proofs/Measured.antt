@@ -1,0 +1,77 @@
+-- The plain form of a function with jumps of a resolved program has few counted tokens, since the function isn't too tangled.
+use Rattle.std.proofs.Common.{◌≡◌, ℕ, zero, suc, ◌≤◌, ◌<◌, Bool, true, false, cond, List, [], length, Some, None, sym, ap, ◌∙◌, arith}
+use Rattle.std.specs.Prelude.{IfSome}
+use Rattle.c_tree.specs.declared.tree.Slot.{Slot}
+use Rattle.c_tree.specs.declared.tree.Function.{Function}
+use Rattle.c_tree.specs.declared.tree.Top.{Top}
+use Rattle.c_tree.specs.Everywhere.{total, Everywhere}
+use Rattle.c_tree.specs.InRange.{body_of}
+use Rattle.c_tree.specs.Numerals.{constant}
+use Rattle.c_tree.specs.Slots.{ItemSlots}
+use Rattle.c_tree.specs.Trees.{Forest}
+use Rattle.loose_core.specs.Pieces.{Stays}
+use Rattle.loose_core.specs.Loose.{NoArrival}
+use Rattle.flat_core.specs.Parts.{is_some_number, has_jumps, jumps_of}
+use Rattle.flat_core.specs.FlatForm.{coded, numbered, first_here, flat, flat_body, marks}
+use Rattle.flat_made.specs.Laws.{IsGoodSource, label_count}
+use Rattle.flat_made.proofs.WellMade.{made_laws}
+use Rattle.whole_core.proofs.Flattened.{body_is}
+use Rattle.c_resolved.specs.Limits.{most_counted, IsWithinLimits}
+use Rattle.c_resolved.specs.PrintableStatements.{most}
+use Rattle.c_resolved.specs.Resolved.{IsResolvedFunction}
+use Rattle.resolved_core.specs.Counts.{counts_of, flat_counts}
+use Rattle.resolved_core.proofs.GoodSource.{good_source}
+use Rattle.resolved_core.proofs.Ranged.{function_ranged}
+use Rattle.plain_resolved.proofs.FewCounted.{moved_few}
+use Rattle.plain_resolved.proofs.JumpsKept.{marks_counted, jumps_kept, some_label}
+use Rattle.plain_resolved.proofs.PlainTops.{IsMovedForm}
+use Rattle.plain_resolved.proofs.SameCounts.{stays, no_arrival, weight, flat_same}
+
+-- the flat form by which a body is measured
+abbrev pub measured_form : Forest → Forest
+measured_form body = flat_body constant [] (length (marks body)) body
+
+-- as many gotos and labels as the flat form of a function with these slots and n labels
+pub same_weights : (gotos labels : ℕ) (slots : List Slot) (n : ℕ) (body : Forest)
+    → total (weight gotos labels) (flat (coded constant slots n body) (first_here (length slots)) Stays Stays NoArrival body) ≡ total (weight gotos labels) (measured_form body)
+same_weights gotos labels slots n body =
+    let p = coded constant slots n body in
+    let c = coded constant [] (length (marks body)) body in
+    let q = numbered (marks (flat c (first_here 0) Stays Stays NoArrival body)) c in
+    flat_same gotos labels p.live p.source q.source p.break_label q.break_label p.continue_label q.continue_label p.default_label q.default_label p.case_label q.case_label slots [] constant constant (first_here (length slots))
+    (first_here 0) body stays stays no_arrival
+
+pub same_labels : (slots : List Slot) (n : ℕ) (body : Forest) → label_count slots n body ≡ length (marks (measured_form body))
+same_labels slots n body =
+    let p = coded constant slots n body in
+    marks_counted (flat p (first_here (length slots)) Stays Stays NoArrival body) ∙ same_weights 0 1 slots n body ∙ sym (marks_counted (measured_form body))
+
+some_number : (n : ℕ) → is_some_number n ≡ true → 0 < n
+some_number zero e = cc
+some_number (suc n) e = omega arith
+
+pub has_label : (slots : List Slot) (n : ℕ) (body : Forest) → IsGoodSource n body → Everywhere (ItemSlots (λ x. x < length slots)) body → has_jumps body ≡ true → 0 < label_count slots n body
+has_label slots n body good ranged jumps =
+    let p = coded constant slots n body in
+    let q = numbered (marks (flat p (first_here (length slots)) Stays Stays NoArrival body)) p in
+    let kept = jumps_kept q (first_here (length slots)) Stays Stays NoArrival body in
+    let there = some_number (total jumps_of body) jumps in
+    some_label (label_count slots n body) (flat_body constant slots n body) (made_laws.ranges slots n body good ranged).labels (omega (arith, kept, there))
+
+with_jumps : (b : Bool) (n : ℕ × ℕ) (P : ℕ × ℕ → Type 0) → b ≡ true → IfSome (cond b (Some n) None) P → P n
+with_jumps true n P e h = h
+with_jumps false n P e h = cc
+
+module _ (ts : List Top) (f h : Function) (g : IsResolvedFunction flat_counts ts f) (m : IsMovedForm f h) where
+  pub limits : IsWithinLimits f (counts_of (measured_form (body_of f)))
+  limits = with_jumps (has_jumps (body_of f)) (counts_of (measured_form (body_of f))) (IsWithinLimits f) m.jumps g.untangled
+
+  labels_are : length m.flat_form.labels ≡ label_count f.slots (length f.labels) (body_of f)
+  labels_are = m.is_flat.labels ∙ ap (label_count f.slots (length f.labels)) (sym (body_is f m.is_flat.old m.is_flat.old_body))
+
+  pub within_counts : most_counted (body_of h) ≤ most
+  within_counts =
+      let some = has_label f.slots (length f.labels) (body_of f) (good_source flat_counts ts f g) (function_ranged flat_counts ts f g).slots m.jumps in
+      let same = same_labels f.slots (length f.labels) (body_of f) in
+      let counted = limits.counted in
+      moved_few f h m g.form.parameters g.form.items (omega (arith, some, labels_are)) (omega (arith, counted, same, labels_are))
