@@ -21,6 +21,7 @@ use Rattle.plain_resolved.specs.Names.{HasOwnNames}
 use Rattle.plain_resolved.proofs.FactsMoved.{left_trees}
 use Rattle.plain_resolved.proofs.Measured.{within_counts}
 use Rattle.plain_resolved.proofs.MovedSpelled.{moved_items}
+use Rattle.plain_resolved.proofs.PlainDepths.{within_levels}
 use Rattle.plain_resolved.proofs.PlainForms.{left_plain}
 use Rattle.plain_resolved.proofs.PlainTops.{IsMovedForm, IsUnmovedForm, PlainTop, pt_moved, pt_unmoved, pt_declared, pt_other, PlainTops, pt_none, pt_more}
 use Rattle.plain_resolved.proofs.SameFile.{SameDeclaration}
@@ -53,13 +54,13 @@ function_spelled f h d ls s items shallow = record {
   body = body_spelled h h.body refl items shallow;
 }
 
-module _ (p : Program) (r : IsResolved p) (Own : Function → Type 0) (own : (h : Function) → Own h → HasOwnNames p.tops h × (1 + depth (body_of h) ≤ most)) (us : List Top) where
+module _ (p : Program) (r : IsResolved p) (Own : Function → Type 0) (own : (h : Function) → Own h → HasOwnNames p.tops h) (us : List Top) where
   moved_spelled : (f h : Function) (m : IsMovedForm f h) → Own h → IsResolvedFunction flat_counts p.tops f → IsResolvedFunction flat_counts us h → FunctionIsSpelled f → FunctionIsSpelled h
   moved_spelled f h m o g k s =
       let params = g.form.parameters in
       let n = own h o in
-      let items = moved_items f h m params p.tops n.0 flat_counts us k flat_counts p.tops g (spelled_body f f.body refl s.body).0 (within_counts p.tops f h g m) in
-      function_spelled f h (moved_declared f h m params) (ap (λ (j : Function). j.labels) m.plain) s items n.1
+      let items = moved_items f h m params p.tops n flat_counts us k flat_counts p.tops g (spelled_body f f.body refl s.body).0 (within_counts p.tops f h g m) in
+      function_spelled f h (moved_declared f h m params) (ap (λ (j : Function). j.labels) m.plain) s items (within_levels p.tops f h g m)
 
   unmoved_spelled : (f h : Function) (m : IsUnmovedForm f h) → IsResolvedFunction flat_counts p.tops f → FunctionIsSpelled f → FunctionIsSpelled h
   unmoved_spelled f h m g s =

@@ -33,3 +33,5 @@ pub mod FewCounted
 pub mod SameCounts
 pub mod JumpsKept
 pub mod Measured
+pub mod FlatDepths
+pub mod PlainDepths

@@ -161,7 +161,7 @@ spelled_unmoved f h e a p k = spelled_over f h e (tidy (unlabelled a)) p (spelle
 
 -- ---- nesting
 
-depth_if : (t : TestTree) (a b : Forest) → depth_of (If t a b) ≡ max (depth a) (depth b) + 1
+pub depth_if : (t : TestTree) (a b : Forest) → depth_of (If t a b) ≡ max (depth a) (depth b) + 1
 depth_if t a Nil = omega arith
 depth_if t a (Then x b) = refl
 
@@ -203,7 +203,7 @@ depth_put true cases default a ends c = let i = depth_give cases default (withou
 depth_put false cases default a ends c = depth_give cases default a ends c
 
 mutual
-  depth_tidy : (a : Forest) → depth (tidy a) ≤ depth a
+  pub depth_tidy : (a : Forest) → depth (tidy a) ≤ depth a
   depth_tidy Nil = omega arith
   depth_tidy (Then x a) = let i = depth_tidy_of x in let j = depth_tidy a in omega (arith, i, j)
 

@@ -1,25 +1,18 @@
 -- What the function of this crate states.
-use Rattle.std.specs.Prelude.{ℕ, ◌≡◌, ◌≤◌, ◌+◌, true, List, All}
+use Rattle.std.specs.Prelude.{ℕ, ◌≡◌, true, List, All}
 use Rattle.c_tree.specs.declared.tree.Function.{Function}
 use Rattle.c_tree.specs.declared.tree.Top.{Top}
 use Rattle.c_tree.specs.declared.tree.Top.TheVariants as T
 use Rattle.c_tree.specs.declared.tree.Program.{Program}
-use Rattle.c_tree.specs.InRange.{body_of}
 use Rattle.plain_core.specs.Plain.{plain_function, plain_with}
-use Rattle.c_resolved.specs.PrintableStatements.{most, depth}
 use Rattle.resolved_core.specs.Counts.{IsResolved}
 use Rattle.whole_core.specs.Rewritten.{Made, IsRewritten}
 use Rattle.whole_core.specs.Laws.{IsTopNamed}
 use Rattle.plain_resolved.specs.Names.{HasOwnNames}
 
--- in the plain form of a flat function each variable has a name of its own, in the file with these tops, and its statements
--- don't nest too deeply
-pub record IsOwn (ts : List Top) (h : Function) : Type 0 where
-  pub names : HasOwnNames ts h
-  pub shallow : 1 + depth (body_of h) ≤ most
-
+-- in the plain form of a flat function each variable has a name of its own, in the file with these tops
 abbrev pub IsTopOwn : List Top → (Function → List (List ℕ)) → Top → Type 0
-IsTopOwn ts names (T.Function g) = g.flat ≡ true → IsOwn ts (plain_function (names g) g)
+IsTopOwn ts names (T.Function g) = g.flat ≡ true → HasOwnNames ts (plain_function (names g) g)
 IsTopOwn ts names _ = Unit {0}
 
 -- the plain form of what a resolved program is rewritten to is resolved

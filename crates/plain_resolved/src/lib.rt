@@ -6,7 +6,7 @@
 ghost use Rattle.plain_resolved.specs.Laws.{PlainFormIsResolved};
 
 /// The plain form of what a resolved program is rewritten to is resolved, where each of its variables has a name of its
-/// own and its text is within the limits.
+/// own. So its text is within the limits, too.
 pub fn plain_form_is_resolved()
     ensures { PlainFormIsResolved }
 {}

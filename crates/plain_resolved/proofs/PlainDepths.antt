@@ -1,0 +1,237 @@
+-- The plain form of a function with jumps of a resolved program nests no deeper than a text may, since the function isn't too tangled.
+use Rattle.std.proofs.Common.{◌≡◌, inl, inr, ℕ, ◌+◌, ◌*◌, ◌≤◌, eqb, List, [], length, refl, sym, ap, subst, ◌∙◌, arith}
+use Rattle.c_tree.specs.declared.tree.Item.{Item}
+use Rattle.c_tree.specs.declared.tree.Function.{Function}
+use Rattle.c_tree.specs.declared.tree.Top.{Top}
+use Rattle.c_tree.specs.Conversions.{convert}
+use Rattle.c_tree.specs.Everywhere.{total, total_of, total_in, Everywhere, EverywhereOf, EverywhereIn}
+use Rattle.c_tree.specs.InRange.{body_of}
+use Rattle.c_tree.specs.Numerals.{constant}
+use Rattle.c_tree.specs.Trees.{Tree, Forest, Nil, Then, Sections, NoSection, Section, Evaluate, Return, If, While, Do, For, Switch, Block, Local, Break, Continue, Goto, Mark, Arm, Leap, Land, Arrival, Note, join, trees_of}
+use Rattle.c_tree.specs.WellMade.{IsWellMade}
+use Rattle.conversion_core.proofs.ConvertedTrees.{converted_trees}
+use Rattle.loose_core.specs.Pieces.{Stays}
+use Rattle.loose_core.specs.Loose.{NoArrival}
+use Rattle.flat_core.specs.Parts.{jumps_of}
+use Rattle.flat_core.specs.FlatForm.{coded, numbered, first_here, flat, flat_body, marks}
+use Rattle.flat_made.specs.FlatMade.{IsFlatItem}
+use Rattle.flat_made.specs.Laws.{IsGoodSource}
+use Rattle.flat_made.proofs.WellMade.{made_laws}
+use Rattle.derivation.specs.Leaps.{leap_of, leaps}
+use Rattle.derivation.specs.Nesting.{nesting, nesting_of, nesting_in}
+use Rattle.derivation.proofs.Around.{nesting_some, nesting-join}
+use Rattle.derived_bodies.specs.Laws.{goto_of, gotos}
+use Rattle.derived_bodies.proofs.Depth.{depth_laws}
+use Rattle.guard_simplify.specs.declared.choice.Choice.{Choice}
+use Rattle.guard_simplify.specs.Choice.{choices}
+use Rattle.guard_simplify.specs.Application.{Reaches, none, then}
+use Rattle.guard_simplify.proofs.Members.{in_first}
+use Rattle.guard_vars.specs.Conversion.{converted_list}
+use Rattle.plain_core.specs.GuardSlots.{plain_list, plain_item, plain_sections}
+use Rattle.plain_core.specs.Slotted as d
+use Rattle.plain_core.specs.Slotted.{AreDeclarations, one_more, variable, guarding}
+use Rattle.plain_core.proofs.PlainFunctions.{are_declared}
+use Rattle.whole_core.proofs.BodiesKept.{IsSimplified, chosen_simplified}
+use Rattle.c_resolved.specs.PrintableStatements.{most, depth, depth_of, depth_in}
+use Rattle.c_resolved.specs.Resolved.{IsResolvedFunction}
+use Rattle.resolved_core.specs.Counts.{flat_counts}
+use Rattle.resolved_core.proofs.GoodSource.{good_source}
+use Rattle.plain_resolved.proofs.FactsMoved.{labels_of, slot_of, reached_of, flat_trees, plain_trees}
+use Rattle.plain_resolved.proofs.FlatDepths.{flat_depth}
+use Rattle.plain_resolved.proofs.Measured.{measured_form, limits}
+use Rattle.plain_resolved.proofs.PlainForms.{decls, items}
+use Rattle.plain_resolved.proofs.PlainTops.{IsMovedForm}
+use Rattle.plain_resolved.proofs.SameCounts.{stays, no_arrival, weight, flat_same}
+use Rattle.plain_resolved.proofs.UnmovedSpelled.{depth_if, depth_tidy}
+
+-- ---- the greatest list level is one more than the depth
+
+mutual
+  nesting_depth : (a : Forest) → nesting a ≡ 1 + depth a
+  nesting_depth Nil = refl
+  nesting_depth (Then x a) = let i = nesting_depth_of x in let j = nesting_depth a in omega (arith, i, j)
+
+  nesting_depth_of : (x : Tree) → nesting_of x ≡ depth_of x
+  nesting_depth_of (If t a b) = let i = nesting_depth a in let j = nesting_depth b in let k = depth_if t a b in omega (arith, i, j, k)
+  nesting_depth_of (While t a) = let i = nesting_depth a in omega (arith, i)
+  nesting_depth_of (Do a t) = let i = nesting_depth a in omega (arith, i)
+  nesting_depth_of (For first t u a) = let i = nesting_depth a in omega (arith, i)
+  nesting_depth_of (Switch s c) = let i = nesting_depth_in c in omega (arith, i)
+  nesting_depth_of (Block a) = let i = nesting_depth a in omega (arith, i)
+  nesting_depth_of _ = refl
+
+  nesting_depth_in : (c : Sections) → nesting_in c ≡ 1 + depth_in c
+  nesting_depth_in NoSection = refl
+  nesting_depth_in (Section cases default a ends c) = let i = nesting_depth a in let j = nesting_depth_in c in omega (arith, i, j)
+
+-- ---- guards as variables
+
+module _ (slot : ℕ → ℕ) where
+  mutual
+    nesting_plain : (a : Forest) → nesting (plain_list slot a) ≡ nesting a
+    nesting_plain Nil = refl
+    nesting_plain (Then x a) = let i = nesting_plain_of x in let j = nesting_plain a in omega (arith, i, j)
+
+    nesting_plain_of : (x : Tree) → nesting_of (plain_item slot x) ≡ nesting_of x
+    nesting_plain_of (If t a b) = let i = nesting_plain a in let j = nesting_plain b in omega (arith, i, j)
+    nesting_plain_of (While t a) = nesting_plain a
+    nesting_plain_of (Do a t) = nesting_plain a
+    nesting_plain_of (For first t u a) = nesting_plain a
+    nesting_plain_of (Switch s c) = nesting_plain_in c
+    nesting_plain_of (Block a) = nesting_plain a
+    nesting_plain_of _ = refl
+
+    nesting_plain_in : (c : Sections) → nesting_in (plain_sections slot c) ≡ nesting_in c
+    nesting_plain_in NoSection = refl
+    nesting_plain_in (Section cases default a ends c) = let i = nesting_plain a in let j = nesting_plain_in c in omega (arith, i, j)
+
+declarations_flat : (base end : ℕ) (a : Forest) → AreDeclarations base end a → nesting a ≡ 1
+declarations_flat base end Nil d.none = refl
+declarations_flat base end (Then x a) (one_more (variable y) r) = let i = declarations_flat base end a r in omega (arith, i)
+declarations_flat base end (Then x a) (one_more (guarding y k j) r) = let i = declarations_flat base end a r in omega (arith, i)
+
+-- ---- simplifications
+
+next_depth : (old new : List Item) → IsSimplified old new → nesting (trees_of new) ≤ nesting (trees_of old)
+next_depth old new s = elim s.either [
+  | inl r ↦ depth_laws.simplified (trees_of old) (trees_of new) r
+  | inr g ↦ subst (λ a. nesting a ≤ nesting (trees_of old)) (sym g.1) (depth_laws.dropped (eqb g.0) (trees_of old))
+]
+
+reached_depth : {old : List Item} {cs : List Choice} {new : List Item} → Reaches old cs new → nesting (trees_of new) ≤ nesting (trees_of old)
+reached_depth none = omega arith
+reached_depth (then {body = body} {new = new} c r n) =
+    let i = reached_depth r in
+    let j = next_depth body new (chosen_simplified c body new (in_first (choices (trees_of body)) c n.next) n.applied) in
+    omega (arith, i, j)
+
+-- ---- numbers of gotos
+
+module _ (f g : Tree → ℕ) (less : (x : Tree) → f x ≤ g x) where
+  mutual
+    total_below : (a : Forest) → total f a ≤ total g a
+    total_below Nil = omega arith
+    total_below (Then x a) = let i = total_below_of x in let j = total_below a in omega (arith, i, j)
+
+    total_below_of : (x : Tree) → total_of f x ≤ total_of g x
+    total_below_of (If t a b) = let l = less (If t a b) in let i = total_below a in let j = total_below b in omega (arith, l, i, j)
+    total_below_of (While t a) = let l = less (While t a) in let i = total_below a in omega (arith, l, i)
+    total_below_of (Do a t) = let l = less (Do a t) in let i = total_below a in omega (arith, l, i)
+    total_below_of (For first t u a) = let l = less (For first t u a) in let i = total_below first in let j = total_below a in omega (arith, l, i, j)
+    total_below_of (Switch s c) = let l = less (Switch s c) in let i = total_below_in c in omega (arith, l, i)
+    total_below_of (Block a) = let l = less (Block a) in let i = total_below a in omega (arith, l, i)
+    total_below_of (Evaluate e) = less (Evaluate e)
+    total_below_of (Return e) = less (Return e)
+    total_below_of (Local x es) = less (Local x es)
+    total_below_of Break = less Break
+    total_below_of Continue = less Continue
+    total_below_of (Goto l) = less (Goto l)
+    total_below_of (Mark l) = less (Mark l)
+    total_below_of (Arm l e) = less (Arm l e)
+    total_below_of (Leap l) = less (Leap l)
+    total_below_of (Land l) = less (Land l)
+    total_below_of (Arrival e) = less (Arrival e)
+    total_below_of (Note bs) = less (Note bs)
+
+    total_below_in : (c : Sections) → total_in f c ≤ total_in g c
+    total_below_in NoSection = omega arith
+    total_below_in (Section cases default a ends c) = let i = total_below a in let j = total_below_in c in omega (arith, i, j)
+
+goto_weighs : (x : Tree) → goto_of x ≤ weight 1 0 x
+goto_weighs (Goto l) = omega arith
+goto_weighs _ = omega arith
+
+weighs_jump : (x : Tree) → weight 1 0 x ≤ jumps_of x
+weighs_jump (Goto l) = omega arith
+weighs_jump _ = omega arith
+
+-- ---- a flat form has no Leap
+
+module _ (P : ℕ → Type 0) where
+  mutual
+    no_leaps : (a : Forest) → Everywhere (IsFlatItem P) a → leaps a ≡ 0
+    no_leaps Nil h = refl
+    no_leaps (Then x a) h = let i = no_leaps_of x h.0 in let j = no_leaps a h.1 in omega (arith, i, j)
+
+    no_leaps_of : (x : Tree) → EverywhereOf (IsFlatItem P) x → total_of leap_of x ≡ 0
+    no_leaps_of (If t a b) h = let i = no_leaps a h.1 in let j = no_leaps b h.2 in omega (arith, i, j)
+    no_leaps_of (While t a) h = let i = no_leaps a h.1 in omega (arith, i)
+    no_leaps_of (Do a t) h = let i = no_leaps a h.1 in omega (arith, i)
+    no_leaps_of (For first t u a) h = let i = no_leaps first h.1 in let j = no_leaps a h.2 in omega (arith, i, j)
+    no_leaps_of (Switch s c) h = let i = no_leaps_in c h.1 in omega (arith, i)
+    no_leaps_of (Block a) h = let i = no_leaps a h.1 in omega (arith, i)
+    no_leaps_of (Leap l) h = absurd h
+    no_leaps_of (Evaluate e) h = refl
+    no_leaps_of (Return e) h = refl
+    no_leaps_of (Local x es) h = refl
+    no_leaps_of Break h = refl
+    no_leaps_of Continue h = refl
+    no_leaps_of (Goto l) h = refl
+    no_leaps_of (Mark l) h = refl
+    no_leaps_of (Arm l e) h = refl
+    no_leaps_of (Land l) h = refl
+    no_leaps_of (Arrival e) h = refl
+    no_leaps_of (Note bs) h = refl
+
+    no_leaps_in : (c : Sections) → EverywhereIn (IsFlatItem P) c → total_in leap_of c ≡ 0
+    no_leaps_in NoSection h = refl
+    no_leaps_in (Section cases default a ends c) h = let i = no_leaps a h.0 in let j = no_leaps_in c h.1 in omega (arith, i, j)
+
+-- ---- a function with jumps
+
+module _ (ts : List Top) (f h : Function) (g : IsResolvedFunction flat_counts ts f) (m : IsMovedForm f h) where
+  abbrev n : ℕ
+  n = length f.labels
+
+  abbrev source : Forest
+  source = body_of f
+
+  abbrev flattened : Forest
+  flattened = flat_body constant f.slots n source
+
+  good : IsGoodSource n source
+  good = good_source flat_counts ts f g
+
+  few_gotos : gotos flattened ≤ total jumps_of (measured_form source)
+  few_gotos =
+      let c = coded constant f.slots n source in
+      let e = coded constant [] (length (marks source)) source in
+      let p = numbered (marks (flat c (first_here (length f.slots)) Stays Stays NoArrival source)) c in
+      let q = numbered (marks (flat e (first_here 0) Stays Stays NoArrival source)) e in
+      let same =
+      flat_same 1 0 p.live p.source q.source p.break_label q.break_label p.continue_label q.continue_label p.default_label q.default_label p.case_label q.case_label f.slots [] constant constant (first_here (length f.slots))
+      (first_here 0) source stays stays no_arrival in
+      let i = total_below goto_of (weight 1 0) goto_weighs flattened in
+      let j = total_below (weight 1 0) jumps_of weighs_jump (measured_form source) in
+      omega (arith, same, i, j)
+
+  flat_shallow : nesting flattened ≤ nesting source
+  flat_shallow =
+      let c = coded constant f.slots n source in
+      flat_depth (numbered (marks (flat c (first_here (length f.slots)) Stays Stays NoArrival source)) c) (first_here (length f.slots)) Stays Stays NoArrival source good.items
+
+  moved_shallow : nesting (trees_of m.middle) ≤ nesting flattened + 3 * gotos flattened
+  moved_shallow =
+      let made = made_laws.of_bodies constant f.slots n source good in
+      let there : trees_of (converted_list m.body) ≡ convert flattened = converted_trees m.body ∙ ap convert (flat_trees f h m) in
+      depth_laws.whole flattened (converted_list m.body) m.moves m.middle there (no_leaps _ flattened made.items) (subst IsWellMade (sym there) (made_laws.of_conversions constant f.slots n source good)) m.derives
+
+  pub within_levels : 1 + depth (body_of h) ≤ most
+  within_levels =
+      let params = g.form.parameters in
+      let a = decls f h m params in
+      let b = items f h m params in
+      let plain = ap depth (plain_trees f h m) in
+      let tidied = depth_tidy (join a b) in
+      let all = nesting_depth (join a b) in
+      let both = nesting-join a b in
+      let first = declarations_flat _ _ a (are_declared (reached_of f h m) (labels_of f h m)) in
+      let rest = nesting_plain (slot_of f h m) (trees_of m.new) in
+      let some = nesting_some (trees_of m.new) in
+      let reached = reached_depth m.reaches in
+      let start = nesting_depth source in
+      let deep = (limits ts f h g m).depth in
+      let gotos_few = few_gotos in
+      let flat_so = flat_shallow in
+      let moved_so = moved_shallow in
+      omega (arith, plain, tidied, all, both, first, rest, some, reached, start, deep, gotos_few, flat_so, moved_so)
