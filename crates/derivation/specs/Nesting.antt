@@ -30,9 +30,9 @@ abbrev mutual
   nesting_of (Block a) = nesting a
   nesting_of _ = 0
 
-  -- of the lists of a switch
+  -- of the lists of a switch; one without sections counts as one with an empty list
   pub nesting_in : Sections → ℕ
-  nesting_in NoSection = 0
+  nesting_in NoSection = 1
   nesting_in (SectionOf cases default a ends c) = max (nesting a) (nesting_in c)
 
 -- of a list whose items stand after the Leap: they count as one level deeper
@@ -42,7 +42,7 @@ later (Then x xs) = 1 + nesting (Then x xs)
 
 -- of sections that stand after the Leap
 abbrev pub later_in : Sections → ℕ
-later_in NoSection = 0
+later_in NoSection = 1
 later_in (SectionOf cases default a ends c) = max (later a) (later_in c)
 
 -- of the lists of an item, where the Leap stands in the list at the branch, and that counts as n
