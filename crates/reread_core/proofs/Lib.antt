@@ -31,4 +31,5 @@ pub mod BodyRead
 pub mod GoodGiven
 pub mod LabelNumbers
 pub mod BodyGiven
+pub mod FunctionSources
 pub mod TheLaws

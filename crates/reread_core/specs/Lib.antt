@@ -4,6 +4,7 @@ pub mod Bindings
 pub mod Places
 pub mod WrittenStatements
 pub mod Keywords
+pub mod WrittenFunctions
 pub mod GoodItems
 pub mod PlacedNotes
 pub mod Laws
