@@ -1,5 +1,5 @@
 -- The last item of a list.
-use Rattle.std.proofs.Common.{◌≡◌, List, [], ◌∷◌, ◌++◌, true, false, refl, ap}
+use Rattle.std.proofs.Common.{◌≡◌, List, [], ◌∷◌, ◌++◌, refl, ap}
 use Rattle.c_statements.specs.Sections.{is_break, ends_in_break, without_last}
 use Rattle.c_tree.specs.declared.tree.Item.{Item}
 

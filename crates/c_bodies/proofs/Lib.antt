@@ -2,4 +2,5 @@ pub mod Endings
 pub mod FirstTokens
 pub mod PassedOn
 pub mod Scopes
+pub mod SwitchSteps
 pub mod Walks

@@ -1,13 +1,13 @@
 -- What is declared in a list is gone behind it.
-use Rattle.std.proofs.Common.{◌≡◌, ◌∙◌, ℕ, List, [], ◌∷◌, drop, Option, refl, ap}
+use Rattle.std.proofs.Common.{◌≡◌, ◌∙◌, ℕ, List, [], ◌∷◌, drop, refl, ap}
 use Rattle.c_bodies.specs.Views.{left}
-use Rattle.c_kinds.specs.Scopes.{Scope, bind, Env}
+use Rattle.c_kinds.specs.Scopes.{Scope, bind}
 use Rattle.c_kinds.specs.declared.binding.Binding.{Binding}
-use Rattle.c_source.specs.Items.{Declaration, Declarator, Start, NoStart, StartValue, StartNames, Item, Declares, States, Plain, From, Statement, Null, Evaluate, If, IfElse, While, DoWhile, For, Switch, Block, Goto, Break, Continue, Return, Unread, Body, Braces, Lone, Items, NoItem, Then}
+use Rattle.c_source.specs.Items.{Declarator, Start, NoStart, StartValue, StartNames, Item, Declares, States, From, Statement, Null, Evaluate, If, IfElse, While, DoWhile, For, Switch, Block, Goto, Break, Continue, Return, Unread, Body, Braces, Lone, Items, NoItem, Then}
 use Rattle.c_statements.specs.declared.extents.Kinded.{Kinded}
 use Rattle.c_statements.specs.Context.{Context, Walk, enter, leave, env_at}
 use Rattle.c_statements.specs.Declarations.{declared, all_declared}
-use Rattle.c_statements.specs.Statements.{behind_start, behind_item, behind_plain, behind_statement, behind_body, behind_items}
+use Rattle.c_statements.specs.Statements.{behind_start, behind_item, behind_statement, behind_body, behind_items}
 
 bind-rest : (name : List ℕ) (b : Binding) (ss : List Scope) → drop 1 (bind name b ss) ≡ drop 1 ss
 bind-rest name b [] = refl

@@ -1,8 +1,11 @@
 -- One item of a switch's body: the sections that are closed before it and read behind it, and its violations.
 use Rattle.std.specs.Prelude.{ℕ, Bool, true, false, cond, not, ◌&&◌, List, [], ◌∷◌, Option, Some, None}
 use Rattle.c_bodies.specs.declared.reading.Reading as declared
+use Rattle.c_grammar.specs.declared.syntax.Syntax.{Syntax, out-Syntax}
+use Rattle.c_source.specs.ItemViews.{item_of}
+use Rattle.c_source.specs.Parts.{is_token}
 use Rattle.c_kinds.specs.Scopes.{Faults, fault_if}
-use Rattle.c_source.specs.Items.{Label, label_first, Item, Declares, States, Items, item_first}
+use Rattle.c_source.specs.Items.{Label, label_first, Item, Declares, States, Items, Then, item_first}
 use Rattle.c_statements.specs.Context.{Context, Walk, Around, env_at}
 use Rattle.c_statements.specs.Labels.{has_case}
 use Rattle.c_statements.specs.Sections.{Reading, extended, closed}
@@ -45,3 +48,8 @@ section_item_faults ctx around begun x w vs = fault_if (is_outside begun x) (ite
 
 abbrev pub section_faults : Context → Around → Bool → Items → Walk → Faults → Faults
 section_faults ctx around begun xs w vs = cond begun (list_faults ctx around xs w vs) (outside_faults ctx around xs w vs)
+
+-- ---- the items of a node, which may be a token, and then these
+
+abbrev pub with_node : (ℕ → List ℕ) → Syntax → Items → Items
+with_node word x xs = cond (is_token (out-Syntax x).rule) xs (Then (item_of word x) xs)

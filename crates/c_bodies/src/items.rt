@@ -5,6 +5,7 @@ ghost use Rattle.c_tree.specs.declared.tree.Item as item;
 ghost use Rattle.c_tree.specs.declared.tree.Selector as selector;
 ghost use Rattle.c_tree.specs.declared.tree.Test as test;
 
+use crate::values::Selected;
 use c_tree::{Expression, Item, Section, Selector, Test};
 use c_types::{List, Memory};
 
@@ -31,26 +32,32 @@ pub fn push_do(out: &mut List<Item>, body: List<Item>, e: Expression) -> Result<
     out.push(Item::Do(body, Test::Source(e)))
 }
 
-pub fn push_for(
-    out: &mut List<Item>,
-    start: List<Item>,
-    heads: Heads,
-    body: List<Item>,
-) -> Result<(), Memory>
-    ensures { OnOk result (out.new ≡ out.old ++ item.For start heads.test heads.third body ∷ []) }
+pub fn push_choice(out: &mut List<Item>, e: Expression, lists: Lists) -> Result<(), Memory>
+    ensures { OnOk result (out.new ≡ out.old ++ item.If (test.Source e) lists.then lists.other ∷ []) }
 {
-    let Heads { test, third } = heads;
+    let Lists { then, other } = lists;
+    out.push(Item::If(Test::Source(e), then, other))
+}
+
+pub fn push_for(out: &mut List<Item>, heads: Heads, body: List<Item>) -> Result<(), Memory>
+    ensures { OnOk result (out.new ≡ out.old ++ item.For heads.start heads.test heads.third body ∷ []) }
+{
+    let Heads { start, test, third } = heads;
     out.push(Item::For(start, test, third, body))
 }
 
 pub fn push_switch(
     out: &mut List<Item>,
-    e: Expression,
+    selected: Selected,
     sections: List<Section>,
 ) -> Result<(), Memory>
-    ensures { OnOk result (out.new ≡ out.old ++ item.Switch (selector.Source e) sections ∷ []) }
+    ensures { OnOk result (out.new ≡ out.old ++ item.Switch (selector.Source selected.expression) sections ∷ []) }
 {
-    out.push(Item::Switch(Selector::Source(e), sections))
+    let Selected {
+        expression,
+        kind: _,
+    } = selected;
+    out.push(Item::Switch(Selector::Source(expression), sections))
 }
 
 pub fn push_block(out: &mut List<Item>, body: List<Item>) -> Result<(), Memory>
@@ -59,9 +66,17 @@ pub fn push_block(out: &mut List<Item>, body: List<Item>) -> Result<(), Memory>
     out.push(Item::Block(body))
 }
 
-/// The test and the third part of a `for`, where they are written.
+/// Both lists of an `if`.
+#[derive(Drop)]
+pub struct Lists {
+    pub then: List<Item>,
+    pub other: List<Item>,
+}
+
+/// The first part of a `for`, and its test and its third part, where they are written.
 #[derive(Drop)]
 pub struct Heads {
+    pub start: List<Item>,
     pub test: Option<Expression>,
     pub third: Option<Expression>,
 }

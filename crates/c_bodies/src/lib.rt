@@ -6,11 +6,14 @@ mod elements;
 mod items;
 mod labels;
 mod notes;
+mod outermost;
 mod passing;
 mod reading;
 mod sections;
 mod simple;
 mod state;
 mod values;
+mod walk;
 
-pub use state::{Around, FunctionContext, State};
+pub use outermost::function_body;
+pub use state::{FunctionContext, State};

@@ -12,7 +12,7 @@ ghost use Rattle.c_statements.specs.Statements as spec;
 ghost use Rattle.c_statements.specs.Violations as violations;
 
 use crate::items::Heads;
-use crate::state::{Around, FunctionContext, State, report_at};
+use crate::state::{Around, FunctionContext, State, enter, report_at};
 use crate::values::{add_variables, dropped, optional_dropped, optional_used, returned};
 use c_grammar::Syntax;
 use c_source::StartLayer;
@@ -159,23 +159,32 @@ pub fn add_start<'n, 'a>(
     }
 }
 
-/// The test and the third part of a `for`.
+/// The parts of a `for` in front of its list, in the scope of the loop, which stays open.
 pub fn read_heads<'n, 'a>(
     alloc: Global,
     ctx: &FunctionContext<'n, 'a>,
     state: &mut State<'a>,
+    start: StartLayer,
     test: Option<&Syntax>,
     third: Option<&Syntax>,
 ) -> Result<Heads, Memory>
-    ensures test { IfOk result (λ h. h.test ≡ option_map (declarations.value_at (views.env ctx.now state.old)) (option_map (λ y. term_of (words_of ctx.now.words) y.now) test.entry)) }
-    ensures third { IfOk result (λ h. h.third ≡ option_map (spec.dropped_at (views.env ctx.now state.old)) (option_map (λ y. term_of (words_of ctx.now.words) y.now) third.entry)) }
-    ensures walk { OnOk result (views.walk_of state.new ≡ views.walk_of state.old) }
+    ensures start { IfOk result (λ h. h.start ≡ spec.start_items (views.context_of ctx.now) (start_form (words_of ctx.now.words) start.entry) (context.enter (views.walk_of state.old))) }
+    ensures test { IfOk result (λ h. h.test ≡ option_map (declarations.value_at (context.env_at (views.context_of ctx.now) (spec.behind_start (views.context_of ctx.now) (start_form (words_of ctx.now.words) start.entry) (context.enter (views.walk_of state.old))))) (option_map (λ y. term_of (words_of ctx.now.words) y.now) test.entry)) }
+    ensures third { IfOk result (λ h. h.third ≡ option_map (spec.dropped_at (context.env_at (views.context_of ctx.now) (spec.behind_start (views.context_of ctx.now) (start_form (words_of ctx.now.words) start.entry) (context.enter (views.walk_of state.old))))) (option_map (λ y. term_of (words_of ctx.now.words) y.now) third.entry)) }
+    ensures walk { OnOk result (views.walk_of state.new ≡ (spec.behind_start (views.context_of ctx.now) (start_form (words_of ctx.now.words) start.entry) (context.enter (views.walk_of state.old)))) }
     ensures cases { OnOk result (state.new.cases ≡ state.old.cases) }
-    ensures faults { OnOk result (state.new.faults ≡ violations.optional_faults (violations.dropped_faults (views.env ctx.now state.old)) (option_map (λ y. term_of (words_of ctx.now.words) y.now) third.entry) (violations.optional_faults (declarations.value_faults (views.env ctx.now state.old)) (option_map (λ y. term_of (words_of ctx.now.words) y.now) test.entry) state.old.faults)) }
+    ensures faults { OnOk result (state.new.faults ≡ violations.optional_faults (violations.dropped_faults (context.env_at (views.context_of ctx.now) (spec.behind_start (views.context_of ctx.now) (start_form (words_of ctx.now.words) start.entry) (context.enter (views.walk_of state.old))))) (option_map (λ y. term_of (words_of ctx.now.words) y.now) third.entry) (violations.optional_faults (declarations.value_faults (context.env_at (views.context_of ctx.now) (spec.behind_start (views.context_of ctx.now) (start_form (words_of ctx.now.words) start.entry) (context.enter (views.walk_of state.old))))) (option_map (λ y. term_of (words_of ctx.now.words) y.now) test.entry) (violations.start_faults (views.context_of ctx.now) (start_form (words_of ctx.now.words) start.entry) (context.enter (views.walk_of state.old)) state.old.faults))) }
 {
+    enter(alloc, state)?;
+    let mut items = List::new(alloc);
+    add_start(alloc, ctx, state, start, &mut items)?;
     let test = optional_used(alloc, ctx, state, test)?;
     match optional_dropped(alloc, ctx, state, third) {
-        Ok(third) => Ok(Heads { test, third }),
+        Ok(third) => Ok(Heads {
+            start: items,
+            test,
+            third,
+        }),
         Err(m) => {
             drop(test);
             Err(m)

@@ -117,3 +117,14 @@ pub fn report_switch(alloc: Global, state: &mut State, kind: Option<IntKind>) ->
 {
     report_cases(alloc, &mut state.faults, kind, state.cases.as_slice())
 }
+
+/// Sets the words to those of the text.
+#[tactic(auto, unfolding(crate::specs::Views::walk_of))]
+pub fn set_words<'n, 'a>(ctx: &FunctionContext<'n, 'a>, state: &mut State<'a>)
+    ensures words { state.new.known.words ≡ ctx.now.words }
+    ensures walk { views.walk_of state.new ≡ views.walk_of state.old }
+    ensures cases { state.new.cases ≡ state.old.cases }
+    ensures faults { state.new.faults ≡ state.old.faults }
+{
+    state.known.words = ctx.words;
+}
