@@ -6,7 +6,7 @@ use Rattle.c_scopes.specs.Files.{file_faults, start, tops_of}
 use Rattle.c_scopes.specs.FunctionNames.{bodies_of}
 use Rattle.c_scopes.specs.NodeViews.{tops_in}
 use Rattle.c_scopes.specs.Notes.{notes_of}
-use Rattle.c_scopes.proofs.resolve.read_file.Goals as goal
+use Rattle.c_scopes.proofs.resolving.read_file.Goals as goal
 
 pub returns-clause-tops : goal.returns-clause-tops
 returns-clause-tops g c =

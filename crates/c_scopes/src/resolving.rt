@@ -1,6 +1,7 @@
 //! The resolved program of a text, or its first violation.
 
-ghost use Rattle.std.specs.Prelude.{◌≡◌, [], All, IfOk};
+ghost use Rattle.std.specs.Prelude.{◌≡◌, [], All, IfOk, Ok};
+ghost use Rattle.c_lexer.specs.Answers.{read_tokens};
 ghost use Rattle.c_lexer.specs.Pieces.{IsWithin};
 ghost use Rattle.c_source.specs.Parts.{file_of};
 ghost use Rattle.c_source.specs.Views.{words_of};
@@ -19,7 +20,7 @@ use crate::violations::{least, refused};
 use c_bodies::State;
 use c_grammar::Syntax;
 use c_kinds::{Fault, Known, Scopes};
-use c_lexer::{Span, Token};
+use c_lexer::{Span, Token, comments};
 use c_source::{Words, tops_of};
 use c_tree::{Program, Top};
 use c_types::{List, Memory, ReadStop, Stack};
@@ -115,5 +116,33 @@ pub fn resolve_with<C: FlatCounter>(
     match least(faults) {
         None => Ok(Program { tops }),
         Some(v) => Err(ReadStop::Refused(refused(&words, v))),
+    }
+}
+
+/// The program of a syntax of the tokens of a text, or its first violation: the one with the least
+/// place, then the least reason (docs/SUBSET.md). Where tokens are known with the comments,
+/// `resolve_with` reads the text once less.
+pub fn resolve<C: FlatCounter>(
+    alloc: Global,
+    counter: &C,
+    text: &[u8],
+    tokens: &List<Token>,
+    syntax: &Syntax,
+) -> Result<Program, ReadStop>
+    requires read { read_tokens text.now ≡ Ok tokens.now }
+    requires within { All (λ token. IsWithin text.now token.start token.end) tokens.now }
+    ensures { Gives (λ program. program) result (spec.resolved (C.flat counter.now) text.now tokens.now (spec.comments_of text.now) syntax.now) }
+{
+    match comments(alloc, text) {
+        Ok(comments) => resolve_with(
+            alloc,
+            counter,
+            text,
+            tokens.as_slice(),
+            comments.as_slice(),
+            syntax,
+        ),
+        // no refusal comes, since the tokens could be read
+        Err(_) => Err(ReadStop::Memory),
     }
 }
