@@ -1,0 +1,57 @@
+//! Reading: from a text to its resolved program, or its first fault.
+#![tactic(auto)]
+
+ghost use Rattle.std.specs.Prelude.{All};
+ghost use Rattle.c_lexer.specs.Pieces.{IsWithin};
+ghost use Rattle.c_parser.specs.Answers.{parsed};
+ghost use Rattle.c_types.specs.Stop.{Gives};
+ghost use Rattle.c_reading.specs.Reading as spec;
+
+use c_lexer::{Scanned, scan};
+use c_parser::parse;
+use c_scopes::{FlatCounter, resolve_with};
+use c_tree::Program;
+use c_types::ReadStop;
+use std::alloc::Global;
+
+/// The program of the tokens and comments of a text.
+fn read_scanned<C: FlatCounter>(
+    alloc: Global,
+    counter: &C,
+    text: &[u8],
+    scanned: &Scanned,
+) -> Result<Program, ReadStop>
+    requires tokens { All (λ token. IsWithin text.now token.start token.end) scanned.now.tokens }
+    requires comments { All (λ comment. IsWithin text.now comment.start comment.end) scanned.now.comments }
+    ensures { Gives (λ program. program) result (spec.of_syntax (C.flat counter.now) text.now scanned.now (parsed text.now scanned.now.tokens)) }
+{
+    match parse(alloc, text, &scanned.tokens) {
+        Ok(syntax) => resolve_with(
+            alloc,
+            counter,
+            text,
+            scanned.tokens.as_slice(),
+            scanned.comments.as_slice(),
+            &syntax,
+        ),
+        Err(stop) => Err(stop),
+    }
+}
+
+/// The resolved program of a text (ISO/IEC 9899:2011, 6.4 to 6.9; docs/SUBSET.md), where `counter` counts
+/// the gotos and labels of the flat forms of its functions. A text outside of the subset is refused at
+/// its first fault: the first lexical one, else the first token that fits nowhere or is nested too
+/// deeply, else the violation with the least place, then the least reason. Else the only failure is want
+/// of memory.
+pub fn read<C: FlatCounter>(
+    alloc: Global,
+    counter: &C,
+    text: &[u8],
+) -> Result<Program, ReadStop>
+    ensures { Gives (λ program. program) result (spec.reading (C.flat counter.now) text.now) }
+{
+    match scan(alloc, text) {
+        Ok(scanned) => read_scanned(alloc, counter, text, &scanned),
+        Err(stop) => Err(stop),
+    }
+}
