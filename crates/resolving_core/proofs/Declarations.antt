@@ -178,7 +178,7 @@ module _ (file : File) where
   file_once (tops.From first after form ∷ xs) s done p r e t =
       let q = file_parts file first after form xs s e in
       let new = notes_tops file (Before first) ++ form_tops file first form s in
-      let rest = file_once xs (behind_form file form s) (done ++ new) (stepped_place file done first form s p r.0 q.0) r.1 q.1 (tracks_next done first form s t) in
+      let rest = file_once xs (behind_form file form s) (done ++ new) (stepped_place file done first form s p r.0.0 q.0) r.1 q.1 (tracks_next done first form s t) in
       by form q.0 rest
     where
       by : (form : Form) → form_faults file form s [] ≡ [] → Once xs (behind_form file form s) → Once (tops.From first after form ∷ xs) s

@@ -278,7 +278,7 @@ module _ (file : File) (ts : List Top) (known : (slots : List Slot) → IsDefine
       (((v.0, tt), (v.1, tt)), (v.2, tt))
   form_holds done first (Globals static d) s p r e now h names tree same z =
       let k = kinded file.word d in
-      let v = globals_are file ts (known []) now z static k d.names s.scopes done p.fs p.rs p.shaped r e p.inv (λ fs k. subst (λ a. Grows a z.last) (same_head _ now fs h k) z.grows) in
+      let v = globals_are file ts (known []) now z static k d.names s.scopes done p.fs p.rs p.shaped r.0 e p.inv (λ fs k. subst (λ a. Grows a z.last) (same_head _ now fs h k) z.grows) in
       ((globals_hold now z static k d.names (env_of file s) v.0, v.1), v.2)
   form_holds done first (Defines f) s p r e now h names tree same z =
       let q = function_parts file f s e in
@@ -310,16 +310,16 @@ module _ (file : File) (ts : List Top) (known : (slots : List Slot) → IsDefine
       let q = file_parts file first after form xs s e in
       let bs = file.notes (Before first) in
       let noted_done = done ++ map T.Note bs in
-      let v = form_step file noted_done first form s (noted file done s.scopes bs p) r.0 q.0 in
+      let v = form_step file noted_done first form s (noted file done s.scopes bs p) r.0.0 q.0 in
       let forms = form_tops file first form s in
       let new = notes_tops file (Before first) ++ forms in
       let rest = tops_of file xs (behind_form file form s) in
-      let place = stepped_place file done first form s p r.0 q.0 in
+      let place = stepped_place file done first form s p r.0.0 q.0 in
       let a' = a ∙ sym (append_assoc done new rest) in
       let z = subst (λ l. AtEnd file l v.fs') (sym a') (at_end file xs (behind_form file form s) (done ++ new) place r.1 q.1) in
       let ss = tree_scopes p.rs in
       let quiet = notes_behind (defined file) ss bs in
-      let here = form_holds noted_done first form s (noted file done s.scopes bs p) r.0 q.0 v.fs' v.shaped v.rs' v.tree v.inv.same z in
+      let here = form_holds noted_done first form s (noted file done s.scopes bs p) r.0.0 q.0 v.fs' v.shaped v.rs' v.tree v.inv.same z in
       let front = hold_both ss (map T.Note bs) forms (notes_hold ss bs) (subst (λ x. HoldFrom x forms) (sym quiet) here) in
       hold_both ss new rest front (subst (λ x. HoldFrom x rest) (sym (behind_both ss (map T.Note bs) forms ∙ (ap (λ x. behind_tops (defined file) x forms) quiet ∙ v.tree))) (file_holds xs (behind_form file form s) (done ++ new) place r.1 q.1 a'))
     where

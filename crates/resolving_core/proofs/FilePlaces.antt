@@ -88,9 +88,9 @@ module _ (file : File) where
   at_end (tops.From first after form ∷ xs) s done p r e =
       let q = file_parts file first after form xs s e in
       let bs = file.notes (Before first) in
-      let v = form_step (done ++ map T.Note bs) first form s (noted done s.scopes bs p) r.0 q.0 in
+      let v = form_step (done ++ map T.Note bs) first form s (noted done s.scopes bs p) r.0.0 q.0 in
       let new = notes_tops file (Before first) ++ form_tops file first form s in
-      let z = at_end xs (behind_form file form s) (done ++ new) (stepped_place done first form s p r.0 q.0) r.1 q.1 in
+      let z = at_end xs (behind_form file form s) (done ++ new) (stepped_place done first form s p r.0.0 q.0) r.1 q.1 in
       record {
         last = z.last;
         names = z.names;

@@ -28,7 +28,7 @@ use Rattle.resolving_core.proofs.Expressions.{sound, used_clean}
 use Rattle.resolving_core.proofs.ItemKinds.{KnownAt}
 use Rattle.resolving_core.proofs.ItemReturns.{AnyConstant}
 use Rattle.resolving_core.proofs.Values.{value_rolls, SoundValue}
-use Rattle.resolving_core.proofs.Walk.{Closed}
+use Rattle.resolving_core.proofs.Walk.{each_note, Closed}
 use Rattle.std.specs.Prelude.{◌<◌}
 
 module _ (ctx : Context) (n : Names) where
@@ -51,7 +51,7 @@ module _ (ctx : Context) (n : Names) where
   cases_closed = record {
     into = λ s i. ([] ∷ i.0, knows_inside n ctx.word s i.0 i.1);
     binds = λ k d w r e b i. (behind_local ctx.word d w i.0, knows_declared ctx.word n k d w i.0 e b i.1);
-    note = λ bs. tt;
+    note = λ a. each_note HasCases (λ bs. tt) (ctx.notes a);
     evaluates = λ w t i r e. tt;
     ifs = λ w t a b i r e. tt;
     whiles = λ w t a i r e. tt;

@@ -22,7 +22,7 @@ use Rattle.resolving_core.proofs.LabelNumbers.{some_number}
 use Rattle.resolving_core.proofs.Lists.{is_some_and}
 use Rattle.resolving_core.proofs.Parts.{locals_parts}
 use Rattle.resolving_core.proofs.Sectioned.{are_sections}
-use Rattle.resolving_core.proofs.Walk.{Begins, Any, begins_before, Closed}
+use Rattle.resolving_core.proofs.Walk.{each_note, Begins, Any, begins_before, Closed}
 
 module _ (ctx : Context) (f : Function) where
   slot_is : (k : Kinded) (d : Declarator) (w : Walk) → Begins (declared ctx.word k d w).slots f.slots → slice_get f.slots (length w.slots) ≡ Some (slot_of (env_in ctx.word w) k d)
@@ -70,7 +70,7 @@ module _ (ctx : Context) (f : Function) where
     forms_closed = record {
       into = λ s i. tt;
       binds = λ k d w r e b i. tt;
-      note = λ bs. tt;
+      note = λ a. each_note (HasSourceForm f) (λ bs. tt) (ctx.notes a);
       evaluates = λ w t i r e. tt;
       ifs = λ w t a b i r e. tt;
       whiles = λ w t a i r e. tt;

@@ -24,7 +24,7 @@ use Rattle.resolving_core.proofs.Empty.{value_empty}
 use Rattle.resolving_core.proofs.Parts.{local_parts}
 use Rattle.resolving_core.proofs.Uses.{value_is, dropped_is, constant_is_value}
 use Rattle.resolving_core.proofs.Values.{IsSound, Sound}
-use Rattle.resolving_core.proofs.Walk.{Closed}
+use Rattle.resolving_core.proofs.Walk.{each_note, Closed}
 
 -- ---- facts within
 
@@ -130,7 +130,7 @@ module _ (ctx : Context) (n : Names) where
   kinds_closed = record {
     into = λ s i. ([] ∷ i.0, knows_inside n ctx.word s i.0 i.1);
     binds = λ k d w r e b i. (behind_local ctx.word d w i.0, knows_declared ctx.word n k d w i.0 e b i.1);
-    note = λ bs. record { agrees = record { kinds = tt; values = tt }; consts = tt };
+    note = λ a. each_note (GoodItem n) (λ bs. record { agrees = record { kinds = tt; values = tt }; consts = tt }) (ctx.notes a);
     evaluates = λ w t i r e. let g = dropped_good w t i r e in record { agrees = record { kinds = g.0.kinds; values = g.1 }; consts = g.0.consts };
     ifs = λ w t a b i r e. let g = value_good w t i r e in record { agrees = record { kinds = g.0.kinds; values = g.1 }; consts = g.0.consts };
     whiles = λ w t a i r e. let g = value_good w t i r e in record { agrees = record { kinds = g.0.kinds; values = g.1 }; consts = g.0.consts };

@@ -20,7 +20,7 @@ use Rattle.resolving_core.proofs.Declared.{slot_there}
 use Rattle.resolving_core.proofs.Lists.{none_left, is_some_and}
 use Rattle.resolving_core.proofs.Parts.{local_parts}
 use Rattle.resolving_core.specs.Read.{IsReadDeclarator}
-use Rattle.resolving_core.proofs.Walk.{Begins, Closed}
+use Rattle.resolving_core.proofs.Walk.{each_note, Begins, Closed}
 
 -- nothing is known of a place
 abbrev pub Anywhere : List Scope → Type 0
@@ -51,7 +51,7 @@ returns_closed ctx final =
     record {
       into = λ s i. tt;
       binds = λ k d w r e b i. tt;
-      note = λ bs. other (tree.Note bs) tt;
+      note = λ a. each_note (ReturnFits ctx.result) (λ bs. other (tree.Note bs) tt) (ctx.notes a);
       evaluates = λ w t i r e. other (tree.Evaluate _) tt;
       ifs = λ w t a b i r e. other (tree.If _ a b) tt;
       whiles = λ w t a i r e. other (tree.While _ a) tt;
@@ -83,7 +83,7 @@ initialised_closed ctx final =
     record {
       into = λ s i. tt;
       binds = λ k d w r e b i. tt;
-      note = λ bs. tt;
+      note = λ a. each_note (IsInitialised final) (λ bs. tt) (ctx.notes a);
       evaluates = λ w t i r e. tt;
       ifs = λ w t a b i r e. tt;
       whiles = λ w t a i r e. tt;

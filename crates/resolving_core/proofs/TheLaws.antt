@@ -123,7 +123,7 @@ all_answered flat text tokens comments x p r e =
     let xs = file_of word x in
     let file = file_at flat text tokens comments xs in
     let a = answered text tokens (program_of file xs) p (violation_of file xs) e in
-    subst (Answered flat) a.1 (file_answered file xs (λ m. refl) r (none_reported (file_faults file xs start []) a.0))
+    subst (Answered flat) a.1 (file_answered file xs (λ m. refl) r.file (none_reported (file_faults file xs start []) a.0))
 
 of_map : (P Q : Function → Type 0) → ((f : Function) → P f → Q f) → (t : Top) → OfFunction P t → OfFunction Q t
 of_map P Q g (T.Function f) h = g f h

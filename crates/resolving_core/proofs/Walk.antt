@@ -18,7 +18,7 @@ use Rattle.c_kinds.specs.Typing.{typed, constant_faults}
 use Rattle.c_kinds.specs.Values.{value_of}
 use Rattle.c_statements.specs.declared.extents.Kinded.{Kinded}
 use Rattle.c_statements.specs.Cases.{switch_faults, body_entries}
-use Rattle.c_statements.specs.Context.{Context, Walk, env_at, env_in, enter, number_in, has_label, Around, in_switch}
+use Rattle.c_statements.specs.Context.{Anchor, Context, Walk, env_at, env_in, enter, number_in, has_label, Around, in_switch}
 use Rattle.c_statements.specs.Declarations.{declared, initial, value_at, constant_at, value_faults, local_faults}
 use Rattle.c_statements.specs.Sections.{Reading, extended, closed, passed_on}
 use Rattle.c_statements.specs.Statements.{behind_start, dropped_at, start_items, switch_sections}
@@ -45,7 +45,7 @@ begins_before a b final g h = (g.more ++ h.0, h.1 ∙ (ap (λ x. x ++ h.0) g.who
 pub record Closed (ctx : Context) (final : List Slot) (I : List Scope → Type 0) (P : Tree → Type 0) (C : ExpressionTree → Type 0) : Type 0 where
   pub into : (s : List Scope) → I s → I ([] ∷ s)
   pub binds : (k : Kinded) (d : Declarator) (w : Walk) → IsReadDeclarator ctx.word d → local_faults ctx.word k d w [] ≡ [] → Begins (declared ctx.word k d w).slots final → I w.scopes → I (declared ctx.word k d w).scopes
-  pub note : (bs : List ℕ) → P (tree.Note bs)
+  pub note : (a : Anchor) → Each (λ bs. P (tree.Note bs)) (ctx.notes a)
   pub evaluates : (w : Walk) (t : Term) → I w.scopes → IsReadTerm ctx.word t → dropped_faults (env_at ctx w) t [] ≡ [] → P (tree.Evaluate (expression_tree (dropped_at (env_at ctx w) t)))
   pub ifs : (w : Walk) (t : Term) (a b : Forest) → I w.scopes → IsReadTerm ctx.word t → value_faults (env_at ctx w) t [] ≡ [] → P (tree.If (Source (expression_tree (value_at (env_at ctx w) t))) a b)
   pub whiles : (w : Walk) (t : Term) (a : Forest) → I w.scopes → IsReadTerm ctx.word t → value_faults (env_at ctx w) t [] ≡ [] → P (tree.While (Source (expression_tree (value_at (env_at ctx w) t))) a)
@@ -151,3 +151,8 @@ module _ (P : Tree → Type 0) (C : ExpressionTree → Type 0) where
   switch_holds ss h =
       subst (λ c. EverywhereIn P c × CaseExpressions C c) (sym (sections_are (passed_on [] false ss) ∙ ap sections (passed_same [] false ss)))
       (sections_hold (passed_trees [] false (map section_tree ss)) (passed_hold [] false (map section_tree ss) tt (trees_hold ss h)))
+
+-- a fact of all comments
+pub each_note : (P : Tree → Type 0) → ((bs : List ℕ) → P (tree.Note bs)) → (bs : List (List ℕ)) → Each (λ b. P (tree.Note b)) bs
+each_note P f [] = tt
+each_note P f (b ∷ bs) = (f b, each_note P f bs)

@@ -61,12 +61,12 @@ module _ (ctx : Context) (final : List Slot) (I : List Scope → Type 0) (P : Tr
 
   -- ---- comments and labels
 
-  note_list : (bs : List (List ℕ)) → Holds P (map item.Note bs)
-  note_list [] = hold_none P
-  note_list (b ∷ bs) = hold_more P (item.Note b) (map item.Note bs) (hold_as P (item.Note b) (tree.Note b) (tree-Note b) (c.note b)) (note_list bs)
+  note_list : (bs : List (List ℕ)) → Each (λ b. P (tree.Note b)) bs → Holds P (map item.Note bs)
+  note_list [] h = hold_none P
+  note_list (b ∷ bs) h = hold_more P (item.Note b) (map item.Note bs) (hold_as P (item.Note b) (tree.Note b) (tree-Note b) h.0) (note_list bs h.1)
 
   pub notes_hold : (a : Anchor) → Holds P (notes_at ctx a)
-  notes_hold a = note_list (ctx.notes a)
+  notes_hold a = note_list (ctx.notes a) (c.note a)
 
   behind_notes : (a : Anchor) (xs : List item.Item) → Holds P xs → Holds P (notes_at ctx a ++ xs)
   behind_notes a xs h = hold_both P (notes_at ctx a) xs (notes_hold a) h

@@ -25,14 +25,14 @@ use Rattle.c_resolved.specs.Resolved.{names_in, HasLengths, IsInitialised}
 use Rattle.c_resolved.specs.Scopes.{NamesAreBound}
 use Rattle.c_resolved.specs.Switches.{HasCases}
 use Rattle.c_resolved.specs.Within.{Each, AllDiffer}
-use Rattle.resolving_core.specs.Read.{IsReadFile}
+use Rattle.resolving_core.specs.Read.{IsRead}
 
 -- what holds of each program that resolving answers with these counts, where the source trees of the syntax are those
 -- of a derivation
 abbrev pub GivesWith : FlatCounts → (Program → Type 0) → Type 0
 GivesWith flat P =
     (text : List ℕ) (tokens : List Token) (comments : List Span) (x : Syntax) (p : Program) →
-    let word = word_of text tokens in let xs = file_of word x in IsReadFile word (notes_of text tokens comments xs) xs → resolved flat text tokens comments x ≡ Ok p → P p
+    let word = word_of text tokens in let xs = file_of word x in IsRead word (notes_of text tokens comments xs) xs → resolved flat text tokens comments x ≡ Ok p → P p
 
 abbrev pub Gives : (Program → Type 0) → Type 0
 Gives P = (flat : FlatCounts) → GivesWith flat P

@@ -1,6 +1,6 @@
 -- Source trees as derivations write them: each expression and each statement is one, targets stand where they are
 -- assigned or counted, and lists that the grammar asks for have an element.
-use Rattle.std.specs.Prelude.{ℕ, ◌≡◌, ◌<◌, ◌+◌, Bool, List, [], ◌∷◌, Option, Some, None, IfSome, length}
+use Rattle.std.specs.Prelude.{ℕ, ◌≡◌, ◌≤◌, ◌<◌, ◌+◌, Bool, List, [], ◌∷◌, Option, Some, None, IfSome, length}
 use Rattle.c_lexer.specs.Marks.{mark_of}
 use Rattle.c_source.specs.Terms.{Term, Form, Terms, At, Constant, Variable, Cell, Prefix, Suffix, CastTo, CastVoid, Binary, Choice, Assign, Commas, Call, Texts, Unknown, NoTerm}
 use Rattle.c_source.specs.Terms as terms
@@ -8,11 +8,15 @@ use Rattle.c_source.specs.Items.{Size, NoSize, Unsized, Sized, Initialiser, NoVa
 use Rattle.c_source.specs.Items as items
 use Rattle.c_source.specs.Tops.{Enumerator, Parameter, Function, Top, Line, Enum, Globals, Defines}
 use Rattle.c_source.specs.Tops as tops
+use Rattle.c_source.specs.Words.{character}
 use Rattle.c_kinds.specs.Marks.{step_of}
+use Rattle.c_kinds.specs.Typing.{joined_texts}
 use Rattle.c_statements.specs.Context.{Anchor, Before}
-use Rattle.c_resolved.specs.PrintableExpressions.{IsName}
+use Rattle.c_statements.specs.Measures.{body_depth}
+use Rattle.c_resolved.specs.PrintableExpressions.{IsName, AreBytes}
+use Rattle.c_resolved.specs.Verbatims.{IsComment, IsDirective}
 use Rattle.c_resolved.specs.Within.{Each}
-use Rattle.resolving_core.specs.Counts.{IsFewBody}
+use Rattle.resolving_core.specs.Counts.{IsFew, IsFewDeclaration, IsFewBody}
 
 -- a variable or a cell
 abbrev pub IsTargetForm : Form → Type 0
@@ -38,7 +42,7 @@ module _ (word : ℕ → List ℕ) where
     IsReadTerm (At first form) = IsReadForm form
 
     pub IsReadForm : Form → Type 0
-    IsReadForm (Constant at) = Unit {0}
+    IsReadForm (Constant at) = character (word at) ≤ 255
     IsReadForm (Variable at) = IsNameAt at
     IsReadForm (Cell at i) = IsNameAt at × IsReadTerm i
     IsReadForm (Prefix m a) = FitsStep (step_of (mark_of (word m))) a × IsReadTerm a
@@ -50,7 +54,7 @@ module _ (word : ℕ → List ℕ) where
     IsReadForm (Assign m t a) = IsTarget t × IsReadTerm t × IsReadTerm a
     IsReadForm (Commas a bs) = IsReadTerm a × AreReadTerms bs
     IsReadForm (Call at xs) = IsNameAt at × AreReadTerms xs
-    IsReadForm (Texts ats) = Unit {0}
+    IsReadForm (Texts ats) = AreBytes (joined_texts word ats)
     IsReadForm Unknown = ⊥
 
     pub AreReadTerms : Terms → Type 0
@@ -91,6 +95,7 @@ module _ (word : ℕ → List ℕ) where
   pub record IsReadEnumerator (e : Enumerator) : Type 0 where
     pub named : IsNameAt e.name
     pub value : IfSome e.value IsReadTerm
+    pub few : IfSome e.value (IsFew word 400 3)
 
   pub record IsReadParameter (x : Parameter) : Type 0 where
     pub named : IfSome x.name IsNameAt
@@ -179,17 +184,29 @@ module _ (word : ℕ → List ℕ) (notes : Anchor → List (List ℕ)) where
     pub body : IfSome f.body IsReadBody
     -- the count of the function is that of its longest full expression
     pub few : IfSome f.body (IsFewBody word f.counted)
+    pub most : f.counted ≤ 400
+    pub shallow : IfSome f.body (λ b. body_depth b ≤ 400)
 
   abbrev pub IsReadTopForm : tops.Form → Type 0
   IsReadTopForm Line = Unit {0}
   IsReadTopForm (Enum es) = (0 < length es) × Each (IsReadEnumerator word) es
-  IsReadTopForm (Globals static d) = IsReadDeclaration word d
+  IsReadTopForm (Globals static d) = IsReadDeclaration word d × IsFewDeclaration word 400 d
   IsReadTopForm (Defines f) = IsReadFunction f
   IsReadTopForm tops.Unread = ⊥
 
+  -- a line is an `#include`
+  abbrev pub IsReadLine : ℕ → tops.Form → Type 0
+  IsReadLine first Line = IsDirective (word first)
+  IsReadLine first _ = Unit {0}
+
   abbrev pub IsReadTop : Top → Type 0
-  IsReadTop (tops.From first after form) = IsReadTopForm form
+  IsReadTop (tops.From first after form) = IsReadTopForm form × IsReadLine first form
 
   -- the whole file
   abbrev pub IsReadFile : List Top → Type 0
   IsReadFile xs = Each IsReadTop xs
+
+  -- a file, and its comments
+  pub record IsRead (xs : List Top) : Type 0 where
+    pub file : IsReadFile xs
+    pub comments : (a : Anchor) → Each IsComment (notes a)
