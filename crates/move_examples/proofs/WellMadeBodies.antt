@@ -188,3 +188,9 @@ two_labels = While (Source (variable 0)) (Evaluate (variable 1) ∷ If (Source (
 
 pub two_labels_made : IsWellMade (trees_of two_labels)
 two_labels_made = simp (trees-more, trees-none, tree-Evaluate, tree-Arm, tree-Leap, tree-If, tree-While, tree-Land, tree-Return, test-Source) (search rules)
+
+abbrev pub three_jumps : List Item
+three_jumps = While (Source (variable 0)) (Evaluate (variable 1) ∷ Arm 0 (Some (variable 2)) ∷ Leap 0 ∷ Arm 0 (Some (variable 3)) ∷ Leap 0 ∷ Arm 0 (Some (variable 4)) ∷ Leap 0 ∷ Evaluate (variable 5) ∷ []) ∷ Land 0 ∷ Return (Some (variable 6)) ∷ []
+
+pub three_jumps_made : IsWellMade (trees_of three_jumps)
+three_jumps_made = simp (trees-more, trees-none, tree-Evaluate, tree-Arm, tree-Leap, tree-While, tree-Land, tree-Return, test-Source) (search rules)

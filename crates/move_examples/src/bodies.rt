@@ -281,3 +281,23 @@ pub fn two_labels(alloc: Global) -> Result<List<Item>, Memory>
         ],
     )
 }
+
+/// Three jumps to one label, out of a loop.
+pub fn three_jumps(alloc: Global) -> Result<List<Item>, Memory>
+    ensures { IfOk result (λ b. IsWellMade (trees_of b)) }
+{
+    let body = list(
+        alloc,
+        [
+            evaluate(1),
+            arm(0, 2),
+            Item::Leap(0),
+            arm(0, 3),
+            Item::Leap(0),
+            arm(0, 4),
+            Item::Leap(0),
+            evaluate(5),
+        ],
+    )?;
+    list(alloc, [repeat(0, body), Item::Land(0), answer(6)])
+}

@@ -10,6 +10,8 @@ mod printed;
 #[cfg(test)]
 mod reports;
 #[cfg(test)]
+mod steps;
+#[cfg(test)]
 mod tests;
 #[cfg(test)]
 mod walk;

@@ -181,3 +181,16 @@ fn goes_to_two_labels_out_of_a_loop(rt: HostRuntime) -> Result<(), Fail> {
     );
     Ok(())
 }
+
+#[test]
+fn goes_out_of_a_loop_three_times(rt: HostRuntime) -> Result<(), Fail> {
+    let alloc = rt.alloc();
+    let body = bodies::three_jumps(alloc)?;
+    assert_eq!(rt;
+        report_of(alloc, body)?.as_str(),
+        "out 0 0.b.2\njoin 0 1\nout 0 0.b.2.t.1\nout 0 0.b.3\njoin 0 1\n\
+         out 0 0.b.2.t.1.t.1\nout 0 0.b.2.t.2\nout 0 0.b.3\njoin 0 1\nz2 0 0\nz2 0 0\n\
+         while (off 0 & v0) {v1 arm 0 v2 if (off 0) {arm 0 v3 if (off 0) {arm 0 v4 if (off 0) {v5 } } } } land 0 return v6 "
+    );
+    Ok(())
+}
