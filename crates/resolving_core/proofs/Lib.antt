@@ -43,3 +43,4 @@ pub mod Counted
 pub mod Limited
 pub mod Longest
 pub mod Untangled
+pub mod Printed
