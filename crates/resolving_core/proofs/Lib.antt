@@ -44,3 +44,4 @@ pub mod Limited
 pub mod Longest
 pub mod Untangled
 pub mod Printed
+pub mod PrintedItems

@@ -86,7 +86,7 @@ module _ (slots : List Slot) where
   dropped_prints (T.Array a) h = tt
   dropped_prints T.Wrong h = tt
 
-  zero_prints : IsConstant (Some Int) (pos 0)
+  pub zero_prints : IsConstant (Some Int) (pos 0)
   zero_prints = grind (arith, nat_tests)
 
   constant_prints : (w : List ℕ) → character w ≤ 255 → Printed (constant w)
