@@ -11,7 +11,6 @@ mod one_choice;
 mod one_move;
 
 pub use all_choices::{simplify, simplify_body};
-pub use lawful::lawful_choice;
 pub use naming::name_choices;
 pub use one_choice::apply;
 pub use one_move::apply_one;

@@ -1,4 +1,4 @@
--- As many moves of a derivation are joins as there are jumps before it.
+-- Which functions have a derivation to make; and as many of its moves are joins as there are jumps before it.
 use Rattle.std.proofs.Common.{inl, inr, ◌≡◌, ℕ, ◌+◌, false, cond, List, [], ◌∷◌, ◌++◌, Option, Some, All, refl, sym, ap, subst, ◌∙◌, arith}
 use Rattle.std.proofs.lemmas.List.Sums.{sum_by-append}
 use Rattle.std.proofs.lemmas.List.{map-append}
@@ -7,6 +7,7 @@ use Rattle.c_tree.specs.declared.tree.Item.{Item}
 use Rattle.c_tree.specs.declared.tree.Function.{Function}
 use Rattle.c_tree.specs.declared.tree.Top.{Top}
 use Rattle.c_tree.specs.declared.tree.Top.TheVariants as T
+use Rattle.c_tree.specs.Conversions.{convert}
 use Rattle.c_tree.specs.InRange.{body_of}
 use Rattle.c_tree.specs.Trees.{trees_of}
 use Rattle.c_tree.specs.WellMade.{IsWellMade}
@@ -118,5 +119,10 @@ joins a (mt_more {t = t} {u = u} {ts = ts} {us = us} {ms = ms} {ns = ns} m r) =
     let q = sum_by-append jumps_of (t ∷ []) ts in
     omega (arith, h, i, p, q)
 
+movable : (f : Function) (body : List Item) → f.body ≡ Some body → IsWellMade (convert (body_of f)) → IsMovable f
+movable f body e w =
+    let t : body_of f ≡ trees_of body = ap (λ (o : Option (List Item)). body_of (record f { body = o })) e in
+    record { body = body; body_is = e; well_made = subst IsWellMade (ap convert t ∙ sym (converted_trees body)) w }
+
 pub moved_laws : MovedLaws
-moved_laws = record { joins = λ ts us ms a m. joins a m }
+moved_laws = record { movable = movable; joins = λ ts us ms a m. joins a m }

@@ -6,7 +6,8 @@
 
 ghost use Rattle.derived_functions.specs.Laws.{MovedLaws};
 
-/// In the derivation of a program each jump is joined once.
+/// A flat function whose conversion is well made has a derivation to make, and each of its jumps is joined
+/// once.
 pub fn moved_laws()
     ensures { MovedLaws }
 {}
