@@ -1,0 +1,42 @@
+use Rattle.std.proofs.Common.{◌≡◌, ℕ, not, cond, drop, take, suc, ◌+◌, ◌-◌, ◌*◌, ◌<◌, ◌≤◌, ◌++◌, ◌||◌, ◌∷◌, [], map, length, get_or, true, false, Option, Some, None, option_map, append_assoc, refl, sym, ap, ◌∙◌, rules, arith}
+use Rattle.std.proofs.lemmas.Result.{on_ok_weaker, IfOk-weaker}
+use Rattle.std.proofs.lemmas.List.{at_drop_more, at_drop_all, append-nil, length-map}
+use Rattle.c_tree.specs.Cases.{case_number}
+use Rattle.c_tree.specs.Paths.{list_of}
+use Rattle.c_tree.specs.TestTrees.{test_tree, selector_tree}
+use Rattle.c_tree.specs.declared.tree.Section.{Section}
+use Rattle.c_tree.specs.Trees.{Tree, Forest, Sections, trees_of, sections_of}
+use Rattle.tree_views.specs.Views.{tree_at}
+use Rattle.tree_views.proofs.Views.{at-If, at-For, at-Switch}
+use Rattle.tree_views.proofs.Collecting.{collected, collected_all, collected_in, collected_all_in}
+use Rattle.c_tree.specs.Numerals.{constant}
+use Rattle.loose_core.specs.Loose.{NoArrival}
+use Rattle.loose_core.specs.Pieces.{Stays}
+use Rattle.flat_core.specs.FlatForm.{Plan, flat, coded, numbered, first_here, marks}
+use Rattle.flat_items.specs.Plans.{plan_of, number_at}
+use Rattle.flat_core.specs.FlatForm.{place_in}
+use Rattle.flat_bodies.specs.Codes.{label_codes, with_places}
+use Rattle.flat_bodies.proofs.PlanLaws.{IsCoded, coded_is, numbered_is}
+use Rattle.flat_bodies.proofs.bodies.flat_body.Goals as goal
+
+pub returns-clause-codes : goal.returns-clause-codes
+returns-clause-codes c =
+    let f = c.args.function.now in
+    let a = trees_of c.args.body.now in
+    let n = length f.labels in
+    let isc : IsCoded c.in_ok-coded.coded f.slots n a = record { named = c.in_ok-coded.ensures.named; table = c.in_ok-coded.ensures.table; behind = c.in_ok-coded.ensures.behind; count = c.in_ok-coded.ensures.count; slots_are = c.in_ok-coded.ensures.slots } in
+    let codes = c.in_ok-codes.ensures ∙ ap (λ (p : Plan). marks (flat p (first_here c.len-variables.result) Stays Stays NoArrival a)) (coded_is c.in_ok-coded.coded f.slots n a isc) ∙ ap (λ v. marks (flat (coded constant f.slots n a) (first_here v) Stays Stays NoArrival a)) c.len-variables.ensures.value in
+    codes
+
+pub returns-clause-items : goal.returns-clause-items
+returns-clause-items c =
+    let f = c.args.function.now in
+    let a = trees_of c.args.body.now in
+    let n = length f.labels in
+    let isc : IsCoded c.in_ok-coded.coded f.slots n a = record { named = c.in_ok-coded.ensures.named; table = c.in_ok-coded.ensures.table; behind = c.in_ok-coded.ensures.behind; count = c.in_ok-coded.ensures.count; slots_are = c.in_ok-coded.ensures.slots } in
+    let codes = c.in_ok-codes.ensures ∙ ap (λ (p : Plan). marks (flat p (first_here c.len-variables.result) Stays Stays NoArrival a)) (coded_is c.in_ok-coded.coded f.slots n a isc) ∙ ap (λ v. marks (flat (coded constant f.slots n a) (first_here v) Stays Stays NoArrival a)) c.len-variables.ensures.value in
+    let ls = label_codes f a in
+    let same = λ (m : ℕ). c.in_ok-places.ensures m ∙ ap (λ z. place_in z m) (c.as_slice-list.ensures.value ∙ codes) in
+    c.in_ok-items.ensures ∙ ap (λ p. flat (plan_of p) (first_here c.len-variables.result) Stays Stays NoArrival a) c.with_places-plan.ensures
+    ∙ ap (λ (p : Plan). flat p (first_here c.len-variables.result) Stays Stays NoArrival a) (numbered_is c.in_ok-coded.coded c.in_ok-places.places ls f.slots n a isc same)
+    ∙ ap (λ v. flat (numbered ls (coded constant f.slots n a)) (first_here v) Stays Stays NoArrival a) c.len-variables.ensures.value
