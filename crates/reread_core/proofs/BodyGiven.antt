@@ -54,7 +54,7 @@ behind [] (suc p) k h = refl
 behind (x ∷ xs) (suc p) zero h = absurd (omega (arith, h))
 behind (x ∷ xs) (suc p) (suc k) h = let e : suc k - suc p ≡ k - p = omega arith in ap (slice_get (drop p xs)) e ∙ behind xs p k (omega (arith, h))
 
-counted : (k n : ℕ) → length (numbers_from k n) ≡ n
+pub counted : (k n : ℕ) → length (numbers_from k n) ≡ n
 counted k zero = refl
 counted k (suc n) = ap suc (counted (suc k) n)
 

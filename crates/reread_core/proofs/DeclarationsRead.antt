@@ -200,7 +200,7 @@ well_shaped local most slots (Some c) (Some []) at e v l h = absurd v
 
 -- ---- declared variables
 
-take_next : (k : ℕ) (xs : List Slot) (s : Slot) → slice_get xs k ≡ Some s → take (suc k) xs ≡ take k xs ++ s ∷ []
+pub take_next : (k : ℕ) (xs : List Slot) (s : Slot) → slice_get xs k ≡ Some s → take (suc k) xs ≡ take k xs ++ s ∷ []
 take_next zero [] s e = cc
 take_next (suc k) [] s e = cc
 take_next zero (x ∷ xs) s e = let f : x ≡ s = cc in λ i. f i ∷ []

@@ -1,23 +1,22 @@
 -- The syntax of the derivation of a function writes the function.
-use Rattle.std.proofs.Common.{◌≡◌, ◌+◌, ◌==◌, ℕ, Bool, true, false, cond, List, [], ◌∷◌, ◌++◌, map, length, drop, Option, Some, None, refl, ap, sym, ◌∙◌}
+use Rattle.std.proofs.Common.{◌≡◌, ◌+◌, ℕ, Bool, true, false, cond, List, [], ◌∷◌, ◌++◌, map, drop, Option, Some, None, refl, ap, ◌∙◌}
 use Rattle.c_grammar.specs.declared.syntax.Syntax.{Syntax}
 use Rattle.c_grammar.specs.declared.syntax.Production.TheVariants as p
-use Rattle.c_grammar.specs.Nodes.{node, leaf}
+use Rattle.c_grammar.specs.Nodes.{leaf}
 use Rattle.c_grammar.specs.Expressions.{NumberType}
 use Rattle.c_grammar.specs.ExpressionSyntax.{type_end, type_node, conditional_node}
 use Rattle.c_grammar.specs.Statements.{Size, NoSize, Unsized, Sized, Block, Braces}
-use Rattle.c_grammar.specs.StatementSyntax.{word_end, size_end, more_end, word_parts, size_parts, more_parts, items_end, block_node}
+use Rattle.c_grammar.specs.StatementSyntax.{word_end, size_end, word_parts, size_parts, more_parts}
 use Rattle.c_grammar.specs.Files.{Parameter, Typed, Parameters, NoParameters, VoidParameters, SomeParameters, Function, Defined}
-use Rattle.c_grammar.specs.FileSyntax.{parameter_end, parameters_end, result_end, body_end, function_end, parameter_node, parameters_parts, parameters_node, result_node, body_node, function_node}
+use Rattle.c_grammar.specs.FileSyntax.{parameter_end, parameters_end, result_end, function_end, parameter_node, parameters_parts, parameters_node, result_node, body_node, function_node}
 use Rattle.c_source.specs.Parts.{Part, Content, Leaf, OfType, OfBlock, OfParameter, OfParameters, OfTop, part_of, content, at, first_at, is_token, token_at, gathered, greatest, term_at, parameter, parameter_name, parameter_size, parameter_in, parameters_in, block_in, function, function_of}
 use Rattle.c_source.specs.Parts as parts
 use Rattle.c_source.specs.Items as s
 use Rattle.c_source.specs.Tops as tops
-use Rattle.reread_core.specs.WrittenExpressions.{type_words}
-use Rattle.reread_core.specs.WrittenStatements.{written_size, written_block}
+use Rattle.reread_core.specs.WrittenStatements.{written_size}
 use Rattle.reread_core.specs.WrittenFunctions.{named_at, written_parameter, further_parameters, written_parameters, result_words, written_function_body, function_parts, written_function}
-use Rattle.reread_core.specs.Keywords.{ItemsHaveKeywords}
-use Rattle.reread_core.proofs.ExpressionSources.{part_node, token, token_rule, token_first, type_writes, type_rule, conditional_writes}
+use Rattle.reread_core.specs.Keywords.{BodyHasKeywords, FunctionHasKeywords}
+use Rattle.reread_core.proofs.ExpressionSources.{token, token_rule, token_first, type_writes, type_rule, conditional_writes}
 use Rattle.reread_core.proofs.DeclarationSources.{Known, known, token_content, gathered_none, gathered_some, q, conditional_term_is}
 use Rattle.reread_core.proofs.StatementSources.{block_writes}
 
@@ -95,15 +94,11 @@ module _ (word : ℕ → List ℕ) where
   result_is n None = λ i. cond (is_token (token_rule word n i)) None (Some (token word n).firsts)
   result_is n (Some t) = λ i. cond (is_token (type_rule word n t i)) None (Some (type_writes word n t i))
 
-  abbrev BodyHasKeywords : ℕ → Option Block → Type 0
-  BodyHasKeywords n None = Unit {0}
-  BodyHasKeywords n (Some (Braces xs)) = ItemsHaveKeywords word (n + 1) xs
-
-  body_is : (n : ℕ) (b : Option Block) → BodyHasKeywords n b → block_in (q word (body_node n b)) ≡ written_function_body n b
+  body_is : (n : ℕ) (b : Option Block) → BodyHasKeywords word n b → block_in (q word (body_node n b)) ≡ written_function_body n b
   body_is n None h = λ i. elim (token_content word n i) as (λ _. Option s.Body) [ OfBlock xs ↦ Some (s.Braces (token word n).first (token word n).after xs) | _ ↦ None ]
   body_is n (Some (Braces xs)) h = block_writes word n xs h
 
-  parts_are : (static : Bool) (n : ℕ) (t : Option NumberType) (xs : Parameters) (b : Option Block) → let x = result_end n t in let y = parameters_end (x + 1 + 1) xs in BodyHasKeywords (y + 1) b
+  parts_are : (static : Bool) (n : ℕ) (t : Option NumberType) (xs : Parameters) (b : Option Block) → let x = result_end n t in let y = parameters_end (x + 1 + 1) xs in BodyHasKeywords word (y + 1) b
       → function_of static (r (function_parts n t xs b)) ≡ record { static = static; words = result_words n t; name = x; parameters = written_parameters (x + 1 + 1) xs; body = written_function_body (y + 1) b; counted = greatest (r (function_parts n t xs b)) }
   parts_are static n t xs b h =
       let x = result_end n t in
@@ -117,15 +112,12 @@ module _ (word : ℕ → List ℕ) where
         counted = greatest (r (function_parts n t xs b));
       }
 
-  function_is : (n : ℕ) (static : Bool) (t : Option NumberType) (xs : Parameters) (b : Option Block) → let w = word_end n static in BodyHasKeywords (parameters_end (result_end w t + 1 + 1) xs + 1) b
+  function_is : (n : ℕ) (static : Bool) (t : Option NumberType) (xs : Parameters) (b : Option Block) → let w = word_end n static in BodyHasKeywords word (parameters_end (result_end w t + 1 + 1) xs + 1) b
       → function (r (word_parts n static ++ function_parts w t xs b)) ≡ tops.Defines (written_function word n (Defined static t xs b))
   function_is n true t xs b h = ap tops.Defines (parts_are true (n + 1) t xs b h)
   function_is n false t xs b h = ap tops.Defines (parts_are false n t xs b h)
 
-  abbrev pub FunctionHasKeywords : ℕ → Function → Type 0
-  FunctionHasKeywords n (Defined static t xs b) = BodyHasKeywords (parameters_end (result_end (word_end n static) t + 1 + 1) xs + 1) b
-
-  pub function_known : (n : ℕ) (x : Function) → FunctionHasKeywords n x → Known word (function_node n x) p.Function n (function_end n x) (OfTop (tops.Defines (written_function word n x)))
+  pub function_known : (n : ℕ) (x : Function) → FunctionHasKeywords word n x → Known word (function_node n x) p.Function n (function_end n x) (OfTop (tops.Defines (written_function word n x)))
   function_known n (Defined static t xs b) h =
       let w = word_end n static in
       known word p.Function n (function_end n (Defined static t xs b)) (word_parts n static ++ function_parts w t xs b) (OfTop (tops.Defines (written_function word n (Defined static t xs b)))) (ap OfTop (function_is n static t xs b h))

@@ -32,4 +32,6 @@ pub mod GoodGiven
 pub mod LabelNumbers
 pub mod BodyGiven
 pub mod FunctionSources
+pub mod ParametersRead
+pub mod FunctionsRead
 pub mod TheLaws

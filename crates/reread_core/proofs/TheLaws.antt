@@ -12,6 +12,8 @@ use Rattle.reread_core.proofs.ExpressionSources.{term_is, expression_writes, ass
 use Rattle.reread_core.proofs.DeclarationSources.{local_known}
 use Rattle.reread_core.proofs.StatementSources.{block_writes}
 use Rattle.reread_core.proofs.BodyGiven.{resolved_reads}
+use Rattle.reread_core.proofs.FunctionSources.{function_known}
+use Rattle.reread_core.proofs.FunctionsRead.{function_reads}
 use Rattle.reread_core.proofs.BodyRead.{body_reads}
 use Rattle.reread_core.proofs.FullExpressions.{open_full, assigned_full, chosen_full, reads_whole, stands_tree}
 
@@ -39,4 +41,6 @@ reread_laws = record {
       (chosen_full n ss env tokens h at ps x g (stands_tree n ss env tokens h 3 at ps e s));
   bodies = λ ts f ctx tokens ss k w at depth xs ps words h g p b. body_reads ts f ctx tokens words ss k w at depth xs ps h g p b;
   resolved_bodies = λ counts ts f word notes x tokens ss w at depth body ps h words r st p b. resolved_reads counts ts f word notes x tokens ss w at depth body ps h words r st p b;
+  function = λ word at x h. (function_known word at x h).holds;
+  functions = λ counts ts f word notes tokens ss scopes at ps h words same q b. function_reads counts ts f word notes tokens ss scopes at h words same ps q b;
 }

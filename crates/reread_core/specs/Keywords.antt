@@ -1,10 +1,12 @@
 -- The words of a text are keywords where a derivation has them, and none where it has names and `;`.
-use Rattle.std.specs.Prelude.{◌≡◌, ℕ, ◌+◌, List, Some, None}
+use Rattle.std.specs.Prelude.{◌≡◌, ℕ, ◌+◌, List, Option, Some, None}
 use Rattle.c_grammar.specs.declared.class.Class.TheVariants as c
 use Rattle.c_grammar.specs.TokenClasses.{keyword_class}
 use Rattle.c_grammar.specs.ExpressionSyntax.{expression_end}
-use Rattle.c_grammar.specs.Statements.{Label, NameLabel, CaseLabel, DefaultLabel, Braces, Items, NoItems, LocalItem, StatementItem, Statement, Labelled, Unlabelled, Plain, Compound, Simple, If, IfElse, While, DoWhile, For, Switch, Goto, Break, Continue, Return}
-use Rattle.c_grammar.specs.StatementSyntax.{local_end, label_end, for_start_end, optional_end, statement_end}
+use Rattle.c_grammar.specs.Statements.{Block, Label, NameLabel, CaseLabel, DefaultLabel, Braces, Items, NoItems, LocalItem, StatementItem, Statement, Labelled, Unlabelled, Plain, Compound, Simple, If, IfElse, While, DoWhile, For, Switch, Goto, Break, Continue, Return}
+use Rattle.c_grammar.specs.StatementSyntax.{word_end, local_end, label_end, for_start_end, optional_end, statement_end}
+use Rattle.c_grammar.specs.Files.{Function, Defined}
+use Rattle.c_grammar.specs.FileSyntax.{parameters_end, result_end}
 
 abbrev pub LabelHasKeyword : (ℕ → List ℕ) → ℕ → Label → Type 0
 LabelHasKeyword word at NameLabel = keyword_class (word at) ≡ c.Foreign
@@ -37,3 +39,12 @@ abbrev mutual
   PlainHasKeywords word at Break = keyword_class (word at) ≡ c.Break
   PlainHasKeywords word at Continue = keyword_class (word at) ≡ c.Continue
   PlainHasKeywords word at (Return o) = keyword_class (word at) ≡ c.Return
+
+-- ---- functions
+
+abbrev pub BodyHasKeywords : (ℕ → List ℕ) → ℕ → Option Block → Type 0
+BodyHasKeywords word at None = Unit {0}
+BodyHasKeywords word at (Some (Braces xs)) = ItemsHaveKeywords word (at + 1) xs
+
+abbrev pub FunctionHasKeywords : (ℕ → List ℕ) → ℕ → Function → Type 0
+FunctionHasKeywords word at (Defined static n xs b) = BodyHasKeywords word (parameters_end (result_end (word_end at static) n + 1 + 1) xs + 1) b

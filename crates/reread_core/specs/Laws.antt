@@ -42,6 +42,27 @@ use Rattle.reread_core.specs.Words.{AreWords}
 use Rattle.reread_core.specs.Places.{IsPlace, IsExpressionOf, Standing}
 use Rattle.reread_core.specs.GoodItems.{AreGood, slots_in}
 use Rattle.reread_core.specs.PlacedNotes.{NotesOfBody}
+use Rattle.std.specs.Prelude.{Bool, cond, is_some, take, Option, None, option_map}
+use Rattle.c_tree.specs.declared.tree.Slot.{Slot}
+use Rattle.c_tree.specs.Text.{function_text}
+use Rattle.c_grammar.specs.Files as files
+use Rattle.c_grammar.specs.StatementSyntax.{word_end}
+use Rattle.c_grammar.specs.FileSyntax.{parameters_end, result_end, function_end, function_node}
+use Rattle.c_source.specs.Items.{Body}
+use Rattle.c_source.specs.Parts.{OfTop}
+use Rattle.c_kinds.specs.declared.binding.Want.{Want}
+use Rattle.c_kinds.specs.declared.binding.Want.TheVariants as want
+use Rattle.c_kinds.specs.Scopes as kinds
+use Rattle.c_statements.specs.Functions.{want_of, function_of, tangle_fault, function_faults}
+use Rattle.c_resolved.specs.Scopes.{inside, AreNewParameters, BodyIsBound}
+use Rattle.c_resolved.specs.Spelling.{FunctionIsSpelled}
+use Rattle.c_resolved.specs.PrintablePrograms.{FunctionPrints}
+use Rattle.printed_syntax.specs.ExpressionDerivations.{type_of}
+use Rattle.printed_syntax.specs.FileDerivations.{parameters_of}
+use Rattle.printed_syntax.specs.FileDerivations as derivation
+use Rattle.reread_core.specs.Bindings.{AreSameScopes}
+use Rattle.reread_core.specs.Keywords.{FunctionHasKeywords}
+use Rattle.reread_core.specs.WrittenFunctions.{written_function}
 
 -- ---- expressions
 
@@ -85,6 +106,45 @@ pub record ResolvedBodyReads (ts : List Top) (f : Function) (word : ℕ → List
   pub names : distinct (map word (body_labels (written_block at (items_of f.slots (trees_of body) NoItems)) [])) ≡ f.labels
   pub once : (vs : Faults) → twice_faults word (body_labels (written_block at (items_of f.slots (trees_of body) NoItems)) []) vs ≡ vs
 
+-- ---- functions
+
+-- a function that prints, in these scopes, in which its own name is bound
+pub record IsFunction (counts : FlatCounts) (ts : List Top) (f : Function) (ss : List Scope) : Type 0 where
+  pub resolved : IsResolvedFunction counts ts f
+  pub spelled : FunctionIsSpelled f
+  pub prints : FunctionPrints f
+  pub parameters : AreNewParameters f.params 0 f.slots (inside ss)
+  pub bound : BodyIsBound f ss f.body
+
+-- the Notes of the body stand where they are printed; the body begins at this token
+abbrev pub NotesOfFunction : Function → (Anchor → List (List ℕ)) → ℕ → Option (List Item) → Type 0
+NotesOfFunction f notes at None = Unit {0}
+NotesOfFunction f notes at (Some body) = NotesOfBody f.slots notes at (trees_of body)
+
+-- the token behind the brackets of the parameters
+abbrev pub body_at : ℕ → Function → ℕ
+body_at at f = parameters_end (result_end (word_end at f.file_only) (option_map type_of f.result) + 1 + 1) (parameters_of (take f.params f.slots)) + 1
+
+-- the violation of a function with a body that is too tangled, if it is
+abbrev pub measured : (List Item → Option (ℕ × ℕ)) → (ℕ → List ℕ) → tops.Function → Option Body → Option (List Item) → Faults → Faults
+measured flat word x (Some b) (Some items) vs = tangle_fault flat word x b items vs
+measured flat word x _ _ vs = vs
+
+-- what a function in a file takes
+abbrev pub wants_in : Bool → List Slot → List Want
+wants_in external xs = map (λ (s : Slot). cond (is_some s.cells) (want.Array s.kind s.constant external) (want.Number s.kind s.constant)) xs
+
+-- it reads back, and has no violation but that it may be too tangled
+pub record FunctionReads (f : Function) (word : ℕ → List ℕ) (notes : Anchor → List (List ℕ)) (tokens : List Spelling) (scopes : List kinds.Scope) (at : ℕ) (ps : List Piece) : Type 0 where
+  pub keywords : FunctionHasKeywords word at (derivation.function_of f)
+  pub function : function_of word notes (written_function word at (derivation.function_of f)) scopes ≡ f
+  pub name : word (written_function word at (derivation.function_of f)).name ≡ f.name
+  pub result : result_kind word (written_function word at (derivation.function_of f)) ≡ f.result
+  pub wants : (external : Bool) → map (want_of word external) (written_function word at (derivation.function_of f)).parameters ≡ wants_in external (take f.params f.slots)
+  pub clear : (flat : List Item → Option (ℕ × ℕ)) (vs : Faults) → function_faults flat word notes (written_function word at (derivation.function_of f)) scopes vs
+      ≡ measured flat word (written_function word at (derivation.function_of f)) (written_function word at (derivation.function_of f)).body f.body vs
+  pub behind : Stands tokens (function_end at (derivation.function_of f)) ps
+
 pub record RereadLaws : Type 0 where
   -- what the syntax of a derivation writes
   pub expression : (word : ℕ → List ℕ) (at : ℕ) (e : g.Expression) → term_of word (expression_node at e) ≡ At at (expression_form at e)
@@ -104,3 +164,7 @@ pub record RereadLaws : Type 0 where
   pub resolved_bodies : (counts : FlatCounts) (ts : List Top) (f : Function) (word : ℕ → List ℕ) (notes : Anchor → List (List ℕ)) (x : tops.Function) (tokens : List Spelling) (ss : List Scope) (w : Walk) (at depth : ℕ) (body : List Item) (ps : List Piece)
       → IsBody counts ts f ss body → AreWords word tokens → result_kind word x ≡ f.result → Standing (names_in ts f) ss f.params w → NotesOfBody f.slots notes at (trees_of body) → Stands tokens at (braced (map (printed f) body) depth ps)
       → ResolvedBodyReads ts f word notes x tokens ss w at body ps
+  -- what the syntax of a function writes, and the printed text of a function reads back as the function
+  pub function : (word : ℕ → List ℕ) (at : ℕ) (x : files.Function) → FunctionHasKeywords word at x → (part_of word (function_node at x)).content ≡ OfTop (tops.Defines (written_function word at x))
+  pub functions : (counts : FlatCounts) (ts : List Top) (f : Function) (word : ℕ → List ℕ) (notes : Anchor → List (List ℕ)) (tokens : List Spelling) (ss : List Scope) (scopes : List kinds.Scope) (at : ℕ) (ps : List Piece)
+      → IsFunction counts ts f ss → AreWords word tokens → AreSameScopes (names_in ts f) ss scopes → NotesOfFunction f notes (body_at at f) f.body → Stands tokens at (function_text f ps) → FunctionReads f word notes tokens scopes at ps

@@ -1,12 +1,12 @@
 -- What the derivations of functions write (ISO/IEC 9899:2011, 6.9.1), from the number of the first token on.
-use Rattle.std.specs.Prelude.{ℕ, ◌+◌, Bool, true, false, cond, List, [], ◌∷◌, ◌++◌, map, Option, Some, None, option_map}
+use Rattle.std.specs.Prelude.{ℕ, ◌+◌, Bool, true, false, List, [], ◌∷◌, map, Option, Some, None}
 use Rattle.c_grammar.specs.declared.syntax.Syntax.{Syntax}
 use Rattle.c_grammar.specs.Nodes.{leaf}
 use Rattle.c_grammar.specs.Expressions.{NumberType}
 use Rattle.c_grammar.specs.ExpressionSyntax.{type_end}
 use Rattle.c_grammar.specs.Statements.{Block, Braces}
 use Rattle.c_grammar.specs.StatementSyntax.{word_end}
-use Rattle.c_grammar.specs.Files.{Parameter, Typed, Parameters, NoParameters, VoidParameters, SomeParameters, Function, Defined}
+use Rattle.c_grammar.specs.Files.{Parameter, Typed, Parameters, SomeParameters, Function, Defined}
 use Rattle.c_grammar.specs.FileSyntax.{parameter_end, parameters_end, result_end, result_node, parameters_node, body_node}
 use Rattle.c_source.specs.Parts.{part_of, greatest}
 use Rattle.c_source.specs.Items.{Body}
