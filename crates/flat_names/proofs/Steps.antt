@@ -1,0 +1,50 @@
+-- Names given one after another.
+use Rattle.std.proofs.Common.{◌≡◌, ℕ, zero, suc, ◌+◌, ◌-◌, ◌<◌, ◌≤◌, Bool, true, false, List, [], ◌∷◌, ◌++◌, length, drop, get_or, nat_lt, append_assoc, arith, refl, sym, ap, ◌∙◌}
+use Rattle.std.proofs.lemmas.List.{at_drop_more, at_drop_all, append-nil}
+use Rattle.c_tree.specs.declared.tree.Slot.{Slot}
+use Rattle.flat_names.specs.declared.constructs.Construct.{Construct}
+use Rattle.flat_names.specs.declared.giving.Given.{Given}
+use Rattle.flat_names.specs.declared.giving.Made.{Made}
+use Rattle.flat_names.specs.declared.variables.Named.{Named}
+use Rattle.flat_names.specs.FlatNames.{name_case, name_cases, name_construct, name_constructs, naming, label_of, chosen, used_then, label_names, with_slot, before_named, slot_named, slot_taken, slot_used, named_slots}
+
+pub cases_step : (k i n : ℕ) (g : Given) → i < n → name_cases k (i + 1) (n - i) g ≡ name_cases k (i + 1 + 1) (n - (i + 1)) (name_case k (i + 1) g)
+cases_step k i n g h = let e : n - i ≡ suc (n - (i + 1)) = omega arith in ap (λ m. name_cases k (i + 1) m g) e
+
+pub cases_end : (k i n : ℕ) (g : Given) → n ≤ i → name_cases k (i + 1) (n - i) g ≡ g
+cases_end k i n g h = let e : n - i ≡ 0 = omega arith in ap (λ m. name_cases k (i + 1) m g) e
+
+pub constructs_step : (cs : List Construct) (i : ℕ) (g : Given) (d : Construct) → i < length cs → name_constructs (i + 1) (drop i cs) g ≡ name_constructs (i + 1 + 1) (drop (i + 1) cs) (name_construct (i + 1) (get_or cs i d) g)
+constructs_step cs i g d h = at_drop_more (λ z. name_constructs (i + 1) z g) cs i d h
+
+pub constructs_end : (cs : List Construct) (i : ℕ) (g : Given) → length cs ≤ i → name_constructs (i + 1) (drop i cs) g ≡ g
+constructs_end cs i g h = at_drop_all (λ z. name_constructs (i + 1) z g) cs i h
+
+pub labels_step : (labels : List (List ℕ)) (m : Made) (used : List (List ℕ)) (cs : List ℕ) (i d : ℕ) (out : List (List ℕ)) → i < length cs
+    → (let n = naming labels m (label_of (length labels) (get_or cs i d)) in out ++ label_names labels m used (drop i cs) ≡ (out ++ chosen n used ∷ []) ++ label_names labels m (used_then n used) (drop (i + 1) cs))
+labels_step labels m used cs i d out h =
+    let n = naming labels m (label_of (length labels) (get_or cs i d)) in
+    ap (λ z. out ++ z) (at_drop_more (label_names labels m used) cs i d h) ∙ sym (append_assoc out (chosen n used ∷ []) (label_names labels m (used_then n used) (drop (i + 1) cs)))
+
+pub labels_end : (labels : List (List ℕ)) (m : Made) (used : List (List ℕ)) (cs : List ℕ) (i : ℕ) (out : List (List ℕ)) → length cs ≤ i → out ++ label_names labels m used (drop i cs) ≡ out
+labels_end labels m used cs i out h = ap (λ z. out ++ z) (at_drop_all (label_names labels m used) cs i h) ∙ append-nil out
+
+same_named : {a b : List Slot} {u v : List (List ℕ)} → a ≡ b → u ≡ v → (let n : Named = record { slots = a; used = u } in n) ≡ record { slots = b; used = v }
+same_named e f = cc
+
+moved : (out : List Slot) (s : Slot) (n : Named) → before_named out (with_slot s n) ≡ before_named (out ++ s ∷ []) n
+moved out s n = same_named (sym (append_assoc out (s ∷ []) n.slots)) refl
+
+pub slots_end : (params : ℕ) (taken used : List (List ℕ)) (ss : List Slot) (i : ℕ) (out : List Slot) → length ss ≤ i → before_named out (named_slots (params - i) taken used (drop i ss)) ≡ record { slots = out; used = used }
+slots_end params taken used ss i out h = ap (before_named out) (at_drop_all (named_slots (params - i) taken used) ss i h) ∙ same_named (append-nil out) refl
+
+pub slots_step : (params : ℕ) (taken used : List (List ℕ)) (ss : List Slot) (i : ℕ) (s : Slot) (p : Bool) (out : List Slot) → i < length ss → s ≡ get_or ss i s → nat_lt 0 (params - i) ≡ p
+    → before_named out (named_slots (params - i) taken used (drop i ss)) ≡ before_named (out ++ slot_named p taken used s ∷ []) (named_slots (params - (i + 1)) (slot_taken p taken used s) (slot_used p taken used s) (drop (i + 1) ss))
+slots_step params taken used ss i s p out h e q =
+    let rest = drop (i + 1) ss in
+    let f : params - i - 1 ≡ params - (i + 1) = omega arith in
+    ap (before_named out) (at_drop_more (named_slots (params - i) taken used) ss i s h
+    ∙ ap (λ z. with_slot (slot_named (nat_lt 0 (params - i)) taken used z) (named_slots (params - i - 1) (slot_taken (nat_lt 0 (params - i)) taken used z) (slot_used (nat_lt 0 (params - i)) taken used z) rest)) (sym e)
+    ∙ ap (λ b. with_slot (slot_named b taken used s) (named_slots (params - i - 1) (slot_taken b taken used s) (slot_used b taken used s) rest)) q
+    ∙ ap (λ n. with_slot (slot_named p taken used s) (named_slots n (slot_taken p taken used s) (slot_used p taken used s) rest)) f)
+    ∙ moved out (slot_named p taken used s) (named_slots (params - (i + 1)) (slot_taken p taken used s) (slot_used p taken used s) rest)

@@ -1,0 +1,10 @@
+//! The names that a flat form makes: of variables, and of labels.
+#![tactic(auto)]
+
+mod constructs;
+mod giving;
+mod labels;
+mod variables;
+mod whole;
+
+pub use whole::{FlatNames, name_flat};
