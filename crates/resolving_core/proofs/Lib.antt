@@ -45,3 +45,4 @@ pub mod Longest
 pub mod Untangled
 pub mod Printed
 pub mod PrintedItems
+pub mod SpelledTrees
