@@ -34,4 +34,5 @@ pub mod BodyGiven
 pub mod FunctionSources
 pub mod ParametersRead
 pub mod FunctionsRead
+pub mod FileSources
 pub mod TheLaws

@@ -14,6 +14,7 @@ use Rattle.reread_core.proofs.StatementSources.{block_writes}
 use Rattle.reread_core.proofs.BodyGiven.{resolved_reads}
 use Rattle.reread_core.proofs.FunctionSources.{function_known}
 use Rattle.reread_core.proofs.FunctionsRead.{function_reads}
+use Rattle.reread_core.proofs.FileSources.{file_writes}
 use Rattle.reread_core.proofs.BodyRead.{body_reads}
 use Rattle.reread_core.proofs.FullExpressions.{open_full, assigned_full, chosen_full, reads_whole, stands_tree}
 
@@ -43,4 +44,5 @@ reread_laws = record {
   resolved_bodies = λ counts ts f word notes x tokens ss w at depth body ps h words r st p b. resolved_reads counts ts f word notes x tokens ss w at depth body ps h words r st p b;
   function = λ word at x h. (function_known word at x h).holds;
   functions = λ counts ts f word notes tokens ss scopes at ps h words same q b. function_reads counts ts f word notes tokens ss scopes at h words same ps q b;
+  files = file_writes;
 }

@@ -63,6 +63,9 @@ use Rattle.printed_syntax.specs.FileDerivations as derivation
 use Rattle.reread_core.specs.Bindings.{AreSameScopes}
 use Rattle.reread_core.specs.Keywords.{FunctionHasKeywords}
 use Rattle.reread_core.specs.WrittenFunctions.{written_function}
+use Rattle.c_grammar.specs.FileSyntax.{file_node}
+use Rattle.c_source.specs.Parts.{file_of}
+use Rattle.reread_core.specs.WrittenFiles.{written_tops, FileHasKeywords}
 
 -- ---- expressions
 
@@ -168,3 +171,5 @@ pub record RereadLaws : Type 0 where
   pub function : (word : ℕ → List ℕ) (at : ℕ) (x : files.Function) → FunctionHasKeywords word at x → (part_of word (function_node at x)).content ≡ OfTop (tops.Defines (written_function word at x))
   pub functions : (counts : FlatCounts) (ts : List Top) (f : Function) (word : ℕ → List ℕ) (notes : Anchor → List (List ℕ)) (tokens : List Spelling) (ss : List Scope) (scopes : List kinds.Scope) (at : ℕ) (ps : List Piece)
       → IsFunction counts ts f ss → AreWords word tokens → AreSameScopes (names_in ts f) ss scopes → NotesOfFunction f notes (body_at at f) f.body → Stands tokens at (function_text f ps) → FunctionReads f word notes tokens scopes at ps
+  -- what the syntax of a file writes
+  pub files : (word : ℕ → List ℕ) (xs : List files.Top) → FileHasKeywords word 0 xs → file_of word (file_node xs) ≡ written_tops word 0 xs

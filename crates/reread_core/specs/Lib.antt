@@ -5,6 +5,7 @@ pub mod Places
 pub mod WrittenStatements
 pub mod Keywords
 pub mod WrittenFunctions
+pub mod WrittenFiles
 pub mod GoodItems
 pub mod PlacedNotes
 pub mod Laws
