@@ -7,21 +7,23 @@ ghost use Rattle.c_statements.specs.Functions as spec;
 ghost use Rattle.c_scopes.specs.BlockViews.{block_form};
 
 use crate::blocks::Block;
-use c_bodies::{FunctionContext, State};
+use c_bodies::{FunctionContext, State, function_body};
+use c_source::BodyLayer;
 use c_tree::Item;
 use c_types::{List, Memory};
 use std::alloc::Global;
 
 /// The items of a function's body, behind its parameters.
 pub fn read_block<'n, 'a>(
-    _alloc: Global,
-    _ctx: &FunctionContext<'n, 'a>,
-    _state: &mut State<'a>,
-    _body: Block,
+    alloc: Global,
+    ctx: &FunctionContext<'n, 'a>,
+    state: &mut State<'a>,
+    body: Block,
 ) -> Result<List<Item>, Memory>
-    ensures walk { OnOk result (walk_of _state.new ≡ spec.behind_body (context_of _ctx.now) (block_form (words_of _ctx.now.words) _body.entry) (walk_of _state.old)) }
-    ensures items { IfOk result (λ items. items ≡ spec.body_items (context_of _ctx.now) (block_form (words_of _ctx.now.words) _body.entry) (walk_of _state.old)) }
-    ensures faults { OnOk result (_state.new.faults ≡ spec.body_faults (context_of _ctx.now) (block_form (words_of _ctx.now.words) _body.entry) (walk_of _state.old) _state.old.faults) }
+    ensures walk { OnOk result (walk_of state.new ≡ spec.behind_body (context_of ctx.now) (block_form (words_of ctx.now.words) body.entry) (walk_of state.old)) }
+    ensures items { IfOk result (λ items. items ≡ spec.body_items (context_of ctx.now) (block_form (words_of ctx.now.words) body.entry) (walk_of state.old)) }
+    ensures faults { OnOk result (state.new.faults ≡ spec.body_faults (context_of ctx.now) (block_form (words_of ctx.now.words) body.entry) (walk_of state.old) state.old.faults) }
 {
-    Err(Memory)
+    let list = BodyLayer::Braces(body.first, body.after, body.items);
+    function_body(alloc, ctx, state, list)
 }

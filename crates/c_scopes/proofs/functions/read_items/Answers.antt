@@ -14,7 +14,7 @@ returns-clause-walk c =
     let block = block_form word c.args.body in
     let same : record { word = word; notes = notes_of c.args.outside.now.notes.now; labels = c.args.numbers.now; result = c.result_kind.result } ≡ context word (notes_of c.args.outside.now.notes.now) (function_form word c.args.f) block
     = λ i. record { word = word; notes = notes_of c.args.outside.now.notes.now; labels = c.requires i; result = c.result_kind.ensures i } in
-    subst (λ ctx. OnOk c.read_block.result (walk_of c.read_block.new._state ≡ behind_body ctx block (walk_of c.args.state.now))) same c.read_block.ensures.walk
+    subst (λ ctx. OnOk c.read_block.result (walk_of c.read_block.new.state ≡ behind_body ctx block (walk_of c.args.state.now))) same c.read_block.ensures.walk
 
 pub returns-clause-faults : goal.returns-clause-faults
 returns-clause-faults c =
@@ -22,4 +22,4 @@ returns-clause-faults c =
     let block = block_form word c.args.body in
     let same : record { word = word; notes = notes_of c.args.outside.now.notes.now; labels = c.args.numbers.now; result = c.result_kind.result } ≡ context word (notes_of c.args.outside.now.notes.now) (function_form word c.args.f) block
     = λ i. record { word = word; notes = notes_of c.args.outside.now.notes.now; labels = c.requires i; result = c.result_kind.ensures i } in
-    subst (λ ctx. OnOk c.read_block.result (c.read_block.new._state.faults ≡ body_faults ctx block (walk_of c.args.state.now) c.args.state.now.faults)) same c.read_block.ensures.faults
+    subst (λ ctx. OnOk c.read_block.result (c.read_block.new.state.faults ≡ body_faults ctx block (walk_of c.args.state.now) c.args.state.now.faults)) same c.read_block.ensures.faults
