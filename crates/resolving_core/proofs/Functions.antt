@@ -144,7 +144,7 @@ pub record IsFine (s : Slot) : Type 0 where
   pub length : IsLength s.cells
   pub named : IsName s.name
 
-declared_fine : (ctx : Context) (k : Kinded) (d : Declarator) (w : Walk) → IsReadDeclarator ctx.word d → local_faults ctx.word k d w [] ≡ [] → IsFine (slot_of (env_in ctx.word w) k d)
+pub declared_fine : (ctx : Context) (k : Kinded) (d : Declarator) (w : Walk) → IsReadDeclarator ctx.word d → local_faults ctx.word k d w [] ≡ [] → IsFine (slot_of (env_in ctx.word w) k d)
 declared_fine ctx k d w r e =
     let p = local_parts ctx.word k d w e in
     record { length = (array_fine ctx.word (λ t. placeholder) true (env_in ctx.word w) d p.size r.value p.array).0; named = r.named }

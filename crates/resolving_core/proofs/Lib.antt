@@ -46,3 +46,4 @@ pub mod Untangled
 pub mod Printed
 pub mod PrintedItems
 pub mod SpelledTrees
+pub mod SpelledFunctions

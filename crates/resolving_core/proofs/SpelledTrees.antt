@@ -72,9 +72,15 @@ module _ (Q : ℕ → Type 0) where
     marks_in NoSection h = tt
     marks_in (Section cases default a ends c) h = (marks_are a (front (gathered marked_label a) (gathered_in marked_label c) h), marks_in c (back (gathered marked_label a) (gathered_in marked_label c) h))
 
-pub numbers_below : (n i : ℕ) → Each (λ l. l < i + n) (numbers_from i n)
+numbers_below : (n i : ℕ) → Each (λ l. l < i + n) (numbers_from i n)
 numbers_below zero i = tt
 numbers_below (suc n) i = (omega arith, subst (λ k. Each (λ l. l < k) (numbers_from (suc i) n)) (omega arith) (numbers_below n (suc i)))
+
+none_before : (n : ℕ) → 0 + n ≡ n
+none_before n = omega arith
+
+pub numbers_all : (n : ℕ) → Each (λ l. l < n) (numbers_from 0 n)
+numbers_all n = subst (λ k. Each (λ l. l < k) (numbers_from 0 n)) (none_before n) (numbers_below n 0)
 
 name_at : (ls : List (List ℕ)) (l : ℕ) → Each IsName ls → l < length ls → IsName (unwrap_or (slice_get ls l) [])
 name_at [] l h k = absurd (omega arith)

@@ -25,11 +25,11 @@ at_most : (a b : ℕ) → nat_lt a b ≡ false → b ≤ a
 at_most a b e = grind (arith, nat_tests)
 
 module _ (ctx : Context) (K : ℕ) where
-  record Bounded (b : Body) (w : Walk) : Type 0 where
-    shallow : depth (trees_of (body_items ctx b w)) + 1 ≤ body_depth b
-    few : most_counted (trees_of (body_items ctx b w)) ≤ K
+  pub record Bounded (b : Body) (w : Walk) : Type 0 where
+    pub shallow : depth (trees_of (body_items ctx b w)) + 1 ≤ body_depth b
+    pub few : most_counted (trees_of (body_items ctx b w)) ≤ K
 
-  body_bounded : (b : Body) (w : Walk) → IsFewBody ctx.word K b → Bounded b w
+  pub body_bounded : (b : Body) (w : Walk) → IsFewBody ctx.word K b → Bounded b w
   body_bounded (Braces first after xs) w h =
       let l = short_both ctx K (list_depth xs) (list_items ctx xs w) (notes_at ctx (AtEnd first)) (list_short ctx K xs w (list_depth xs) h (omega arith)) (short_notes ctx K (list_depth xs) (AtEnd first)) in
       record { shallow = let z = l.shallow in omega arith; few = l.few }
