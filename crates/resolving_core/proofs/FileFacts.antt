@@ -50,8 +50,15 @@ use Rattle.resolving_core.proofs.Values.{IsSound}
 use Rattle.resolving_core.proofs.Known.{Knows}
 use Rattle.resolving_core.proofs.Lists.{none_left, and_left, and_right, not_true, not_false, clean_if, each_append}
 use Rattle.resolving_core.proofs.Parts.{parted}
-use Rattle.resolving_core.specs.Read.{IsReadInitialiser, IsReadTerm, IsReadDeclarator, IsReadEnumerator, IsReadTopForm, IsReadFile}
+use Rattle.resolving_core.specs.Read.{IsReadInitialiser, IsReadTerm, IsReadDeclarator, IsReadEnumerator, IsReadTopForm, IsReadLine, IsReadFile}
 use Rattle.resolving_core.proofs.Uses.{constant_is_value}
+use Rattle.c_statements.specs.Declarations.{slot_of}
+use Rattle.c_resolved.specs.PrintablePrograms.{EnumeratorsPrint}
+use Rattle.c_resolved.specs.Spelling.{TopIsSpelled}
+use Rattle.c_resolved.specs.Verbatims.{IsComment}
+use Rattle.resolving_core.specs.Counts.{IsFewDeclarator}
+use Rattle.resolving_core.proofs.SpelledFiles.{enum_spelled, constant_spelled, variable_spelled}
+use Rattle.resolving_core.proofs.SpelledFunctions.{function_is_spelled}
 
 -- ---- constants
 
@@ -134,8 +141,8 @@ module _ (file : File) (ts : List Top) (known : IsDefined (defined file) ts []) 
   -- the values of constants, each by the one before
   pub values_have : (es : List Enumerator) (o : Option ℤ) (before : ℤ) → o ≡ Some before → (scopes : List Scope) (done : List Top) (fs : Scope) (rs : Scopes.Scope) → let env : Env = record { word = file.word; scopes = scopes } in
       Shaped scopes fs → Each (IsReadEnumerator file.word) es → enum_faults es o env [] ≡ [] → Inv (defined file) done fs rs → Reaches (behind_enum es o env).scopes
-      → HaveValues ts before (enum_items es o env) × AreNotMain (enum_items es o env) × ConstantsAreBound (tree_scopes rs) (enum_items es o env)
-  values_have [] o before q scopes done fs rs s r e i h = (tt, tt, tt)
+      → HaveValues ts before (enum_items es o env) × AreNotMain (enum_items es o env) × ConstantsAreBound (tree_scopes rs) (enum_items es o env) × EnumeratorsPrint (enum_items es o env)
+  values_have [] o before q scopes done fs rs s r e i h = (tt, tt, tt, tt)
   values_have (x ∷ es) o before q scopes done fs rs s r e i h =
       let env : Env = record { word = file.word; scopes = scopes } in
       let p = enum_parts x es o env e in
@@ -153,6 +160,7 @@ module _ (file : File) (ts : List Top) (known : IsDefined (defined file) ts []) 
         (k.2 (enum_item x v env) value, ranged, subst (λ w. HaveValues ts w (enum_items es v (enumerated x v env))) (sym value) rest.0),
         (p.name.other, rest.1),
         ((new_of_tree fs rs m i.same new, p.name.unknown), given_bound ts (tree_scopes rs) env here x.name x.value o r.0.value p.value, rest.2),
+        (constant_spelled ts (tree_scopes rs) env here x v r.0, rest.3),
       )
 
   -- ---- variables
@@ -174,10 +182,10 @@ module _ (file : File) (ts : List Top) (known : IsDefined (defined file) ts []) 
   GlobalFact _ = Unit {0}
 
   pub globals_are : (static : Bool) (k : Kinded) (ds : List Declarator) (scopes : List Scope) (done : List Top) (fs : Scope) (rs : Scopes.Scope) → let env : Env = record { word = file.word; scopes = scopes } in
-      Shaped scopes fs → Each (IsReadDeclarator file.word) ds → globals_faults k ds env [] ≡ [] → Inv (defined file) done fs rs → Reaches (behind_globals k ds env).scopes
-      → Each GlobalFact (globals static k ds env) × Each MainIsFormed (globals static k ds env) × TopsAreBound (tree_scopes rs) (globals static k ds env)
-  globals_are static k [] scopes done fs rs s r e i h = (tt, tt, tt)
-  globals_are static k (d ∷ ds) scopes done fs rs s r e i h =
+      Shaped scopes fs → Each (IsReadDeclarator file.word) ds → Each (IsFewDeclarator file.word 400) ds → globals_faults k ds env [] ≡ [] → Inv (defined file) done fs rs → Reaches (behind_globals k ds env).scopes
+      → Each GlobalFact (globals static k ds env) × Each MainIsFormed (globals static k ds env) × TopsAreBound (tree_scopes rs) (globals static k ds env) × Each TopIsSpelled (globals static k ds env)
+  globals_are static k [] scopes done fs rs s r few e i h = (tt, tt, tt, tt)
+  globals_are static k (d ∷ ds) scopes done fs rs s r few e i h =
       let env : Env = record { word = file.word; scopes = scopes } in
       let p = globals_parts k d ds env e in
       let q = global_parts k d env p.0 in
@@ -190,10 +198,12 @@ module _ (file : File) (ts : List Top) (known : IsDefined (defined file) ts []) 
       let s' = bound_shaped scopes fs m b s in
       let all = globals_step (defined file) static k ds inner (done ++ T.Global (global static k d env) ∷ []) (with_name m b fs) rs' s' p.1 next in
       let here = knowing inner (with_name m b fs) rs' s' (grows_twice (with_name m b fs) all.fs' z.last all.grows (h all.fs' all.shaped)) next.same in
-      let rest = globals_are static k ds inner.scopes (done ++ T.Global (global static k d env) ∷ []) (with_name m b fs) rs' s' r.1 p.1 next h in (
-        (one_is static k d scopes (with_name m b fs) rs' r.0 q here, rest.0),
+      let rest = globals_are static k ds inner.scopes (done ++ T.Global (global static k d env) ∷ []) (with_name m b fs) rs' s' r.1 few.1 p.1 next h in
+      let one = one_is static k d scopes (with_name m b fs) rs' r.0 q here in (
+        (one, rest.0),
         (q.name.other, rest.1),
         (((new_of_tree fs rs m i.same new, q.name.unknown), all_given ts (tree_scopes rs') inner here d r.0.value q.values), rest.2),
+        (variable_spelled ts (tree_scopes rs') inner here (slot_of env k d) d r.0.named r.0 few.0 one.length one.values, rest.3),
       )
 
 -- ---- main
@@ -220,7 +230,7 @@ either_true false b e h = absurd (true≢false (sym h))
 
 -- ---- all that stands at file scope
 
-module _ (file : File) (ts : List Top) (known : (slots : List Slot) → IsDefined (defined file) ts slots) where
+module _ (file : File) (ts : List Top) (known : (slots : List Slot) → IsDefined (defined file) ts slots) (comments : (a : Anchor) → Each IsComment (file.notes a)) where
   -- what is proved of each part
   abbrev pub TopHolds : Top → Type 0
   TopHolds (T.Enum xs) = HaveValues ts (negsuc 0) xs
@@ -229,7 +239,7 @@ module _ (file : File) (ts : List Top) (known : (slots : List Slot) → IsDefine
   TopHolds _ = Unit {0}
 
   abbrev pub Hold : List Top → Type 0
-  Hold xs = Each TopHolds xs × Each MainIsFormed xs
+  Hold xs = Each TopHolds xs × Each MainIsFormed xs × Each TopIsSpelled xs
 
   -- and the names of each are bound, from these scopes on
   abbrev pub HoldFrom : List Scopes.Scope → List Top → Type 0
@@ -240,11 +250,11 @@ module _ (file : File) (ts : List Top) (known : (slots : List Slot) → IsDefine
   bound_both ss (x ∷ xs) ys h k = (h.0, bound_both (Scopes.behind_top ss x) xs ys h.1 k)
 
   hold_both : (ss : List Scopes.Scope) (xs ys : List Top) → HoldFrom ss xs → HoldFrom (behind_tops (defined file) ss xs) ys → HoldFrom ss (xs ++ ys)
-  hold_both ss xs ys h k = ((each_append TopHolds xs ys h.0.0 k.0.0, each_append MainIsFormed xs ys h.0.1 k.0.1), bound_both ss xs ys h.1 k.1)
+  hold_both ss xs ys h k = ((each_append TopHolds xs ys h.0.0 k.0.0, each_append MainIsFormed xs ys h.0.1 k.0.1, each_append TopIsSpelled xs ys h.0.2 k.0.2), bound_both ss xs ys h.1 k.1)
 
-  notes_hold : (ss : List Scopes.Scope) (bs : List (List ℕ)) → HoldFrom ss (map T.Note bs)
-  notes_hold ss [] = ((tt, tt), tt)
-  notes_hold ss (b ∷ bs) = let r = notes_hold ss bs in (((tt, r.0.0), (tt, r.0.1)), (tt, r.1))
+  notes_hold : (ss : List Scopes.Scope) (bs : List (List ℕ)) → Each IsComment bs → HoldFrom ss (map T.Note bs)
+  notes_hold ss [] h = ((tt, tt, tt), tt)
+  notes_hold ss (b ∷ bs) h = let r = notes_hold ss bs h.1 in (((tt, r.0.0), (tt, r.0.1), (h.0, r.0.2)), (tt, r.1))
 
   -- a function is declared once, or again
   function_named : (at : ℕ) (again : Bool) (s : Signature) (m : List ℕ) (scopes : List Scope) (fs : Scope) (rs : Scopes.Scope) → Shaped scopes fs → Same fs rs → again_faults at again s (bound m scopes) [] ≡ [] → IsFunctionName m (tree_scopes rs)
@@ -269,28 +279,30 @@ module _ (file : File) (ts : List Top) (known : (slots : List Slot) → IsDefine
       head [] = []
       head (s ∷ ss) = s
 
-  form_holds : (done : List Top) (first : ℕ) (form : Form) (s : State) (p : Place file done s.scopes) → IsReadTopForm file.word file.notes form → (e : form_faults file form s [] ≡ [])
+  form_holds : (done : List Top) (first : ℕ) (form : Form) (s : State) (p : Place file done s.scopes) → IsReadTopForm file.word file.notes form → IsReadLine file.word file.notes first form → (e : form_faults file form s [] ≡ [])
       → (now : Scope) → Shaped (behind_form file form s).scopes now → (names : Scopes.Scope) → behind_tops (defined file) (tree_scopes p.rs) (form_tops file first form s) ≡ tree_scopes names → Same now names → (z : AtEnd file ts now)
       → HoldFrom (tree_scopes p.rs) (form_tops file first form s)
-  form_holds done first Line s p r e now h names tree same z = (((tt, tt), (tt, tt)), (tt, tt))
-  form_holds done first (Enum es) s p r e now h names tree same z =
+  form_holds done first Line s p r line e now h names tree same z = (((tt, tt), (tt, tt), (line, tt)), (tt, tt))
+  form_holds done first (Enum es) s p r line e now h names tree same z =
       let v = values_have file ts (known []) now z es (Some (negsuc 0)) (negsuc 0) refl s.scopes done p.fs p.rs p.shaped r.1 e p.inv (λ fs k. subst (λ a. Grows a z.last) (same_head _ now fs h k) z.grows) in
-      (((v.0, tt), (v.1, tt)), (v.2, tt))
-  form_holds done first (Globals static d) s p r e now h names tree same z =
+      (((v.0, tt), (v.1, tt), (enum_spelled es (Some (negsuc 0)) (env_of file s) r.0 v.3, tt)), (v.2, tt))
+  form_holds done first (Globals static d) s p r line e now h names tree same z =
       let k = kinded file.word d in
-      let v = globals_are file ts (known []) now z static k d.names s.scopes done p.fs p.rs p.shaped r.0 e p.inv (λ fs k. subst (λ a. Grows a z.last) (same_head _ now fs h k) z.grows) in
-      ((globals_hold now z static k d.names (env_of file s) v.0, v.1), v.2)
-  form_holds done first (Defines f) s p r e now h names tree same z =
+      let v = globals_are file ts (known []) now z static k d.names s.scopes done p.fs p.rs p.shaped r.0 r.1 e p.inv (λ fs k. subst (λ a. Grows a z.last) (same_head _ now fs h k) z.grows) in
+      ((globals_hold now z static k d.names (env_of file s) v.0, v.1, v.3), v.2)
+  form_holds done first (Defines f) s p r line e now h names tree same z =
       let q = function_parts file f s e in
       let scopes = (function_declared file f s).scopes in
       let m = file.word f.name in
       let named = function_name file.word file.notes f scopes f.body in
       let knows : (slots : List Slot) → Knows (record { tops = ts; slots = slots }) (tree_scopes names) (record { word = file.word; scopes = scopes })
       = λ slots. subst (λ sc. Knows (record { tops = ts; slots = slots }) (tree_scopes names) (record { word = file.word; scopes = sc })) (sym h) (place_knows file ts slots (known slots) now z now names z.grows same) in
+      let holds = resolves file.flat file.word file.notes f scopes ts r q.1 (λ slots. (tree_scopes names, knows slots)) in
       let b = function_is_bound file.flat file.word file.notes f scopes ts (tree_scopes names) knows r q.1 in (
         (
-          ((resolves file.flat file.word file.notes f scopes ts r q.1 (λ slots. (tree_scopes names, knows slots))), tt),
+          (holds, tt),
           (λ k. main_by file.word file.notes f scopes f.body (either_true (bytes_eq m (codes "main")) (is_main_form file.word f) q.0.main (ap (λ w. bytes_eq w (codes "main")) (sym named) ∙ k)), tt),
+          (function_is_spelled file.flat file.word file.notes f scopes ts comments r q.1 (λ slots. (tree_scopes names, knows slots)) holds, tt),
         ),
         (
           record {
@@ -302,10 +314,10 @@ module _ (file : File) (ts : List Top) (known : (slots : List Slot) → IsDefine
           tt,
         ),
       )
-  form_holds done first Unread s p r e now h names tree same z = absurd r
+  form_holds done first Unread s p r line e now h names tree same z = absurd r
 
   pub file_holds : (xs : List tops.Top) (s : State) (done : List Top) (p : Place file done s.scopes) → IsReadFile file.word file.notes xs → file_faults file xs s [] ≡ [] → ts ≡ done ++ tops_of file xs s → HoldFrom (tree_scopes p.rs) (tops_of file xs s)
-  file_holds [] s done p r e a = notes_hold (tree_scopes p.rs) (file.notes Last)
+  file_holds [] s done p r e a = notes_hold (tree_scopes p.rs) (file.notes Last) (comments Last)
   file_holds (tops.From first after form ∷ xs) s done p r e a =
       let q = file_parts file first after form xs s e in
       let bs = file.notes (Before first) in
@@ -319,8 +331,8 @@ module _ (file : File) (ts : List Top) (known : (slots : List Slot) → IsDefine
       let z = subst (λ l. AtEnd file l v.fs') (sym a') (at_end file xs (behind_form file form s) (done ++ new) place r.1 q.1) in
       let ss = tree_scopes p.rs in
       let quiet = notes_behind (defined file) ss bs in
-      let here = form_holds noted_done first form s (noted file done s.scopes bs p) r.0.0 q.0 v.fs' v.shaped v.rs' v.tree v.inv.same z in
-      let front = hold_both ss (map T.Note bs) forms (notes_hold ss bs) (subst (λ x. HoldFrom x forms) (sym quiet) here) in
+      let here = form_holds noted_done first form s (noted file done s.scopes bs p) r.0.0 r.0.1 q.0 v.fs' v.shaped v.rs' v.tree v.inv.same z in
+      let front = hold_both ss (map T.Note bs) forms (notes_hold ss bs (comments (Before first))) (subst (λ x. HoldFrom x forms) (sym quiet) here) in
       hold_both ss new rest front (subst (λ x. HoldFrom x rest) (sym (behind_both ss (map T.Note bs) forms ∙ (ap (λ x. behind_tops (defined file) x forms) quiet ∙ v.tree))) (file_holds xs (behind_form file form s) (done ++ new) place r.1 q.1 a'))
     where
       behind_both : (ss : List Scopes.Scope) (xs ys : List Top) → behind_tops (defined file) ss (xs ++ ys) ≡ behind_tops (defined file) (behind_tops (defined file) ss xs) ys

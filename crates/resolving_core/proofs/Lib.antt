@@ -47,3 +47,4 @@ pub mod Printed
 pub mod PrintedItems
 pub mod SpelledTrees
 pub mod SpelledFunctions
+pub mod SpelledFiles

@@ -119,7 +119,7 @@ dropped_few env need t q = by (typed env t) (measured env t)
     by (T.Array a) h = placeholder_few need _ q
     by T.Wrong h = placeholder_few need _ q
 
-constant_few : (env : Env) (need : ℕ) (t : Term) → need ≤ 14 → counted_at need (expression_tree (constant_at env t)) ≤ term_counted env.word t + bracket_count (term_level env.word t) need
+pub constant_few : (env : Env) (need : ℕ) (t : Term) → need ≤ 14 → counted_at need (expression_tree (constant_at env t)) ≤ term_counted env.word t + bracket_count (term_level env.word t) need
 constant_few env need t q = by (typed env t) (measured env t)
   where
     by : (x : kinds.Typed) → Measured (term_counted env.word t) (term_level env.word t) x → counted_at need (expression_tree (constant_or_placeholder (constant_of x))) ≤ term_counted env.word t + bracket_count (term_level env.word t) need

@@ -27,6 +27,9 @@ use Rattle.c_tree.specs.Trees.{Nil, trees_of}
 use Rattle.std.specs.Prelude.{IfSome}
 use Rattle.std.specs.Option.{option_map_or}
 use Rattle.resolving_core.specs.Read.{IsReadFile}
+use Rattle.c_statements.specs.Context.{Anchor}
+use Rattle.c_resolved.specs.Spelling.{IsSpelled}
+use Rattle.c_resolved.specs.Verbatims.{IsComment}
 use Rattle.resolving_core.proofs.Bodies.{file_bodies}
 use Rattle.resolving_core.proofs.Declarations.{file_once, settled, declarations_agree}
 use Rattle.resolving_core.proofs.FileFacts.{TopHolds, HoldFrom, file_holds}
@@ -58,7 +61,7 @@ answered text tokens q p (Some v) e = absurd (true≢false (sym (ap is_ok e)))
 -- ---- the whole file
 
 module _ (file : File) (xs : List tops.Top) (bodies : (m : List ℕ) → defined file m ≡ has_function (bodies_of file.word xs) m)
-    (r : IsReadFile file.word file.notes xs) (e : file_faults file xs start [] ≡ []) where
+    (r : IsReadFile file.word file.notes xs) (comments : (a : Anchor) → Each IsComment (file.notes a)) (e : file_faults file xs start [] ≡ []) where
   abbrev all : List Top
   all = tops_of file xs start
 
@@ -73,8 +76,8 @@ module _ (file : File) (xs : List tops.Top) (bodies : (m : List ℕ) → defined
   pub known : (slots : List Slot) → IsDefined (defined file) all slots
   known slots m = file_bodies file m xs start ∙ sym (bodies m)
 
-  pub held : HoldFrom file all known (tree_scopes []) all
-  held = file_holds file all known xs start [] first_place r e refl
+  pub held : HoldFrom file all known comments (tree_scopes []) all
+  held = file_holds file all known comments xs start [] first_place r e refl
 
   pub declared : DeclarationsAgree all
   declared = declarations_agree all (settled file all [] (at_end file xs start [] first_place r e)) (file_once file xs start [] first_place r e (λ m. refl)).once
@@ -87,34 +90,36 @@ pub record Answered (flat : FlatCounts) (p : Program) : Type 0 where
   pub declarations : DeclarationsAgree p.tops
   pub constants : Each (HasConstants p.tops) p.tops
   pub bound : NamesAreBound p.tops
+  pub spelled : IsSpelled p
   pub functions : Each (OfFunction (Resolves flat p.tops)) p.tops
 
-module _ (file : File) (ts : List Top) (known : (slots : List Slot) → IsDefined (defined file) ts slots) where
-  one_constant : (t : Top) → TopHolds file ts known t → HasConstants ts t
+module _ (file : File) (ts : List Top) (known : (slots : List Slot) → IsDefined (defined file) ts slots) (comments : (a : Anchor) → Each IsComment (file.notes a)) where
+  one_constant : (t : Top) → TopHolds file ts known comments t → HasConstants ts t
   one_constant (T.Enum es) h = h
   one_constant (T.Global g) h = h
   one_constant (T.Function f) h = tt
   one_constant (T.Include bs) h = tt
   one_constant (T.Note bs) h = tt
 
-  one_function : (t : Top) → TopHolds file ts known t → OfFunction (Resolves file.flat ts) t
+  one_function : (t : Top) → TopHolds file ts known comments t → OfFunction (Resolves file.flat ts) t
   one_function (T.Function f) h = h
   one_function (T.Enum es) h = tt
   one_function (T.Global g) h = tt
   one_function (T.Include bs) h = tt
   one_function (T.Note bs) h = tt
 
-file_answered : (file : File) (xs : List tops.Top) → ((m : List ℕ) → defined file m ≡ has_function (bodies_of file.word xs) m) → IsReadFile file.word file.notes xs → file_faults file xs start [] ≡ [] → Answered file.flat (program_of file xs)
-file_answered file xs bodies r e =
+file_answered : (file : File) (xs : List tops.Top) → ((m : List ℕ) → defined file m ≡ has_function (bodies_of file.word xs) m) → IsReadFile file.word file.notes xs → ((a : Anchor) → Each IsComment (file.notes a)) → file_faults file xs start [] ≡ [] → Answered file.flat (program_of file xs)
+file_answered file xs bodies r c e =
     let ts = tops_of file xs start in
-    let k = known file xs bodies r e in
-    let h = held file xs bodies r e in
+    let k = known file xs bodies r c e in
+    let h = held file xs bodies r c e in
     record {
       main = h.0.1;
       bound = h.1;
-      declarations = declared file xs bodies r e;
-      constants = each_map (TopHolds file ts k) (HasConstants ts) (one_constant file ts k) ts h.0.0;
-      functions = each_map (TopHolds file ts k) (OfFunction (Resolves file.flat ts)) (one_function file ts k) ts h.0.0;
+      declarations = declared file xs bodies r c e;
+      spelled = h.0.2;
+      constants = each_map (TopHolds file ts k c) (HasConstants ts) (one_constant file ts k c) ts h.0.0;
+      functions = each_map (TopHolds file ts k c) (OfFunction (Resolves file.flat ts)) (one_function file ts k c) ts h.0.0;
     }
 
 pub all_answered : (flat : FlatCounts) → GivesWith flat (Answered flat)
@@ -123,7 +128,7 @@ all_answered flat text tokens comments x p r e =
     let xs = file_of word x in
     let file = file_at flat text tokens comments xs in
     let a = answered text tokens (program_of file xs) p (violation_of file xs) e in
-    subst (Answered flat) a.1 (file_answered file xs (λ m. refl) r.file (none_reported (file_faults file xs start []) a.0))
+    subst (Answered flat) a.1 (file_answered file xs (λ m. refl) r.file r.comments (none_reported (file_faults file xs start []) a.0))
 
 of_map : (P Q : Function → Type 0) → ((f : Function) → P f → Q f) → (t : Top) → OfFunction P t → OfFunction Q t
 of_map P Q g (T.Function f) h = g f h
@@ -150,6 +155,7 @@ is_untangled counts flat c ts f r = by f.body refl
 
 pub resolving_laws : ResolvingLaws
 resolving_laws = record {
+  spelled = λ flat text tokens comments x p r e. (all_answered flat text tokens comments x p r e).spelled;
   main = λ flat text tokens comments x p r e. (all_answered flat text tokens comments x p r e).main;
   declarations = λ flat text tokens comments x p r e. (all_answered flat text tokens comments x p r e).declarations;
   bound = λ flat text tokens comments x p r e. (all_answered flat text tokens comments x p r e).bound;

@@ -23,6 +23,7 @@ use Rattle.c_resolved.specs.Limits.{IsUntangled}
 use Rattle.c_resolved.specs.Kinds.{ItemAgrees, KeepsConsts, ReturnFits}
 use Rattle.c_resolved.specs.Resolved.{names_in, HasLengths, IsInitialised}
 use Rattle.c_resolved.specs.Scopes.{NamesAreBound}
+use Rattle.c_resolved.specs.Spelling.{IsSpelled}
 use Rattle.c_resolved.specs.Switches.{HasCases}
 use Rattle.c_resolved.specs.Within.{Each, AllDiffer}
 use Rattle.resolving_core.specs.Read.{IsRead}
@@ -79,5 +80,7 @@ pub record ResolvingLaws : Type 0 where
   pub cases : Gives (λ p. Functions (λ ts f. Everywhere HasCases (body_of f)) p)
   -- the labels of a function differ
   pub labels : Gives (λ p. Functions (λ ts f. AllDiffer f.labels) p)
+  -- names and constants are spelled as C spells them, within the limits of a text
+  pub spelled : Gives (λ p. IsSpelled p)
   -- a function with jumps is not too tangled
   pub untangled : (counts : Limits.FlatCounts) (flat : FlatCounts) → AreCounts flat counts → GivesWith flat (λ p. Functions (λ ts f. IsUntangled counts f) p)
