@@ -28,6 +28,7 @@ use Rattle.std.specs.Prelude.{IfSome}
 use Rattle.std.specs.Option.{option_map_or}
 use Rattle.resolving_core.specs.Read.{IsReadFile}
 use Rattle.c_statements.specs.Context.{Anchor}
+use Rattle.c_resolved.specs.Resolved.{IsResolvedFunction, IsResolvedTop, IsResolvedWith}
 use Rattle.c_resolved.specs.Spelling.{IsSpelled}
 use Rattle.c_resolved.specs.Verbatims.{IsComment}
 use Rattle.resolving_core.proofs.Bodies.{file_bodies}
@@ -153,8 +154,43 @@ is_untangled counts flat c ts f r = by f.body refl
         each None i j = subst (λ o. IfSome o (IsWithinLimits f)) (sym i ∙ j) tt
         each (Some n) i j = subst (λ o. IfSome o (IsWithinLimits f)) (sym i ∙ j) (r.untangled xs e n i)
 
+-- all that is resolved
+function_resolved : (counts : Limits.FlatCounts) (flat : FlatCounts) → AreCounts flat counts → (ts : List Top) (f : Function) → Resolves flat ts f → IsResolvedFunction counts ts f
+function_resolved counts flat c ts f r = record {
+  form = r.form;
+  kinds = r.kinds;
+  returns = r.returns;
+  cases = r.cases;
+  consts = r.consts;
+  lengths = r.lengths;
+  initialised = r.initialised;
+  untangled = is_untangled counts flat c ts f r;
+}
+
+module _ (counts : Limits.FlatCounts) (flat : FlatCounts) (c : AreCounts flat counts) (ts : List Top) where
+  top_resolved : (t : Top) → HasConstants ts t → OfFunction (Resolves flat ts) t → IsResolvedTop counts ts t
+  top_resolved (T.Function f) h k = function_resolved counts flat c ts f k
+  top_resolved (T.Enum es) h k = h
+  top_resolved (T.Global v) h k = h
+  top_resolved (T.Include bs) h k = tt
+  top_resolved (T.Note bs) h k = tt
+
+  tops_resolved : (xs : List Top) → Each (HasConstants ts) xs → Each (OfFunction (Resolves flat ts)) xs → Each (IsResolvedTop counts ts) xs
+  tops_resolved [] h k = tt
+  tops_resolved (x ∷ xs) h k = (top_resolved x h.0 k.0, tops_resolved xs h.1 k.1)
+
+program_resolved : (counts : Limits.FlatCounts) (flat : FlatCounts) → AreCounts flat counts → (p : Program) → Answered flat p → IsResolvedWith counts p
+program_resolved counts flat c p a = record {
+  spelled = a.spelled;
+  bound = a.bound;
+  declarations = a.declarations;
+  main = a.main;
+  tops = tops_resolved counts flat c p.tops p.tops a.constants a.functions;
+}
+
 pub resolving_laws : ResolvingLaws
 resolving_laws = record {
+  resolved = λ counts flat c text tokens comments x p r e. program_resolved counts flat c p (all_answered flat text tokens comments x p r e);
   spelled = λ flat text tokens comments x p r e. (all_answered flat text tokens comments x p r e).spelled;
   main = λ flat text tokens comments x p r e. (all_answered flat text tokens comments x p r e).main;
   declarations = λ flat text tokens comments x p r e. (all_answered flat text tokens comments x p r e).declarations;

@@ -21,15 +21,15 @@ use Rattle.c_resolved.specs.Form.{HasForm}
 use Rattle.c_resolved.specs.Limits as Limits
 use Rattle.c_resolved.specs.Limits.{IsUntangled}
 use Rattle.c_resolved.specs.Kinds.{ItemAgrees, KeepsConsts, ReturnFits}
-use Rattle.c_resolved.specs.Resolved.{names_in, HasLengths, IsInitialised}
+use Rattle.c_resolved.specs.Resolved.{names_in, HasLengths, IsInitialised, IsResolvedWith}
 use Rattle.c_resolved.specs.Scopes.{NamesAreBound}
 use Rattle.c_resolved.specs.Spelling.{IsSpelled}
 use Rattle.c_resolved.specs.Switches.{HasCases}
 use Rattle.c_resolved.specs.Within.{Each, AllDiffer}
 use Rattle.resolving_core.specs.Read.{IsRead}
 
--- what holds of each program that resolving answers with these counts, where the source trees of the syntax are those
--- of a derivation
+-- what holds of each program that resolving answers with these counts, where the source trees of the syntax and the
+-- comments are as derivations and the lexer give them
 abbrev pub GivesWith : FlatCounts → (Program → Type 0) → Type 0
 GivesWith flat P =
     (text : List ℕ) (tokens : List Token) (comments : List Span) (x : Syntax) (p : Program) →
@@ -58,6 +58,9 @@ pub record AreCounts (flat : FlatCounts) (counts : Limits.FlatCounts) : Type 0 w
   pub none : counts Nil ≡ None
 
 pub record ResolvingLaws : Type 0 where
+  -- all that is asked of a resolved program
+  pub resolved : (counts : Limits.FlatCounts) (flat : FlatCounts) → AreCounts flat counts → GivesWith flat (IsResolvedWith counts)
+  -- ---- and each part of it
   -- nothing is called `main` but `int main(void)`, and the declarations of each function agree
   pub main : Gives (λ p. Each MainIsFormed p.tops)
   pub declarations : Gives (λ p. DeclarationsAgree p.tops)
