@@ -134,7 +134,7 @@ constant_is (t.Typed (Some kind) y) v k c e =
 -- ---- lengths
 
 -- the length of a slot
-abbrev length_of : Option ℕ → Length
+abbrev pub length_of : Option ℕ → Length
 length_of None = lengths.NoLength
 length_of (Some c) = lengths.Constant (Some (pos c))
 
@@ -148,7 +148,7 @@ pub array_is : (at : ℕ) (cells : Option ℕ) → is_array (written_size at (si
 array_is at None = refl
 array_is at (Some c) = refl
 
-extent_is : (cells : Option ℕ) (value : s.Initialiser) → IsLength cells → cells_of (extent_of (length_of cells) value) ≡ cells
+pub extent_is : (cells : Option ℕ) (value : s.Initialiser) → IsLength cells → cells_of (extent_of (length_of cells) value) ≡ cells
 extent_is None value h = refl
 extent_is (Some c) value h = ap (λ o. cells_of (of_length o)) (bounds c h)
 
@@ -179,7 +179,7 @@ further_count [] at = refl
 further_count (x ∷ xs) at = ap suc (further_count xs (assignment_end (at + 1) (assignment_of x)))
 
 -- no more than there are cells, and not too many
-well_shaped : (local : Bool) (most : ℕ) (slots : List Slot) (cells : Option ℕ) (given : Option (List ExpressionTree)) (at : ℕ) → (local ≡ true → most ≡ 1024) → ValuesPrint slots cells given → IsLength cells → IfSome given (AreInitialisers most cells)
+pub well_shaped : (local : Bool) (most : ℕ) (slots : List Slot) (cells : Option ℕ) (given : Option (List ExpressionTree)) (at : ℕ) → (local ≡ true → most ≡ 1024) → ValuesPrint slots cells given → IsLength cells → IfSome given (AreInitialisers most cells)
     → is_bad_shape local (length_of cells) (written_value at (given_of cells given)) ≡ false
 well_shaped local most slots None None at e v l h = refl
 well_shaped local most slots None (Some (x ∷ [])) at e v l h = refl

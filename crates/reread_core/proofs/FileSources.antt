@@ -1,19 +1,19 @@
 -- The syntax of the derivation of a file writes the file.
-use Rattle.std.proofs.Common.{◌≡◌, ◌+◌, ◌==◌, ℕ, Bool, true, false, cond, List, [], ◌∷◌, ◌++◌, map, length, Option, Some, None, refl, ap, sym, ◌∙◌}
+use Rattle.std.proofs.Common.{◌≡◌, ◌+◌, ℕ, Bool, true, false, List, [], ◌∷◌, ◌++◌, map, Option, Some, None, refl, ap, ◌∙◌}
 use Rattle.c_grammar.specs.declared.syntax.Syntax.{Syntax}
 use Rattle.c_grammar.specs.declared.syntax.Production.{Production}
 use Rattle.c_grammar.specs.declared.syntax.Production.TheVariants as p
-use Rattle.c_grammar.specs.Nodes.{node, leaf}
+use Rattle.c_grammar.specs.Nodes.{leaf}
 use Rattle.c_grammar.specs.Expressions.{Conditional}
 use Rattle.c_grammar.specs.Statements.{Local}
 use Rattle.c_grammar.specs.StatementSyntax.{word_end, rest_end, local_end, word_parts, rest_parts, local_node}
-use Rattle.c_grammar.specs.Files.{Enumeration, Enumerated, Declaration, Declares, Function, Top, Line, OfEnum, OfDeclaration, OfFunction}
-use Rattle.c_grammar.specs.FileSyntax.{constant_end, enumerator_end, enumeration_end, declaration_end, function_end, top_end, file_end, constant_parts, enumerator_node, enumeration_node, declaration_node, function_node, top_node, file_parts, file_node}
-use Rattle.c_source.specs.Parts.{Part, Content, Leaf, OfEnumerator, OfTop, OfFile, part_of, content, gathered, enumerator, enumerator_in, globals, declaration_in, top_in, file_of, tops_in}
+use Rattle.c_grammar.specs.Files.{Enumeration, Enumerated, Declares, Top, Line, OfEnum, OfDeclaration, OfFunction}
+use Rattle.c_grammar.specs.FileSyntax.{enumerator_end, enumeration_end, declaration_end, function_end, top_end, file_end, constant_parts, enumerator_node, enumeration_node, declaration_node, function_node, top_node, file_parts, file_node}
+use Rattle.c_source.specs.Parts.{Part, Content, Leaf, OfEnumerator, OfTop, OfFile, part_of, gathered, enumerator, enumerator_in, globals, declaration_in, top_in, file_of, tops_in}
 use Rattle.c_source.specs.Tops as s
 use Rattle.reread_core.specs.WrittenStatements.{written_declaration}
 use Rattle.reread_core.specs.WrittenFunctions.{written_function}
-use Rattle.reread_core.specs.WrittenFiles.{written_constant, written_enumerator, further_enumerators, written_enumeration, written_form, written_tops, TopHasKeywords, FileHasKeywords}
+use Rattle.reread_core.specs.WrittenFiles.{written_enumerator, further_enumerators, written_enumeration, written_form, written_tops, TopHasKeywords, FileHasKeywords}
 use Rattle.reread_core.proofs.ExpressionSources.{part_node, token, token_first}
 use Rattle.reread_core.proofs.DeclarationSources.{Known, known, token_content, gathered_none, gathered_some, q, conditional_term_is, local_known}
 use Rattle.reread_core.proofs.FunctionSources.{function_known}
@@ -52,7 +52,7 @@ module _ (word : ℕ → List ℕ) where
       let rest = r (rest_parts enumerator_end enumerator_node y xs trailing ++ leaf z ∷ []) in
       known word p.Enum n (z + 1) (leaf n ∷ leaf (n + 1) ∷ enumerator_node (n + 1 + 1) x ∷ rest_parts enumerator_end enumerator_node y xs trailing ++ leaf z ∷ []) (OfTop (s.Enum (written_enumeration n (Enumerated x xs trailing))))
       (ap (λ l. OfTop (s.Enum l)) (no_token n (token word (n + 1) ∷ q word (enumerator_node (n + 1 + 1) x) ∷ rest) ∙ no_token (n + 1) (q word (enumerator_node (n + 1 + 1) x) ∷ rest)
-        ∙ one_enumerator (n + 1 + 1) x rest ∙ ap (λ l. written_enumerator (n + 1 + 1) x ∷ l) (further_are xs y trailing z)))
+      ∙ one_enumerator (n + 1 + 1) x rest ∙ ap (λ l. written_enumerator (n + 1 + 1) x ∷ l) (further_are xs y trailing z)))
 
   -- ---- variables
 

@@ -98,7 +98,7 @@ module _ (n : Names) (ctx : Context) (tokens : List Spelling) (here : AreWords c
 
 -- ---- the head of a function
 
-static_read : (slots : List Slot) (tokens : List Spelling) (the_word : ℕ → List ℕ) → AreWords the_word tokens → (b : Bool) (at : ℕ) (ps : List Piece) → Stands tokens at ((only_if b (word (codes "static") ⨾ space)) ps) → Stands tokens (word_end at b) ps
+pub static_read : (slots : List Slot) (tokens : List Spelling) (the_word : ℕ → List ℕ) → AreWords the_word tokens → (b : Bool) (at : ℕ) (ps : List Piece) → Stands tokens at ((only_if b (word (codes "static") ⨾ space)) ps) → Stands tokens (word_end at b) ps
 static_read slots tokens the_word here true at ps s = (word_here slots tokens the_word here at (codes "static") (space ps) s).1
 static_read slots tokens the_word here false at ps s = s
 

@@ -139,7 +139,7 @@ section_cases [] false = refl
 section_cases (x ∷ xs) default = ap (λ l. x ∷ l) (section_cases xs default)
 
 -- a constant is an operand
-constant_operand : (x : ExpressionTree) → IsConstant x → IsOperand x
+pub constant_operand : (x : ExpressionTree) → IsConstant x → IsOperand x
 constant_operand (e.Typed kind (e.Text bytes)) h = absurd h
 constant_operand (e.Typed kind (e.Array a)) h = absurd h
 constant_operand (e.Typed kind _) h = tt

@@ -35,4 +35,5 @@ pub mod FunctionSources
 pub mod ParametersRead
 pub mod FunctionsRead
 pub mod FileSources
+pub mod GlobalsRead
 pub mod TheLaws

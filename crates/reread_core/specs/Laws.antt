@@ -1,5 +1,5 @@
 -- The laws of this crate: what is printed of a resolved program reads back as it was.
-use Rattle.std.specs.Prelude.{◌≡◌, ◌+◌, ℕ, List, [], map, Some}
+use Rattle.std.specs.Prelude.{◌≡◌, ◌+◌, ℕ, List, [], ◌∷◌, map, Some}
 use Rattle.c_tree.specs.declared.tree.Expression.{Expression, out-Expression}
 use Rattle.c_tree.specs.ExpressionTrees.{ExpressionTree, expression_tree}
 use Rattle.c_tree.specs.declared.tree.Function.{Function}
@@ -42,6 +42,21 @@ use Rattle.reread_core.specs.Words.{AreWords}
 use Rattle.reread_core.specs.Places.{IsPlace, IsExpressionOf, Standing}
 use Rattle.reread_core.specs.GoodItems.{AreGood, slots_in}
 use Rattle.reread_core.specs.PlacedNotes.{NotesOfBody}
+use Rattle.c_tree.specs.declared.tree.Top.TheVariants as T
+use Rattle.c_tree.specs.declared.tree.GlobalVariable.{GlobalVariable}
+use Rattle.c_tree.specs.Trees.{expression_trees}
+use Rattle.c_tree.specs.Text.{global_text}
+use Rattle.c_grammar.specs.FileSyntax.{declaration_end}
+use Rattle.c_source.specs.Items.{Declaration}
+use Rattle.c_statements.specs.Declarations.{kinded}
+use Rattle.c_scopes.specs.Globals.{behind_globals, globals, globals_faults}
+use Rattle.c_resolved.specs.Names.{the_global}
+use Rattle.c_resolved.specs.Files.{IsGlobal, IsNotMain}
+use Rattle.c_resolved.specs.Scopes.{behind_top, TopIsBound}
+use Rattle.c_resolved.specs.PrintableStatements.{DeclaratorPrints}
+use Rattle.printed_syntax.specs.StatementDerivations.{declaration_of}
+use Rattle.printed_syntax.specs.FileDerivations.{global_of}
+use Rattle.reread_core.specs.Bindings.{IsInScope}
 use Rattle.std.specs.Prelude.{Bool, cond, is_some, take, Option, None, option_map}
 use Rattle.c_tree.specs.declared.tree.Slot.{Slot}
 use Rattle.c_tree.specs.Text.{function_text}
@@ -148,6 +163,23 @@ pub record FunctionReads (f : Function) (word : ℕ → List ℕ) (notes : Ancho
       ≡ measured flat word (written_function word at (derivation.function_of f)) (written_function word at (derivation.function_of f)).body f.body vs
   pub behind : Stands tokens (function_end at (derivation.function_of f)) ps
 
+-- ---- variables of file scope
+
+-- a variable of the program, which prints, in these scopes
+pub record IsFileVariable (ts : List Top) (g : GlobalVariable) (ss : List Scope) : Type 0 where
+  pub is : the_global g.slot.name ts ≡ Some g.slot
+  pub resolved : IsGlobal ts g (option_map expression_trees g.init)
+  pub prints : DeclaratorPrints [] g.slot (option_map expression_trees g.init)
+  pub bound : TopIsBound ss (T.Global g)
+  pub formed : IsNotMain g.slot.name
+
+-- it reads back, without a violation, and its name is bound behind it
+pub record GlobalReads (ts : List Top) (g : GlobalVariable) (ss : List Scope) (env : Env) (tokens : List Spelling) (at : ℕ) (d : Declaration) (ps : List Piece) : Type 0 where
+  pub tops : globals g.file_only (kinded env.word d) d.names env ≡ T.Global g ∷ []
+  pub clear : (vs : Faults) → globals_faults (kinded env.word d) d.names env vs ≡ vs
+  pub same : AreSameScopes (record { tops = ts; slots = [] }) (behind_top ss (T.Global g)) (behind_globals (kinded env.word d) d.names env).scopes
+  pub behind : Stands tokens (declaration_end at (global_of g)) ps
+
 pub record RereadLaws : Type 0 where
   -- what the syntax of a derivation writes
   pub expression : (word : ℕ → List ℕ) (at : ℕ) (e : g.Expression) → term_of word (expression_node at e) ≡ At at (expression_form at e)
@@ -173,3 +205,6 @@ pub record RereadLaws : Type 0 where
       → IsFunction counts ts f ss → AreWords word tokens → AreSameScopes (names_in ts f) ss scopes → NotesOfFunction f notes (body_at at f) f.body → Stands tokens at (function_text f ps) → FunctionReads f word notes tokens scopes at ps
   -- what the syntax of a file writes
   pub files : (word : ℕ → List ℕ) (xs : List files.Top) → FileHasKeywords word 0 xs → file_of word (file_node xs) ≡ written_tops word 0 xs
+  -- the printed text of a variable of file scope reads back as the variable
+  pub variables : (ts : List Top) (g : GlobalVariable) (ss : List Scope) (env : Env) (tokens : List Spelling) (at : ℕ) (ps : List Piece) → AreWords env.word tokens → IsInScope ss → AreSameScopes (record { tops = ts; slots = [] }) ss env.scopes
+      → IsFileVariable ts g ss → Stands tokens at (global_text g ps) → GlobalReads ts g ss env tokens at (written_declaration (word_end at g.file_only) (declaration_of g.slot (option_map expression_trees g.init) [])) ps

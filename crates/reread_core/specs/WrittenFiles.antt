@@ -2,7 +2,7 @@
 use Rattle.std.specs.Prelude.{ℕ, ◌+◌, List, [], ◌∷◌, Option, Some, None}
 use Rattle.c_grammar.specs.Expressions.{Conditional}
 use Rattle.c_grammar.specs.StatementSyntax.{word_end}
-use Rattle.c_grammar.specs.Files.{Enumeration, Enumerated, Declaration, Declares, Top, Line, OfEnum, OfDeclaration, OfFunction}
+use Rattle.c_grammar.specs.Files.{Enumeration, Enumerated, Declares, Top, Line, OfEnum, OfDeclaration, OfFunction}
 use Rattle.c_grammar.specs.FileSyntax.{enumerator_end, top_end}
 use Rattle.c_source.specs.Terms.{Term, At}
 use Rattle.c_source.specs.Tops as s
