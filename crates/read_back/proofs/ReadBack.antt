@@ -1,0 +1,25 @@
+-- The plain form of what a resolved program is rewritten to reads back.
+use Rattle.std.proofs.lemmas.List.Elements.{All-from_recursion}
+use Rattle.c_copies.specs.Names.{names}
+use Rattle.guard_vars.specs.GuardNames.{guard_names}
+use Rattle.plain_core.specs.Plain.{plain_with}
+use Rattle.resolved_core.specs.Counts.{flat_counts}
+use Rattle.resolved_core.proofs.TheLaws.{resolved_laws}
+use Rattle.whole_core.specs.Laws.{IsTopNamed}
+use Rattle.whole_core.proofs.Whole.{whole_laws}
+use Rattle.plain_resolved.proofs.NamedForm.{tops_named, named_form_resolved}
+use Rattle.printed_reading.proofs.Parsing.{printed_text_parses}
+use Rattle.read_back.specs.Laws.{PlainFormReadsBack}
+
+pub plain_form_reads_back : PlainFormReadsBack
+plain_form_reads_back p q ms r w h =
+    let given = guard_names (names p) in
+    let form = plain_with given q in
+    let right = whole_laws.whole flat_counts given p q ms r w (All-from_recursion (IsTopNamed given) q.tops (tops_named p q.tops)) in
+    let resolved = named_form_resolved p q ms r w h in
+    record {
+      resolved = resolved;
+      plain = right.plain;
+      parses = printed_text_parses form (resolved_laws.printable flat_counts form resolved (resolved_laws.text form right.plain));
+      runs = right.runs;
+    }

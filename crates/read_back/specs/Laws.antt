@@ -1,0 +1,25 @@
+-- What the function of this crate states.
+use Rattle.std.specs.Prelude.{◌≡◌, true, List, All}
+use Rattle.c_copies.specs.Names.{names}
+use Rattle.c_tree.specs.declared.tree.Program.{Program}
+use Rattle.c_tree.specs.Jumps.{is_plain_program}
+use Rattle.guard_vars.specs.GuardNames.{guard_names}
+use Rattle.plain_core.specs.Plain.{plain_with}
+use Rattle.plain_core.specs.Laws.{BehavesAsStructured}
+use Rattle.resolved_core.specs.Counts.{IsResolved}
+use Rattle.whole_core.specs.Rewritten.{Made, IsRewritten}
+use Rattle.plain_resolved.specs.Guards.{TopHasNames}
+use Rattle.printed_reading.specs.Laws.{Parses}
+
+-- what is known of r, the plain form of what p is rewritten to
+pub record ReadsBack (p r : Program) : Type 0 where
+  -- it is resolved, without gotos, labels and nested case labels
+  pub resolved : IsResolved r
+  pub plain : is_plain_program r ≡ true
+  -- its printed text has tokens that derive its syntax alone
+  pub parses : Parses r
+  -- and its runs by structure are those of p
+  pub runs : BehavesAsStructured p r
+
+abbrev pub PlainFormReadsBack : Type 0
+PlainFormReadsBack = (p q : Program) (ms : List Made) → IsResolved p → IsRewritten p q ms → All (TopHasNames p) q.tops → ReadsBack p (plain_with (guard_names (names p)) q)
