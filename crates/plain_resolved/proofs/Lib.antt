@@ -35,3 +35,6 @@ pub mod JumpsKept
 pub mod Measured
 pub mod FlatDepths
 pub mod PlainDepths
+pub mod GuardWords
+pub mod GuardsOwn
+pub mod NamedForm

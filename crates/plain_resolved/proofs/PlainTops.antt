@@ -68,13 +68,13 @@ IsOwnTop Own names _ = Unit {0}
 
 -- ---- the plain form of a function by its body
 
-plain_flat : (ns : List (List ℕ)) (g : Function) (xs : List Item) → g.flat ≡ true → plain_body ns g (Some xs) ≡ with_guard_variables ns g xs
+pub plain_flat : (ns : List (List ℕ)) (g : Function) (xs : List Item) → g.flat ≡ true → plain_body ns g (Some xs) ≡ with_guard_variables ns g xs
 plain_flat ns g xs e = ap (λ b. cond b (with_guard_variables ns g xs) (record g { body = Some (tidied xs) })) e
 
 plain_unflat : (ns : List (List ℕ)) (g : Function) (xs : List Item) → g.flat ≡ false → plain_body ns g (Some xs) ≡ record g { body = Some (tidied xs) }
 plain_unflat ns g xs e = ap (λ b. cond b (with_guard_variables ns g xs) (record g { body = Some (tidied xs) })) e
 
-no_body : (ns : List (List ℕ)) (f : Function) → f.body ≡ None → plain_function ns f ≡ f
+pub no_body : (ns : List (List ℕ)) (f : Function) → f.body ≡ None → plain_function ns f ≡ f
 no_body ns f e = ap (plain_body ns f) e
 
 other_plain : (names : Function → List (List ℕ)) (t : Top) → IsNoFunction t → plain_top names t ≡ t
