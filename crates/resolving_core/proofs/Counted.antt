@@ -1,5 +1,5 @@
 -- The counted tokens of an expression of the tree are those of what is written.
-use Rattle.std.proofs.Common.{ℕ, suc, ◌+◌, ◌==◌, Bool, true, false, cond, ◌&&◌, not, List, [], ◌∷◌, ◌++◌, map, length, Option, Some, None, is_some, ◌≡◌, refl, sym, ap, subst, ◌∙◌, true≢false, arith}
+use Rattle.std.proofs.Common.{ℕ, ◌+◌, ◌==◌, Bool, true, false, cond, ◌&&◌, List, [], ◌∷◌, ◌++◌, map, length, Option, Some, None, ◌≡◌, refl, sym, ap, subst, ◌∙◌, true≢false, arith}
 use Rattle.std.specs.Prelude.{IfSome}
 use Rattle.std.proofs.lemmas.Bool.{eqb-true}
 use Rattle.c_types.specs.declared.kinds.IntKind.{IntKind}
@@ -16,7 +16,7 @@ use Rattle.c_tree.specs.declared.tree.Node.{Node}
 use Rattle.c_tree.specs.declared.tree.Home.TheVariants as home
 use Rattle.c_tree.specs.declared.tree.UnaryOp.{UnaryOp}
 use Rattle.c_tree.specs.declared.tree.BinaryOp.{BinaryOp}
-use Rattle.c_tree.specs.ExpressionTrees.{ExpressionTree, NodeTree, PlaceTree, Arguments, Argument, Typed, Read, Unary, Cast, Binary, Conditional, Assign, Update, Count, Comma, Call, Var, Cell, arguments, expression_tree, node_tree, place_tree}
+use Rattle.c_tree.specs.ExpressionTrees.{ExpressionTree, NodeTree, Arguments, Argument, Typed, Unary, Cast, Binary, Conditional, Assign, Update, Comma, arguments, expression_tree, node_tree, place_tree}
 use Rattle.c_tree.proofs.ExpressionLaws.{place-Var, place-Cell, node-Number, node-Character, node-EnumName, node-Text, node-Array, node-Read, node-Unary, node-Cast, node-Binary, node-Conditional, node-Assign, node-Update, node-Count, node-Comma, node-Call}
 use Rattle.c_tree.specs.TextExpressions.{binary_level}
 use Rattle.c_source.specs.Terms as s
@@ -32,14 +32,13 @@ use Rattle.c_kinds.specs.declared.typed.Valued.{Valued}
 use Rattle.c_kinds.specs.declared.typed.Variable.{Variable}
 use Rattle.c_kinds.specs.declared.typed.Target.{Target}
 use Rattle.c_kinds.specs.declared.typed.Given.{Given}
-use Rattle.c_kinds.specs.declared.typed.ArrayName.{ArrayName}
 use Rattle.c_kinds.specs.Marks.{unary_kind, binary_kind, step_of, counts_up, unary_op, binary_op, update_op}
 use Rattle.c_kinds.specs.Scopes.{Env, meaning}
-use Rattle.c_kinds.specs.Values.{of_kind, expression_of, expression, of_result, value_of, dropped, number, character_constant, number_target, cell_target, target, writable, reading, variable, unary, counting, cast, cast_void, binary, choice, stored, assignment, with_left, comma}
+use Rattle.c_kinds.specs.Values.{of_kind, expression_of, expression, of_result, value_of, dropped, number, character_constant, number_target, cell_target, target, writable, reading, variable, unary, counting, cast, cast_void, binary, choice, assignment, with_left, comma}
 use Rattle.c_kinds.specs.Names.{variable_of, named}
-use Rattle.c_kinds.specs.Calls.{fits, each_fits, all_fit, handed, all_handed, array_expression, call, text_of, printing, formatted, printf, called}
+use Rattle.c_kinds.specs.Calls.{fits, each_fits, handed, all_handed, array_expression, call, text_of, printing, formatted, printf, called}
 use Rattle.c_kinds.specs.Formats.{wanted}
-use Rattle.c_kinds.specs.Typing.{constant, typed, form_typed, commas, target_of, form_target, given}
+use Rattle.c_kinds.specs.Typing.{constant, typed, form_typed, commas, target_of, given}
 use Rattle.c_resolved.specs.PrintableExpressions.{level_of, bracket_count, counted, node_counted, place_counted, all_counted}
 use Rattle.resolving_core.specs.Counts as W
 use Rattle.resolving_core.specs.Counts.{term_level, form_level, term_counted, form_counted, commas_counted}

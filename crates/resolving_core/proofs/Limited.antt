@@ -1,5 +1,5 @@
 -- The depth of a body, and the counted tokens of its full expressions, are at most those of what is written.
-use Rattle.std.proofs.Common.{ℕ, Bool, true, false, not, cond, ◌&&◌, ◌||◌, List, [], ◌∷◌, ◌++◌, map, length, Option, Some, None, option_map, ◌≡◌, refl, sym, ap, subst, ◌∙◌, arith}
+use Rattle.std.proofs.Common.{ℕ, Bool, true, false, cond, ◌&&◌, ◌||◌, List, [], ◌∷◌, ◌++◌, map, length, Option, Some, None, option_map, ◌≡◌, refl, sym, ap, subst, ◌∙◌, arith}
 use Rattle.c_tree.specs.declared.tree.Item as item
 use Rattle.c_tree.specs.declared.tree.Section.{Section}
 use Rattle.c_tree.specs.declared.tree.Test as test
@@ -11,18 +11,15 @@ use Rattle.c_tree.proofs.TreeLaws.{tree-Evaluate, tree-Return, tree-If, tree-Whi
 use Rattle.c_source.specs.Items.{Declarator, Declaration, Label, Named, Case, Default, Start, NoStart, StartValue, StartNames, Item, Declares, States, Plain, From, Statement, Null, Evaluate, If, IfElse, While, DoWhile, For, Switch, Block, Goto, Break, Continue, Return, Unread, Body, Braces, Lone, Items, NoItem}
 use Rattle.c_source.specs.Items as items
 use Rattle.c_statements.specs.declared.extents.Kinded.{Kinded}
-use Rattle.c_statements.specs.Context.{Anchor, Before, AtEnd, AtSection, Context, Walk, env_at, env_in, enter, notes_at, number_in, Around, in_loop, in_switch}
+use Rattle.c_statements.specs.Context.{Anchor, Before, AtEnd, AtSection, Context, Walk, env_at, env_in, enter, notes_at, number_in}
 use Rattle.c_statements.specs.Declarations.{kinded, declared, local, locals, initial, value_at, constant_at}
-use Rattle.c_statements.specs.Labels.{section_cases, has_case, mark, label_items, labels_items, section_marks, label_faults, labels_faults}
+use Rattle.c_statements.specs.Labels.{section_cases, has_case, mark, labels_items, section_marks}
 use Rattle.c_statements.specs.Sections.{Reading, extended, closed, passed_on}
 use Rattle.c_statements.specs.Statements.{behind_start, behind_item, behind_plain, behind_body, behind_items, declared_by, dropped_at, test_at, start_items, begun, a_switch, item_items, plain_items, statement_items, body_items, list_items, switch_sections, sections_from, sections_at}
 use Rattle.c_statements.specs.Statements as statements
-use Rattle.c_statements.specs.Violations.{item_faults, plain_faults, statement_faults, body_faults, list_faults, switch_body_faults, outside_faults, outside_fault}
 use Rattle.c_resolved.specs.Form.{ends_with_break}
 use Rattle.c_resolved.specs.Within.{Each}
-use Rattle.resolving_core.proofs.Lists.{none_left, clean_if, not_true, each_append}
-use Rattle.resolving_core.proofs.Empty.{constant_empty}
-use Rattle.resolving_core.proofs.Parts.{parted, labels_parts, states_parts, list_parts, if_parts, if_else_parts, while_parts, do_parts, for_parts, switch_parts, Outside, outside_declares, outside_parts, outside_one}
+use Rattle.resolving_core.proofs.Lists.{each_append}
 use Rattle.resolving_core.proofs.SectionTrees.{section_of, ended_tree, has_entry, without_end, passes, with_entries, passed_trees, passed_same, ended_same, sections_are}
 use Rattle.std.specs.Prelude.{IfSome, ℤ, pos, ◌+◌, ◌≤◌, max, nat_lt}
 use Rattle.std.proofs.lemmas.Bool.Decides.{nat_tests}

@@ -1,7 +1,6 @@
 -- Expressions as they are written print: their names are names, and their numbers constants of their kind.
-use Rattle.std.proofs.Common.{ℕ, pos, ◌≤◌, ◌<◌, ◌^◌, ◌==◌, Bool, true, false, cond, ◌&&◌, List, [], ◌∷◌, ◌++◌, map, length, Option, Some, None, ◌≡◌, refl, sym, ap, subst, ◌∙◌, true≢false, arith}
+use Rattle.std.proofs.Common.{ℕ, pos, ◌≤◌, Bool, true, false, cond, List, [], ◌∷◌, ◌++◌, map, Option, Some, None, ◌≡◌, refl, sym, ap, subst, ◌∙◌, arith}
 use Rattle.std.specs.Prelude.{IfSome}
-use Rattle.std.proofs.lemmas.Bool.{eqb-true}
 use Rattle.std.proofs.lemmas.Bool.Decides.{nat_tests}
 use Rattle.c_types.specs.declared.kinds.IntKind.{IntKind}
 use Rattle.c_types.specs.declared.kinds.IntKind.TheVariants.{Int}
@@ -18,7 +17,7 @@ use Rattle.c_tree.specs.declared.tree.Node.{Node}
 use Rattle.c_tree.specs.declared.tree.Home.TheVariants as home
 use Rattle.c_tree.specs.declared.tree.UnaryOp.{UnaryOp}
 use Rattle.c_tree.specs.declared.tree.BinaryOp.{BinaryOp}
-use Rattle.c_tree.specs.ExpressionTrees.{ExpressionTree, NodeTree, PlaceTree, Arguments, Typed, Unary, Cast, Binary, Conditional, Assign, Update, Comma, Call, Text, Argument, arguments, expression_tree, node_tree, place_tree}
+use Rattle.c_tree.specs.ExpressionTrees.{ExpressionTree, Typed, Unary, Cast, Binary, Conditional, Assign, Update, Comma, Text, arguments, expression_tree, node_tree, place_tree}
 use Rattle.c_tree.specs.TextExpressions.{home_name}
 use Rattle.c_tree.proofs.ExpressionLaws.{place-Var, place-Cell, node-Number, node-Character, node-EnumName, node-Text, node-Array, node-Read, node-Unary, node-Cast, node-Binary, node-Conditional, node-Assign, node-Update, node-Count, node-Comma, node-Call}
 use Rattle.c_source.specs.Terms as s
@@ -28,7 +27,6 @@ use Rattle.c_kinds.specs.declared.binding.Shape.{Shape}
 use Rattle.c_kinds.specs.declared.binding.Binding.{Binding}
 use Rattle.c_kinds.specs.declared.binding.Binding.TheVariants as B
 use Rattle.c_kinds.specs.declared.binding.Want.{Want}
-use Rattle.c_kinds.specs.declared.binding.Want.TheVariants as want
 use Rattle.c_kinds.specs.declared.typed.Typed as kinds
 use Rattle.c_kinds.specs.declared.typed.Typed.TheVariants as T
 use Rattle.c_kinds.specs.declared.typed.Valued.{Valued}
@@ -41,7 +39,7 @@ use Rattle.c_kinds.specs.Values.{of_kind, expression_of, expression, of_result, 
 use Rattle.c_kinds.specs.Names.{variable_of, named}
 use Rattle.c_kinds.specs.Calls.{handed, all_handed, array_expression, all_fit, call, text_of, printing, formatted, printf, called}
 use Rattle.c_kinds.specs.Formats.{wanted}
-use Rattle.c_kinds.specs.Typing.{constant, typed, form_typed, commas, target_of, form_target, given}
+use Rattle.c_kinds.specs.Typing.{constant, typed, form_typed, commas, target_of, given}
 use Rattle.c_resolved.specs.Names.{Names}
 use Rattle.c_resolved.specs.PrintableExpressions.{IsName, IsConstant, AreBytes, ArgumentPrints, Prints, PlacePrints, AllPrint}
 use Rattle.c_resolved.specs.Scopes.{Scope}

@@ -1,5 +1,5 @@
 -- The expressions of items print, declared names are names, and comments are comments.
-use Rattle.std.proofs.Common.{ℕ, pos, ◌<◌, Bool, true, false, cond, List, [], ◌∷◌, ◌++◌, map, length, Option, Some, None, option_map, ◌≡◌, refl, sym, ap, subst, ◌∙◌, slice_get, arith, ℤ}
+use Rattle.std.proofs.Common.{ℕ, pos, ◌<◌, Bool, true, false, cond, List, [], ◌∷◌, map, length, Option, Some, None, option_map, ◌≡◌, sym, ap, subst, ◌∙◌, slice_get, arith, ℤ}
 use Rattle.std.specs.Prelude.{IfSome, IsSomeAnd}
 use Rattle.std.proofs.lemmas.List.{length-map}
 use Rattle.c_types.specs.declared.kinds.IntKind.TheVariants.{Int}
@@ -9,16 +9,15 @@ use Rattle.c_tree.specs.declared.tree.Node as node
 use Rattle.c_tree.specs.Constants.{constant_value}
 use Rattle.c_tree.specs.ExpressionTrees.{ExpressionTree, Typed, expression_tree}
 use Rattle.c_tree.specs.Trees.{Tree, Local, Note, expression_trees}
-use Rattle.c_tree.specs.Trees as tree
 use Rattle.c_tree.proofs.ExpressionLaws.{node-Number}
 use Rattle.c_source.specs.Terms.{Term}
 use Rattle.c_source.specs.Items.{Initialiser, NoValue, OneValue, ValueList, Declarator}
 use Rattle.c_kinds.specs.declared.typed.Typed as kinds
 use Rattle.c_kinds.specs.declared.typed.Typed.TheVariants as T
 use Rattle.c_kinds.specs.Constants.{is_constant, constant_of}
-use Rattle.c_kinds.specs.Scopes.{Env, Scope}
+use Rattle.c_kinds.specs.Scopes.{Env}
 use Rattle.c_kinds.specs.Typing.{typed}
-use Rattle.c_kinds.specs.Values.{expression, expression_of, value_of, dropped}
+use Rattle.c_kinds.specs.Values.{expression, value_of, dropped}
 use Rattle.c_statements.specs.declared.extents.Kinded.{Kinded}
 use Rattle.c_statements.specs.Context.{Anchor, Context, Walk, env_at, env_in}
 use Rattle.c_statements.specs.Declarations.{placeholder, or_placeholder, value_at, constant_or_placeholder, constant_at, declared, slot_of, initial, local_faults}

@@ -1,5 +1,5 @@
 -- Enum constants and variables of a file without a violation are spelled as C spells them.
-use Rattle.std.proofs.Common.{ℕ, ℤ, ◌≤◌, ◌<◌, List, [], ◌∷◌, map, length, Option, Some, None, option_map, ◌≡◌, arith}
+use Rattle.std.proofs.Common.{ℕ, ℤ, ◌≤◌, ◌<◌, List, [], ◌∷◌, map, length, Option, Some, None, option_map, arith}
 use Rattle.std.specs.Prelude.{IfSome, max}
 use Rattle.c_tree.specs.declared.tree.Slot.{Slot}
 use Rattle.c_tree.specs.declared.tree.Top.{Top}
@@ -9,7 +9,7 @@ use Rattle.c_source.specs.Terms.{Term}
 use Rattle.c_source.specs.Items.{Initialiser, NoValue, OneValue, ValueList, Declarator}
 use Rattle.c_source.specs.Tops.{Enumerator}
 use Rattle.c_kinds.specs.Scopes.{Env}
-use Rattle.c_scopes.specs.Enums.{value_of, enumerated, enum_item, enum_items}
+use Rattle.c_scopes.specs.Enums.{enum_item, enum_items}
 use Rattle.c_statements.specs.Declarations.{constant_at, initial}
 use Rattle.c_resolved.specs.Files.{IsLength, AreInitialisers}
 use Rattle.c_resolved.specs.Limits.{most_of, most_listed}

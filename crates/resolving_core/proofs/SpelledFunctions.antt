@@ -1,10 +1,7 @@
 -- A function without a violation is spelled as C spells it.
-use Rattle.std.proofs.Common.{ℕ, ◌+◌, ◌≤◌, ◌<◌, Bool, true, false, List, [], ◌∷◌, ◌++◌, map, length, take, Option, Some, None, is_some, ◌≡◌, refl, sym, ap, subst, ◌∙◌, true≢false, arith}
+use Rattle.std.proofs.Common.{ℕ, ◌≤◌, ◌<◌, true, List, [], ◌∷◌, ◌++◌, map, length, take, Option, Some, None, ◌≡◌, sym, ap, subst, ◌∙◌, true≢false, arith}
 use Rattle.std.specs.Prelude.{IfSome}
 use Rattle.std.proofs.lemmas.List.{append-nil}
-use Rattle.c_types.specs.Words.{is_word}
-use Rattle.c_tree.specs.declared.tree.Slot.{Slot}
-use Rattle.c_tree.specs.declared.tree.Function as tree
 use Rattle.c_tree.specs.declared.tree.Top.{Top}
 use Rattle.c_tree.specs.Trees.{Tree, trees_of}
 use Rattle.c_tree.proofs.WellMoved.{everywhere_map, everywhere_both}
@@ -14,7 +11,7 @@ use Rattle.c_source.specs.Tops.{Parameter, Function}
 use Rattle.c_kinds.specs.Scopes.{Scope, Faults, fault_if, bind_fault}
 use Rattle.c_statements.specs.Context.{Anchor, Context, Walk, env_at}
 use Rattle.c_statements.specs.Declarations.{size_faults}
-use Rattle.c_statements.specs.Functions.{FlatCounts, parameter_name, parameter_slot, bind_parameter, parameter_fault, parameters_faults, body_items, behind_body, context, prototype_context, inside, defined, function_of}
+use Rattle.c_statements.specs.Functions.{FlatCounts, parameter_name, parameter_slot, bind_parameter, parameters_faults, body_items, behind_body, context, prototype_context, inside, defined, function_of}
 use Rattle.c_statements.specs.Measures.{body_depth}
 use Rattle.c_statements.specs.Labels.{named_in, item_labels, plain_labels, statement_labels, body_labels, list_labels}
 use Rattle.c_resolved.specs.Form.{HasSourceForm}

@@ -1,5 +1,5 @@
 -- Items that print, within the limits, are spelled as C spells them.
-use Rattle.std.proofs.Common.{ℕ, zero, suc, ◌+◌, ◌≤◌, ◌<◌, ◌^◌, Bool, true, false, cond, List, [], ◌∷◌, ◌++◌, length, Option, Some, None, ◌≡◌, refl, sym, ap, subst, ◌∙◌, slice_get, arith, unwrap_or}
+use Rattle.std.proofs.Common.{ℕ, zero, suc, ◌+◌, ◌≤◌, ◌<◌, Bool, true, false, cond, List, [], ◌∷◌, ◌++◌, length, Option, Some, None, ◌≡◌, refl, subst, slice_get, arith, unwrap_or}
 use Rattle.std.specs.Prelude.{IfSome, IsSomeAnd, max, nat_lt}
 use Rattle.std.proofs.lemmas.Bool.Decides.{nat_tests}
 use Rattle.c_types.specs.declared.kinds.ArithOp.{ArithOp}
@@ -14,7 +14,6 @@ use Rattle.c_tree.specs.ExpressionTrees as e
 use Rattle.c_tree.specs.InRange.{IsSourceTest, IsSourceSelector}
 use Rattle.c_tree.specs.TestTrees.{TestTree, Source, On, Off, AndOff, OrOn, SelectorTree, Selects, Pick}
 use Rattle.c_tree.specs.TextExpressions.{binary_level}
-use Rattle.c_tree.specs.TextItems.{label_name}
 use Rattle.c_tree.specs.Cases.{selector_source}
 use Rattle.c_tree.specs.Trees.{Tree, Forest, Nil, Then, Sections, NoSection, Section, Evaluate, Return, If, While, Do, For, Switch, Block, Local, Break, Continue, Goto, Mark, Arm, Leap, Land, Arrival, Note}
 use Rattle.c_resolved.specs.Files.{IsLength, AreInitialisers, SlotIsInitialised}

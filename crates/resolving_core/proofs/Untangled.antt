@@ -1,5 +1,5 @@
 -- A function that is not too tangled as it is written is within the limits of the tree.
-use Rattle.std.proofs.Common.{ℕ, ◌+◌, ◌*◌, ◌≤◌, Bool, true, false, ◌||◌, nat_lt, List, [], ◌∷◌, ◌++◌, map, length, drop, Some, ◌≡◌, refl, sym, ap, subst, ◌∙◌, arith}
+use Rattle.std.proofs.Common.{ℕ, ◌+◌, ◌*◌, ◌≤◌, false, ◌||◌, nat_lt, List, [], ◌∷◌, ◌++◌, map, length, drop, Some, ◌≡◌, sym, ap, subst, ◌∙◌, arith}
 use Rattle.std.proofs.lemmas.Bool.Decides.{nat_tests}
 use Rattle.c_tree.specs.declared.tree.Slot.{Slot}
 use Rattle.c_tree.specs.Trees.{trees_of}
@@ -18,7 +18,7 @@ use Rattle.resolving_core.specs.Counts.{IsFewBody}
 use Rattle.resolving_core.proofs.FunctionTrees.{inside_slots, drop_all}
 use Rattle.resolving_core.proofs.Grown.{Grown}
 use Rattle.resolving_core.proofs.Limited.{short_both, short_notes, item_short, list_short}
-use Rattle.resolving_core.proofs.Lists.{or_left, or_right, each_map}
+use Rattle.resolving_core.proofs.Lists.{or_left, or_right}
 use Rattle.resolving_core.proofs.Longest.{body_names, item_slots, list_slots, ShortName}
 
 at_most : (a b : ℕ) → nat_lt a b ≡ false → b ≤ a

@@ -1,9 +1,9 @@
 -- The counted tokens of an expression as it is printed, by what is written: each operator, the brackets that the levels of
 -- the grammar ask for, the bracket of an index and of a call, and `?`.
-use Rattle.std.specs.Prelude.{ℕ, ◌+◌, ◌≤◌, List, [], ◌∷◌, IfSome}
+use Rattle.std.specs.Prelude.{ℕ, ◌+◌, ◌≤◌, List, IfSome}
 use Rattle.c_lexer.specs.Marks.{mark_of}
 use Rattle.c_tree.specs.TextExpressions.{binary_level}
-use Rattle.c_source.specs.Terms.{Term, Form, Terms, At, Constant, Variable, Cell, Prefix, Suffix, CastTo, CastVoid, Binary, Choice, Assign, Commas, Call, Texts, Unknown, NoTerm, Then}
+use Rattle.c_source.specs.Terms.{Term, Form, Terms, At, Cell, Prefix, Suffix, CastTo, CastVoid, Binary, Choice, Assign, Commas, Call, NoTerm, Then}
 use Rattle.c_source.specs.Items.{Initialiser, NoValue, OneValue, ValueList, Declarator, Declaration, Label, Case, Start, NoStart, StartValue, StartNames, Item, Declares, States, Plain, From, Statement, Evaluate, If, IfElse, While, DoWhile, For, Switch, Block, Return, Body, Braces, Lone, Items, NoItem}
 use Rattle.c_source.specs.Items as items
 use Rattle.c_kinds.specs.Marks.{binary_op}
