@@ -22,7 +22,8 @@ use Rattle.c_source.specs.Terms.{At, Form}
 use Rattle.c_kinds.specs.declared.binding.Binding.TheVariants as binding
 use Rattle.c_kinds.specs.Scopes.{Env, Faults, fault, fault_if, is_bound}
 use Rattle.c_kinds.specs.Scopes as kinds
-use Rattle.c_kinds.specs.Typing.{constant_faults}
+use Rattle.c_kinds.specs.Constants.{constant_of}
+use Rattle.c_kinds.specs.Typing.{constant_faults, form_typed}
 use Rattle.c_statements.specs.Declarations.{constant_at, constant_or_placeholder, each_faults, size_faults, length_in, extent_of, cells_of, is_bad_shape, shape_of, initial, initial_faults, kinded}
 use Rattle.c_scopes.specs.Globals.{global_declared, behind_globals, globals, globals_faults}
 use Rattle.c_resolved.specs.Within.{Each, Within}
@@ -47,7 +48,7 @@ use Rattle.reread_core.proofs.Readings.{Reads}
 use Rattle.reread_core.proofs.FullExpressions.{assigned_full}
 use Rattle.reread_core.proofs.SameScopes.{scopes_agree, bind_same, new_unbound}
 use Rattle.reread_core.proofs.DeclarationsRead.{array_is, extent_is, length_read, well_shaped, kinds_of, words_read}
-use Rattle.reread_core.proofs.CaseConstants.{constant_here}
+use Rattle.reread_core.proofs.CaseConstants.{worth, constant_here}
 use Rattle.reread_core.proofs.GoodGiven.{constant_operand}
 use Rattle.std.proofs.lemmas.Bool.{false≢true}
 use Rattle.c_tree.specs.TextItems.{kind_words}
@@ -95,6 +96,9 @@ module _ (ts : List Top) (ss : List Scope) (env : Env) (tokens : List Spelling) 
 
   pub constant_read : (first : ℕ) (form : Form) (x : ExpressionTree) → Reads env form x → IsConstantOf ts x → constant_at env (At first form) ≡ expression_in x
   constant_read first form x r h = ap constant_or_placeholder (constant_here env form x r (h.0))
+
+  pub constant_worth : (first : ℕ) (form : Form) (x : ExpressionTree) → Reads env form x → IsConstantOf ts x → option_map (λ c. c.1) (constant_of (form_typed env form)) ≡ Some (worth x)
+  constant_worth first form x r h = ap (option_map (λ c. c.1)) (constant_here env form x r (h.0))
 
   pub constant_clear : (first : ℕ) (form : Form) (x : ExpressionTree) → Reads env form x → IsConstantOf ts x → (vs : Faults) → constant_faults env (At first form) vs ≡ vs
   constant_clear first form x r h vs = (λ i. cond (is_some (constant_here env form x r (h.0) i)) (r.clear vs i) (fault first 34 (r.clear vs i)))

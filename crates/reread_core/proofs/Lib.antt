@@ -36,4 +36,5 @@ pub mod ParametersRead
 pub mod FunctionsRead
 pub mod FileSources
 pub mod GlobalsRead
+pub mod EnumsRead
 pub mod TheLaws

@@ -42,6 +42,18 @@ use Rattle.reread_core.specs.Words.{AreWords}
 use Rattle.reread_core.specs.Places.{IsPlace, IsExpressionOf, Standing}
 use Rattle.reread_core.specs.GoodItems.{AreGood, slots_in}
 use Rattle.reread_core.specs.PlacedNotes.{NotesOfBody}
+use Rattle.std.specs.Prelude.{negsuc}
+use Rattle.c_tree.specs.declared.tree.EnumItem.{EnumItem}
+use Rattle.c_tree.specs.Text.{enum_text}
+use Rattle.c_tree.specs.TextPieces.{newline}
+use Rattle.c_grammar.specs.FileSyntax.{enumeration_end}
+use Rattle.c_source.specs.Tops.{Enumerator}
+use Rattle.c_scopes.specs.Enums.{enum_items, behind_enum, enum_faults}
+use Rattle.c_resolved.specs.Files.{HaveValues, AreNotMain}
+use Rattle.c_resolved.specs.PrintablePrograms.{EnumPrints}
+use Rattle.c_resolved.specs.Scopes.{bind_constants, ConstantsAreBound}
+use Rattle.printed_syntax.specs.FileDerivations.{enumeration_of}
+use Rattle.reread_core.specs.WrittenFiles.{written_enumeration}
 use Rattle.c_tree.specs.declared.tree.Top.TheVariants as T
 use Rattle.c_tree.specs.declared.tree.GlobalVariable.{GlobalVariable}
 use Rattle.c_tree.specs.Trees.{expression_trees}
@@ -180,6 +192,22 @@ pub record GlobalReads (ts : List Top) (g : GlobalVariable) (ss : List Scope) (e
   pub same : AreSameScopes (record { tops = ts; slots = [] }) (behind_top ss (T.Global g)) (behind_globals (kinded env.word d) d.names env).scopes
   pub behind : Stands tokens (declaration_end at (global_of g)) ps
 
+-- ---- enums
+
+-- an enum of the program, which prints, in these scopes
+pub record IsEnum (ts : List Top) (xs : List EnumItem) (ss : List Scope) : Type 0 where
+  pub values : HaveValues ts (negsuc 0) xs
+  pub prints : EnumPrints xs
+  pub bound : ConstantsAreBound ss xs
+  pub formed : AreNotMain xs
+
+-- it reads back, without a violation, and its constants are bound behind it
+pub record EnumReads (ts : List Top) (xs : List EnumItem) (ss : List Scope) (env : Env) (tokens : List Spelling) (es : List Enumerator) (end : ℕ) (ps : List Piece) : Type 0 where
+  pub items : enum_items es (Some (negsuc 0)) env ≡ xs
+  pub clear : (vs : Faults) → enum_faults es (Some (negsuc 0)) env vs ≡ vs
+  pub same : AreSameScopes (record { tops = ts; slots = [] }) (bind_constants xs ss) (behind_enum es (Some (negsuc 0)) env).scopes
+  pub behind : Stands tokens end ps
+
 pub record RereadLaws : Type 0 where
   -- what the syntax of a derivation writes
   pub expression : (word : ℕ → List ℕ) (at : ℕ) (e : g.Expression) → term_of word (expression_node at e) ≡ At at (expression_form at e)
@@ -208,3 +236,6 @@ pub record RereadLaws : Type 0 where
   -- the printed text of a variable of file scope reads back as the variable
   pub variables : (ts : List Top) (g : GlobalVariable) (ss : List Scope) (env : Env) (tokens : List Spelling) (at : ℕ) (ps : List Piece) → AreWords env.word tokens → IsInScope ss → AreSameScopes (record { tops = ts; slots = [] }) ss env.scopes
       → IsFileVariable ts g ss → Stands tokens at (global_text g ps) → GlobalReads ts g ss env tokens at (written_declaration (word_end at g.file_only) (declaration_of g.slot (option_map expression_trees g.init) [])) ps
+  -- and that of an enum as the enum
+  pub enums : (ts : List Top) (x : EnumItem) (xs : List EnumItem) (ss : List Scope) (env : Env) (tokens : List Spelling) (at : ℕ) (ps : List Piece) → AreWords env.word tokens → IsInScope ss → AreSameScopes (record { tops = ts; slots = [] }) ss env.scopes
+      → IsEnum ts (x ∷ xs) ss → Stands tokens at (enum_text (x ∷ xs) ps) → EnumReads ts (x ∷ xs) ss env tokens (written_enumeration at (enumeration_of x xs)) (enumeration_end at (enumeration_of x xs)) (newline ps)
