@@ -1,0 +1,7 @@
+//! The flat form of a function.
+#![tactic(auto)]
+
+mod forms;
+mod unlabelling;
+
+pub use forms::flatten;
