@@ -9,6 +9,7 @@ use crate::values::Selected;
 use c_tree::{Expression, Item, Section, Selector, Test};
 use c_types::{List, Memory};
 
+/// Puts this behind other items: an `if` with both of its lists.
 pub fn push_if(
     out: &mut List<Item>,
     e: Expression,
@@ -20,18 +21,21 @@ pub fn push_if(
     out.push(Item::If(Test::Source(e), then, other))
 }
 
+/// Puts this behind other items: a `while`.
 pub fn push_while(out: &mut List<Item>, e: Expression, body: List<Item>) -> Result<(), Memory>
     ensures { OnOk result (out.new ≡ out.old ++ item.While (test.Source e) body ∷ []) }
 {
     out.push(Item::While(Test::Source(e), body))
 }
 
+/// Puts this behind other items: a `do`.
 pub fn push_do(out: &mut List<Item>, body: List<Item>, e: Expression) -> Result<(), Memory>
     ensures { OnOk result (out.new ≡ out.old ++ item.Do body (test.Source e) ∷ []) }
 {
     out.push(Item::Do(body, Test::Source(e)))
 }
 
+/// Puts this behind other items: an `if` with an `else`.
 pub fn push_choice(out: &mut List<Item>, e: Expression, lists: Lists) -> Result<(), Memory>
     ensures { OnOk result (out.new ≡ out.old ++ item.If (test.Source e) lists.then lists.other ∷ []) }
 {
@@ -39,6 +43,7 @@ pub fn push_choice(out: &mut List<Item>, e: Expression, lists: Lists) -> Result<
     out.push(Item::If(Test::Source(e), then, other))
 }
 
+/// Puts this behind other items: a `for`.
 pub fn push_for(out: &mut List<Item>, heads: Heads, body: List<Item>) -> Result<(), Memory>
     ensures { OnOk result (out.new ≡ out.old ++ item.For heads.start heads.test heads.third body ∷ []) }
 {
@@ -46,6 +51,7 @@ pub fn push_for(out: &mut List<Item>, heads: Heads, body: List<Item>) -> Result<
     out.push(Item::For(start, test, third, body))
 }
 
+/// Puts this behind other items: a `switch`, of which empty sections were passed on.
 pub fn push_switch(
     out: &mut List<Item>,
     selected: Selected,
@@ -60,6 +66,7 @@ pub fn push_switch(
     out.push(Item::Switch(Selector::Source(expression), sections))
 }
 
+/// Puts this behind other items: a block.
 pub fn push_block(out: &mut List<Item>, body: List<Item>) -> Result<(), Memory>
     ensures { OnOk result (out.new ≡ out.old ++ item.Block body ∷ []) }
 {

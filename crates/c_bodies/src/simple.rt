@@ -55,6 +55,7 @@ pub fn add_goto(
     out.push(Item::Goto(number))
 }
 
+/// A `break`, by its first token.
 pub fn add_break(
     ctx: &FunctionContext,
     around: Around,
@@ -71,6 +72,7 @@ pub fn add_break(
     out.push(Item::Break)
 }
 
+/// A `continue`, by its first token.
 pub fn add_continue(
     ctx: &FunctionContext,
     around: Around,
