@@ -37,4 +37,5 @@ pub mod FunctionsRead
 pub mod FileSources
 pub mod GlobalsRead
 pub mod EnumsRead
+pub mod StartScopes
 pub mod TheLaws

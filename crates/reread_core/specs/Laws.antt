@@ -54,6 +54,9 @@ use Rattle.c_resolved.specs.PrintablePrograms.{EnumPrints}
 use Rattle.c_resolved.specs.Scopes.{bind_constants, ConstantsAreBound}
 use Rattle.printed_syntax.specs.FileDerivations.{enumeration_of}
 use Rattle.reread_core.specs.WrittenFiles.{written_enumeration}
+use Rattle.c_tree.specs.declared.tree.Home.TheVariants as H
+use Rattle.c_scopes.specs.Files.{start}
+use Rattle.c_resolved.specs.Scopes.{Meaning, AVariable, at_start, NamesAreBound}
 use Rattle.c_tree.specs.declared.tree.Top.TheVariants as T
 use Rattle.c_tree.specs.declared.tree.GlobalVariable.{GlobalVariable}
 use Rattle.c_tree.specs.Trees.{expression_trees}
@@ -208,6 +211,21 @@ pub record EnumReads (ts : List Top) (xs : List EnumItem) (ss : List Scope) (env
   pub same : AreSameScopes (record { tops = ts; slots = [] }) (bind_constants xs ss) (behind_enum es (Some (negsuc 0)) env).scopes
   pub behind : Stands tokens end ps
 
+-- ---- scopes of the file
+
+-- what a name of file scope stands for: no variable of a function
+abbrev pub IsOfFile : Meaning → Type 0
+IsOfFile (AVariable (H.Slot k)) = ⊥
+IsOfFile _ = Unit {0}
+
+abbrev pub ScopeIsOfFile : Scope → Type 0
+ScopeIsOfFile [] = Unit {0}
+ScopeIsOfFile (e ∷ s) = IsOfFile e.1 × ScopeIsOfFile s
+
+abbrev pub AreOfFile : List Scope → Type 0
+AreOfFile [] = Unit {0}
+AreOfFile (s ∷ ss) = ScopeIsOfFile s × AreOfFile ss
+
 pub record RereadLaws : Type 0 where
   -- what the syntax of a derivation writes
   pub expression : (word : ℕ → List ℕ) (at : ℕ) (e : g.Expression) → term_of word (expression_node at e) ≡ At at (expression_form at e)
@@ -239,3 +257,6 @@ pub record RereadLaws : Type 0 where
   -- and that of an enum as the enum
   pub enums : (ts : List Top) (x : EnumItem) (xs : List EnumItem) (ss : List Scope) (env : Env) (tokens : List Spelling) (at : ℕ) (ps : List Piece) → AreWords env.word tokens → IsInScope ss → AreSameScopes (record { tops = ts; slots = [] }) ss env.scopes
       → IsEnum ts (x ∷ xs) ss → Stands tokens at (enum_text (x ∷ xs) ps) → EnumReads ts (x ∷ xs) ss env tokens (written_enumeration at (enumeration_of x xs)) (enumeration_end at (enumeration_of x xs)) (newline ps)
+  -- the scopes at the start of a file are the same, and names of the file are the same in each function
+  pub starts : (ts : List Top) → NamesAreBound ts → AreSameScopes (record { tops = ts; slots = [] }) at_start start.scopes
+  pub inward : (ts : List Top) (f : Function) (ss : List Scope) (scopes : List kinds.Scope) → AreOfFile ss → AreSameScopes (record { tops = ts; slots = [] }) ss scopes → AreSameScopes (names_in ts f) ss scopes
