@@ -32,6 +32,7 @@ use Rattle.c_resolved.specs.Limits.{most_of, most_if, most_listed, most_tested, 
 use Rattle.c_resolved.specs.PrintableStatements.{most}
 use Rattle.c_resolved.specs.PrintableExpressions.{level_of, counted, counted_at}
 use Rattle.c_resolved.specs.Within.{TestExpression}
+use Rattle.plain_resolved.proofs.Lists.{each_append}
 use Rattle.plain_resolved.proofs.Facts.{AnyNote, ItemHas}
 use Rattle.plain_resolved.proofs.FactsFlat.{Tests}
 use Rattle.plain_resolved.proofs.FactsMoved.{labels_of, reached_of, slot_of, Source as FromSource, facts_moved, declarations_have, plain_trees}
@@ -47,10 +48,6 @@ use Rattle.plain_resolved.proofs.Wrappers.{bracket_most, truth_counted, case_cou
 
 abbrev Counts : (V O C : ℕ) → Tree → Type 0
 Counts v o c x = ItemHas (λ e. counted_at 2 e ≤ v) (λ e. counted e ≤ o) (λ e. counted_at 3 e ≤ c) (λ e. most_if e ≤ c) AnyNote x
-
-append_all : (P : ExpressionTree → Type 0) (xs ys : List ExpressionTree) → AllByRecursion P xs → AllByRecursion P ys → AllByRecursion P (xs ++ ys)
-append_all P [] ys h g = g
-append_all P (x ∷ xs) ys h g = (h.0, append_all P xs ys h.1 g)
 
 first_all : (P : ExpressionTree → Type 0) (xs ys : List ExpressionTree) → AllByRecursion P (xs ++ ys) → AllByRecursion P xs
 first_all P [] ys h = tt
@@ -100,7 +97,7 @@ module _ (f : Function) (n v : ℕ) (more : n + 1 ≤ v) where
   cases_within : (c : Sections) → most_counted_in c ≤ n → AllByRecursion (λ e. counted_at 3 e ≤ n) (all_cases c)
   cases_within NoSection h = tt
   cases_within (Section cases default a ends c) h =
-      append_all (λ e. counted_at 3 e ≤ n) cases (all_cases c) (list_within 3 n cases (omega (arith, h))) (cases_within c (omega (arith, h)))
+      each_append (λ e. counted_at 3 e ≤ n) cases (all_cases c) (list_within 3 n cases (omega (arith, h))) (cases_within c (omega (arith, h)))
 
   abbrev Counted : Tree → Type 0
   Counted x = Counts v (v + 3) n x

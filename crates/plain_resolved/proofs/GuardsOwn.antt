@@ -1,5 +1,5 @@
 -- Where no name of a guard is used elsewhere, each variable of the plain form of a function has a name of its own.
-use Rattle.std.proofs.Common.{◌≡◌, ℕ, zero, suc, ◌+◌, ◌≤◌, ◌||◌, Bool, true, false, true≢false, cond, List, [], ◌∷◌, ◌++◌, length, map, take, drop, Option, Some, None, refl, sym, ap, subst, ◌∙◌, arith}
+use Rattle.std.proofs.Common.{◌≡◌, ℕ, ◌+◌, ◌≤◌, ◌||◌, Bool, true, false, true≢false, cond, List, [], ◌∷◌, ◌++◌, length, map, take, drop, Option, Some, None, refl, sym, ap, subst, ◌∙◌}
 use Rattle.std.specs.Prelude.{◌≢◌}
 use Rattle.std.specs.Str.{bytes_eq}
 use Rattle.std.proofs.lemmas.Slice.Eq.{bytes_eq-Decides}
@@ -19,6 +19,7 @@ use Rattle.c_resolved.specs.Within.{Each, AllDiffer}
 use Rattle.c_resolved.specs.PrintableExpressions.{IsName}
 use Rattle.plain_resolved.specs.Names.{TopIsOther, IsFreeIn, HasOwnNames}
 use Rattle.plain_resolved.specs.Guards.{HasNames}
+use Rattle.plain_resolved.proofs.Lists.{each_map, each_both, each_append, drop_append, take_append, each_taken, each_dropped, each_name}
 use Rattle.plain_resolved.proofs.GuardWords.{IsGuardName, are_guard_names, guard_is_name, guard_unknown, guard_some}
 use Rattle.plain_resolved.proofs.PlainTops.{plain_flat, no_body}
 
@@ -70,14 +71,6 @@ module _ (m : List ℕ) where
 
 -- ---- new names
 
-each_map : {A : Type 0} (P Q : A → Type 0) (f : (x : A) → P x → Q x) (xs : List A) → Each P xs → Each Q xs
-each_map P Q f [] h = tt
-each_map P Q f (x ∷ xs) h = (f x h.0, each_map P Q f xs h.1)
-
-each_both : {A : Type 0} (P Q : A → Type 0) (xs : List A) → Each P xs → Each Q xs → Each (λ x. P x × Q x) xs
-each_both P Q [] h g = tt
-each_both P Q (x ∷ xs) h g = ((h.0, g.0), each_both P Q xs h.1 g.1)
-
 all_new : (used gs : List (List ℕ)) → AreNew used gs → Each (λ m. has_name used m ≡ false) gs
 all_new used [] h = tt
 all_new used (g ∷ gs) h = (h.0, each_map (λ m. has_name (g ∷ used) m ≡ false) (λ m. has_name used m ≡ false) (λ m e. rest_not m g used e) gs (all_new (g ∷ used) gs h.1))
@@ -108,36 +101,12 @@ module _ (xs : List Item) where
 
 -- ---- lists, one after the other
 
-each_append : {A : Type 0} (P : A → Type 0) (xs ys : List A) → Each P xs → Each P ys → Each P (xs ++ ys)
-each_append P [] ys h g = g
-each_append P (x ∷ xs) ys h g = (h.0, each_append P xs ys h.1 g)
-
 differ_append : (xs ys : List (List ℕ)) → AllDiffer xs → AllDiffer ys → Each (λ y. Each (λ x. x ≢ y) xs) ys → AllDiffer (xs ++ ys)
 differ_append [] ys h g k = g
 differ_append (x ∷ xs) ys h g k = (
   each_append (λ y. y ≢ x) xs ys h.0 (each_map (λ y. Each (λ z. z ≢ y) (x ∷ xs)) (λ y. y ≢ x) (λ y e i. e.0 (sym i)) ys k),
   differ_append xs ys h.1 g (each_map (λ y. Each (λ z. z ≢ y) (x ∷ xs)) (λ y. Each (λ z. z ≢ y) xs) (λ y e. e.1) ys k),
 )
-
-drop_append : {A : Type 0} (n : ℕ) (xs ys : List A) → n ≤ length xs → drop n (xs ++ ys) ≡ drop n xs ++ ys
-drop_append zero xs ys h = refl
-drop_append (suc n) [] ys h = absurd (omega (arith, h))
-drop_append (suc n) (x ∷ xs) ys h = drop_append n xs ys (omega (arith, h))
-
-take_append : {A : Type 0} (n : ℕ) (xs ys : List A) → n ≤ length xs → take n (xs ++ ys) ≡ take n xs
-take_append zero xs ys h = refl
-take_append (suc n) [] ys h = absurd (omega (arith, h))
-take_append (suc n) (x ∷ xs) ys h = ap (λ l. x ∷ l) (take_append n xs ys (omega (arith, h)))
-
-each_taken : {A : Type 0} (P : A → Type 0) (n : ℕ) (xs : List A) → Each P xs → Each P (take n xs)
-each_taken P zero xs h = tt
-each_taken P (suc n) [] h = tt
-each_taken P (suc n) (x ∷ xs) h = (h.0, each_taken P n xs h.1)
-
-each_dropped : {A : Type 0} (P : A → Type 0) (n : ℕ) (xs : List A) → Each P xs → Each P (drop n xs)
-each_dropped P zero xs h = h
-each_dropped P (suc n) [] h = tt
-each_dropped P (suc n) (x ∷ xs) h = each_dropped P n xs h.1
 
 map_more : (xs : List Slot) (ms : List (List ℕ)) → map (λ (s : Slot). s.name) (xs ++ map guard_slot ms) ≡ map (λ (s : Slot). s.name) xs ++ ms
 map_more [] [] = refl
@@ -147,10 +116,6 @@ map_more (x ∷ xs) ms = ap (λ l. x.name ∷ l) (map_more xs ms)
 each_guard : (P : List ℕ → Type 0) (ms : List (List ℕ)) → Each P ms → Each (λ (s : Slot). P s.name) (map guard_slot ms)
 each_guard P [] h = tt
 each_guard P (m ∷ ms) h = (h.0, each_guard P ms h.1)
-
-each_name : (P : List ℕ → Type 0) (xs : List Slot) → Each (λ (s : Slot). P s.name) xs → Each P (map (λ (s : Slot). s.name) xs)
-each_name P [] h = tt
-each_name P (x ∷ xs) h = (h.0, each_name P xs h.1)
 
 -- ---- the plain form of a flat function
 

@@ -1,3 +1,4 @@
+pub mod Lists
 pub mod Facts
 pub mod FactsKept
 pub mod FactsFlat

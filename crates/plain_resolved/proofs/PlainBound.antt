@@ -41,6 +41,7 @@ use Rattle.resolved_core.specs.Laws.{BindsNothing}
 use Rattle.resolved_core.proofs.OneScope.{one_scope}
 use Rattle.resolved_core.proofs.Ranged.{each_map}
 use Rattle.plain_resolved.specs.Names.{IsFreeIn, HasOwnNames}
+use Rattle.plain_resolved.proofs.Lists.{each_both, each_name}
 use Rattle.plain_resolved.proofs.Facts.{AnyNote, ItemHas}
 use Rattle.plain_resolved.proofs.FactsFlat.{Tests}
 use Rattle.plain_resolved.proofs.FactsMoved.{labels_of, slot_of, reached_of, Left, Source, plain_trees, facts_of_plain}
@@ -59,14 +60,6 @@ use Rattle.plain_resolved.proofs.TidyForm.{plain_of, tidy_plain}
 each_under : (g : ℕ → List ℕ) (Q : List ℕ → Type 0) (ks : List ℕ) → Each Q (map g ks) → Each (λ k. Q (g k)) ks
 each_under g Q [] h = tt
 each_under g Q (k ∷ ks) h = (h.0, each_under g Q ks h.1)
-
-each_name : (Q : List ℕ → Type 0) (ss : List Slot) → Each (λ (s : Slot). Q s.name) ss → Each Q (map (λ (s : Slot). s.name) ss)
-each_name Q [] h = tt
-each_name Q (s ∷ ss) h = (h.0, each_name Q ss h.1)
-
-each_both : {X : Type 0} (P Q : X → Type 0) (xs : List X) → Each P xs → Each Q xs → Each (λ x. P x × Q x) xs
-each_both P Q [] h i = tt
-each_both P Q (x ∷ xs) h i = ((h.0, i.0), each_both P Q xs h.1 i.1)
 
 pub first_name : (k n : ℕ) (ss ts : List Slot) → take n ts ≡ take n ss → k < n → slot_name ts k ≡ slot_name ss k
 first_name k zero ss ts e b = absurd (omega (arith, b))

@@ -1,5 +1,5 @@
 -- The plain form has the declarations of the program, and its functions have the variables of the source.
-use Rattle.std.proofs.Common.{◌≡◌, ℕ, zero, suc, ◌≤◌, List, [], ◌∷◌, ◌++◌, length, map, take, is_some, refl, sym, ap, subst, ◌∙◌, arith}
+use Rattle.std.proofs.Common.{◌≡◌, ◌≤◌, List, ◌++◌, length, map, take, is_some, refl, sym, ap, subst, ◌∙◌, arith}
 use Rattle.c_tree.specs.declared.tree.Slot.{Slot}
 use Rattle.c_tree.specs.declared.tree.Function.{Function}
 use Rattle.c_tree.specs.declared.tree.Top.{Top}
@@ -7,17 +7,13 @@ use Rattle.plain_core.specs.Plain.{names_left, guard_slot}
 use Rattle.c_resolved.specs.Within.{Each}
 use Rattle.c_resolved.specs.Limits.{FlatCounts}
 use Rattle.c_resolved.specs.Resolved.{IsResolvedTop}
+use Rattle.plain_resolved.proofs.Lists.{take_append}
 use Rattle.plain_resolved.proofs.NamesKept.{KeepsSlots, keeps_self, keeps_more, extended}
 use Rattle.plain_resolved.proofs.PlainTops.{IsMovedForm, IsUnmovedForm, pt_moved, pt_unmoved, pt_declared, pt_other, PlainTops, pt_none, pt_more}
 use Rattle.plain_resolved.proofs.SameFile.{SameDeclaration, SameFile, sf_none, sf_function, sf_other}
 
 pub self_declared : (f : Function) → SameDeclaration f f
 self_declared f = record { name = refl; result = refl; file_only = refl; params = refl; parameters = refl; body = refl }
-
-take_before : {A : Type 0} (n : ℕ) (xs ys : List A) → n ≤ length xs → take n (xs ++ ys) ≡ take n xs
-take_before zero xs ys h = refl
-take_before (suc n) [] ys h = absurd (omega (arith, h))
-take_before (suc n) (x ∷ xs) ys h = ap (λ l. x ∷ l) (take_before n xs ys (omega (arith, h)))
 
 -- ---- a function with jumps
 
@@ -38,7 +34,7 @@ module _ (f h : Function) (m : IsMovedForm f h) (params : f.params ≤ length f.
   moved_parameters : take h.params h.slots ≡ take f.params f.slots
   moved_parameters =
       (λ i. take (moved_params i) (moved_slots i))
-      ∙ take_before f.params m.flat_form.slots more flat_enough
+      ∙ take_append f.params m.flat_form.slots more flat_enough
       ∙ m.is_flat.parameters
 
   pub moved_declared : SameDeclaration f h
