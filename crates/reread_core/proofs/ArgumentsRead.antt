@@ -39,7 +39,7 @@ use Rattle.reread_core.proofs.Readings.{typed_of, has_valued, there, holds_of}
 
 -- ---- tests
 
-same_kind_is : (k : IntKind) → same_kind k k ≡ true
+pub same_kind_is : (k : IntKind) → same_kind k k ≡ true
 same_kind_is K.Char = refl
 same_kind_is K.UChar = refl
 same_kind_is K.Int = refl
@@ -47,7 +47,7 @@ same_kind_is K.UInt = refl
 same_kind_is K.Long = refl
 same_kind_is K.ULong = refl
 
-same_truth_is : (b : Bool) → same_truth b b ≡ true
+pub same_truth_is : (b : Bool) → same_truth b b ≡ true
 same_truth_is true = refl
 same_truth_is false = refl
 

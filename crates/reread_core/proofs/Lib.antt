@@ -38,4 +38,5 @@ pub mod FileSources
 pub mod GlobalsRead
 pub mod EnumsRead
 pub mod StartScopes
+pub mod FunctionNamesRead
 pub mod TheLaws

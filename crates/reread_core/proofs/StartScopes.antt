@@ -66,7 +66,7 @@ module _ (ts : List Top) (free : (m : List ℕ) → is_known m ≡ true → the_
           let here : resolved.found m library ≡ None = λ i. cond (g i) some (cond (p i) some (cond (f i) some (cond (e i) some (cond (a i) some None)))) in
           let bound = function_of in
           let there : found m known_scope ≡ None =
-              λ i. cond (a i) (bound (known (codes "abort"))) (cond (e i) (bound (known (codes "exit"))) (cond (g i) (bound (known (codes "getchar"))) (cond (f i) (bound (known (codes "printf"))) (cond (p i) (bound (known (codes "putchar"))) None)))) in
+          λ i. cond (a i) (bound (known (codes "abort"))) (cond (e i) (bound (known (codes "exit"))) (cond (g i) (bound (known (codes "getchar"))) (cond (f i) (bound (known (codes "printf"))) (cond (p i) (bound (known (codes "putchar"))) None)))) in
           subst (λ o. IsSame n m o (found m known_scope)) (sym here) there
 
   pub start_same : AreSameScopes n at_start start.scopes

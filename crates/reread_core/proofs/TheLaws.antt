@@ -17,6 +17,7 @@ use Rattle.reread_core.proofs.FunctionsRead.{function_reads}
 use Rattle.reread_core.proofs.FileSources.{file_writes}
 use Rattle.reread_core.proofs.GlobalsRead.{global_reads}
 use Rattle.reread_core.proofs.EnumsRead.{enum_reads}
+use Rattle.reread_core.proofs.FunctionNamesRead.{name_reads}
 use Rattle.reread_core.proofs.StartScopes.{at_the_start, in_function}
 use Rattle.reread_core.proofs.BodyRead.{body_reads}
 use Rattle.reread_core.proofs.FullExpressions.{open_full, assigned_full, chosen_full, reads_whole, stands_tree}
@@ -52,4 +53,5 @@ reread_laws = record {
   enums = λ ts x xs ss env tokens at ps words there same h b. enum_reads ts env.word tokens words x xs ss env.scopes at ps there same h b;
   starts = at_the_start;
   inward = in_function;
+  names = λ ts f g bodies before x env ss w d there h. name_reads ts f g env.word x bodies before ss w d env.scopes there h;
 }

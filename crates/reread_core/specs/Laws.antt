@@ -57,6 +57,12 @@ use Rattle.reread_core.specs.WrittenFiles.{written_enumeration}
 use Rattle.c_tree.specs.declared.tree.Home.TheVariants as H
 use Rattle.c_scopes.specs.Files.{start}
 use Rattle.c_resolved.specs.Scopes.{Meaning, AVariable, at_start, NamesAreBound}
+use Rattle.std.specs.Prelude.{◌&&◌, false}
+use Rattle.c_types.specs.Words.{is_known}
+use Rattle.c_scopes.specs.FunctionNames.{has_function, function_bound, function_name_faults}
+use Rattle.c_resolved.specs.Names.{the_function}
+use Rattle.c_resolved.specs.Files.{SameParameters, MainIsFormed}
+use Rattle.c_resolved.specs.Scopes.{IsFunctionName}
 use Rattle.c_tree.specs.declared.tree.Top.TheVariants as T
 use Rattle.c_tree.specs.declared.tree.GlobalVariable.{GlobalVariable}
 use Rattle.c_tree.specs.Trees.{expression_trees}
@@ -226,6 +232,32 @@ abbrev pub AreOfFile : List Scope → Type 0
 AreOfFile [] = Unit {0}
 AreOfFile (s ∷ ss) = ScopeIsOfFile s × AreOfFile ss
 
+-- ---- names of functions
+
+-- what is read of a function is that of the program
+pub record IsWrittenAs (word : ℕ → List ℕ) (x : tops.Function) (f : Function) : Type 0 where
+  pub name : word x.name ≡ f.name
+  pub result : result_kind word x ≡ f.result
+  pub wants : (external : Bool) → map (want_of word external) x.parameters ≡ wants_in external (take f.params f.slots)
+  pub static : x.static ≡ f.file_only
+  pub body : is_some x.body ≡ is_some f.body
+
+-- a function with the declaration that its calls go by, where these of the file have a body, and these of them stand before
+pub record IsDeclared (ts : List Top) (f g : Function) (bodies before : List (List ℕ)) (ss : List Scope) : Type 0 where
+  pub is : the_function f.name ts ≡ Some g
+  pub defined : has_function bodies f.name ≡ is_some g.body
+  pub result : f.result ≡ g.result
+  pub parameters : SameParameters (take f.params f.slots) (take g.params g.slots)
+  pub named : IsFunctionName f.name ss
+  pub unknown : is_known f.name ≡ false
+  pub formed : MainIsFormed (T.Function f)
+  pub single : (is_some f.body && has_function before f.name) ≡ false
+
+-- its name is bound as it is in the program, without a violation
+pub record NameReads (ts : List Top) (f : Function) (bodies before : List (List ℕ)) (x : tops.Function) (env : Env) (ss : List Scope) : Type 0 where
+  pub same : AreSameScopes (record { tops = ts; slots = [] }) (behind_top ss (T.Function f)) (function_bound bodies x env).scopes
+  pub clear : (vs : Faults) → function_name_faults bodies before x env vs ≡ vs
+
 pub record RereadLaws : Type 0 where
   -- what the syntax of a derivation writes
   pub expression : (word : ℕ → List ℕ) (at : ℕ) (e : g.Expression) → term_of word (expression_node at e) ≡ At at (expression_form at e)
@@ -260,3 +292,6 @@ pub record RereadLaws : Type 0 where
   -- the scopes at the start of a file are the same, and names of the file are the same in each function
   pub starts : (ts : List Top) → NamesAreBound ts → AreSameScopes (record { tops = ts; slots = [] }) at_start start.scopes
   pub inward : (ts : List Top) (f : Function) (ss : List Scope) (scopes : List kinds.Scope) → AreOfFile ss → AreSameScopes (record { tops = ts; slots = [] }) ss scopes → AreSameScopes (names_in ts f) ss scopes
+  -- the name of a function is bound as in the program
+  pub names : (ts : List Top) (f g : Function) (bodies before : List (List ℕ)) (x : tops.Function) (env : Env) (ss : List Scope) → IsWrittenAs env.word x f → IsDeclared ts f g bodies before ss → IsInScope ss
+      → AreSameScopes (record { tops = ts; slots = [] }) ss env.scopes → NameReads ts f bodies before x env ss
