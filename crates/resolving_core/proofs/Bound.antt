@@ -55,133 +55,46 @@ use Rattle.resolving_core.proofs.Uses.{value_is, dropped_is, constant_is_value}
 use Rattle.resolving_core.proofs.Values.{IsSound, Sound}
 use Rattle.resolving_core.proofs.Walk.{Begins, Any, begins_before}
 use Rattle.resolving_core.proofs.Walked.{body_scopes, plain_scopes}
-
--- the nearest scopes have the same names
-abbrev pub Nearest : List Scope → List Scopes.Scope → Type 0
-Nearest (s ∷ scopes) (r ∷ ss) = Same s r
-Nearest _ _ = ⊥
-
-pub nearest_new : (scopes : List Scope) (ss : List Scopes.Scope) (m : List ℕ) → Nearest scopes ss → is_bound m scopes ≡ false → IsNew m ss
-nearest_new [] ss m h e = absurd h
-nearest_new (s ∷ scopes) [] m h e = absurd h
-nearest_new (s ∷ scopes) (r ∷ ss) m h e = h m ∙ by (found m s) e
-  where
-    by : (o : Option Binding) → is_some o ≡ false → option_map (meaning_of m) o ≡ None
-    by None e = refl
-    by (Some b) e = absurd (true≢false e)
-
-pub nearest_bound : (scopes : List Scope) (ss : List Scopes.Scope) (m : List ℕ) (b : Binding) → Nearest scopes ss → is_bound m scopes ≡ false → Nearest (bind m b scopes) (Scopes.bind m (meaning_of m b) ss)
-nearest_bound [] ss m b h e = absurd h
-nearest_bound (s ∷ scopes) [] m b h e = absurd h
-nearest_bound (s ∷ scopes) (r ∷ ss) m b h e = same_new (λ m. true) s r m b h e
+use Rattle.resolving_core.proofs.BoundTerms.{Nearest, nearest_new, nearest_bound, At, at_inside, at_scopes, Binds, binds_none, bound-join, behind-join, binds_both, binds_one, names_bound, value_bound, dropped_bound, constant_bound, values_bound, drops_bound, returned_bound}
 
 module _ (ctx : Context) (n : Names) where
-  -- a place, by the scopes of the tree
-  pub record At (w : Walk) (ss : List Scopes.Scope) : Type 0 where
-    pub knows : Knows n ss (env_at ctx w)
-    pub nearest : Nearest w.scopes ss
-
-  at_inside : (w : Walk) (ss : List Scopes.Scope) → At w ss → At (enter w) (inside ss)
-  at_inside w ss a = record { knows = knows_inside n ctx.word w.scopes ss a.knows; nearest = λ m. refl }
-
-  at_scopes : (v w : Walk) (ss : List Scopes.Scope) → v.scopes ≡ w.scopes → At w ss → At v ss
-  at_scopes v w ss e a = record { knows = subst (λ sc. Knows n ss (record { word = ctx.word; scopes = sc })) (sym e) a.knows; nearest = subst (λ sc. Nearest sc ss) (sym e) a.nearest }
-
-  -- ---- lists of items
-
-  pub record Binds (ss ss' : List Scopes.Scope) (xs : List item.Item) : Type 0 where
-    pub bound : AreBound n.slots ss (trees_of xs)
-    pub behind_it : behind_all n.slots ss (trees_of xs) ≡ ss'
-
-  binds_none : (ss : List Scopes.Scope) → Binds ss ss []
-  binds_none ss = record { bound = subst (AreBound n.slots ss) (sym trees-none) tt; behind_it = ap (behind_all n.slots ss) trees-none }
-
-  bound-join : (ss : List Scopes.Scope) (a b : Forest) → AreBound n.slots ss a → AreBound n.slots (behind_all n.slots ss a) b → AreBound n.slots ss (join a b)
-  bound-join ss Nil b h k = k
-  bound-join ss (tree.Then x a) b h k = (h.0, bound-join (behind n.slots ss x) a b h.1 k)
-
-  behind-join : (ss : List Scopes.Scope) (a b : Forest) → behind_all n.slots ss (join a b) ≡ behind_all n.slots (behind_all n.slots ss a) b
-  behind-join ss Nil b = refl
-  behind-join ss (tree.Then x a) b = behind-join (behind n.slots ss x) a b
-
-  pub binds_both : (s t u : List Scopes.Scope) (xs ys : List item.Item) → Binds s t xs → Binds t u ys → Binds s u (xs ++ ys)
-  binds_both s t u xs ys h k = record {
-    bound = subst (AreBound n.slots s) (sym (trees-append xs ys)) (bound-join s (trees_of xs) (trees_of ys) h.bound (subst (λ z. AreBound n.slots z (trees_of ys)) (sym h.behind_it) k.bound));
-    behind_it = ap (behind_all n.slots s) (trees-append xs ys) ∙ (behind-join s (trees_of xs) (trees_of ys) ∙ (ap (λ z. behind_all n.slots z (trees_of ys)) h.behind_it ∙ k.behind_it));
-  }
-
-  binds_one : (s t : List Scopes.Scope) (x : item.Item) (z : Tree) → tree_of x ≡ z → ItemIsBound n.slots s z → behind n.slots s z ≡ t → Binds s t (x ∷ [])
-  binds_one s t x z e h b =
-      let f = trees-more x [] ∙ (λ i. tree.Then (e i) (trees-none i)) in
-      record { bound = subst (AreBound n.slots s) (sym f) (h, tt); behind_it = ap (behind_all n.slots s) f ∙ b }
-
-  -- ---- expressions
-
-  names_bound : (ss : List Scopes.Scope) (x : ExpressionTree) → Sound n ss x → IsBound n.slots ss x
-  names_bound ss x h = within_map (IsSound n ss) (NameIsBound n.slots ss) (λ x h. h.2) x h
-
-  value_bound : (w : Walk) (ss : List Scopes.Scope) (t : Term) → At w ss → IsReadTerm ctx.word t → value_faults (env_at ctx w) t [] ≡ [] → IsBound n.slots ss (expression_tree (value_at (env_at ctx w) t))
-  value_bound w ss t a r e = names_bound ss _ (value_is n ss (env_at ctx w) a.knows t r e).0.0
-
-  dropped_bound : (w : Walk) (ss : List Scopes.Scope) (t : Term) → At w ss → IsReadTerm ctx.word t → dropped_faults (env_at ctx w) t [] ≡ [] → IsBound n.slots ss (expression_tree (dropped_at (env_at ctx w) t))
-  dropped_bound w ss t a r e = names_bound ss _ (dropped_is n ss (env_at ctx w) a.knows t r e).0
-
-  constant_bound : (w : Walk) (ss : List Scopes.Scope) (t : Term) → At w ss → IsReadTerm ctx.word t → constant_faults (env_at ctx w) t [] ≡ [] → IsBound n.slots ss (expression_tree (constant_at (env_at ctx w) t))
-  constant_bound w ss t a r e = names_bound ss _ (constant_is_value n ss (env_at ctx w) a.knows t r e).operand.0
-
-  values_bound : (w : Walk) (ss : List Scopes.Scope) (o : Option Term) → At w ss → IfSome o (IsReadTerm ctx.word) → optional_faults (value_faults (env_at ctx w)) o [] ≡ []
-      → IfSome (option_map expression_tree (option_map (value_at (env_at ctx w)) o)) (IsBound n.slots ss)
-  values_bound w ss None a r e = tt
-  values_bound w ss (Some t) a r e = value_bound w ss t a r e
-
-  drops_bound : (w : Walk) (ss : List Scopes.Scope) (o : Option Term) → At w ss → IfSome o (IsReadTerm ctx.word) → optional_faults (dropped_faults (env_at ctx w)) o [] ≡ []
-      → IfSome (option_map expression_tree (option_map (dropped_at (env_at ctx w)) o)) (IsBound n.slots ss)
-  drops_bound w ss None a r e = tt
-  drops_bound w ss (Some t) a r e = dropped_bound w ss t a r e
-
-  returned_bound : (k : Option IntKind) (w : Walk) (ss : List Scopes.Scope) (first : ℕ) (o : Option Term) → At w ss → IfSome o (IsReadTerm ctx.word) → return_faults k (env_at ctx w) first o [] ≡ []
-      → IfSome (option_map expression_tree (option_map (value_at (env_at ctx w)) o)) (IsBound n.slots ss)
-  returned_bound k w ss first None a r e = tt
-  returned_bound (Some k) w ss first (Some t) a r e = value_bound w ss t a r e
-  returned_bound None w ss first (Some t) a r e = absurd (none_left _ _ e)
-
   -- ---- comments and labels
 
-  notes_bind : (ss : List Scopes.Scope) (bs : List (List ℕ)) → Binds ss ss (map item.Note bs)
-  notes_bind ss [] = binds_none ss
-  notes_bind ss (b ∷ bs) = binds_both ss ss ss (item.Note b ∷ []) (map item.Note bs) (binds_one ss ss (item.Note b) (tree.Note b) (tree-Note b) tt refl) (notes_bind ss bs)
+  notes_bind : (ss : List Scopes.Scope) (bs : List (List ℕ)) → Binds ctx n ss ss (map item.Note bs)
+  notes_bind ss [] = binds_none ctx n ss
+  notes_bind ss (b ∷ bs) = binds_both ctx n ss ss ss (item.Note b ∷ []) (map item.Note bs) (binds_one ctx n ss ss (item.Note b) (tree.Note b) (tree-Note b) tt refl) (notes_bind ss bs)
 
-  pub place_binds : (ss : List Scopes.Scope) (a : Anchor) → Binds ss ss (notes_at ctx a)
+  pub place_binds : (ss : List Scopes.Scope) (a : Anchor) → Binds ctx n ss ss (notes_at ctx a)
   place_binds ss a = notes_bind ss (ctx.notes a)
 
-  behind_notes : (s t : List Scopes.Scope) (a : Anchor) (xs : List item.Item) → Binds s t xs → Binds s t (notes_at ctx a ++ xs)
-  behind_notes s t a xs h = binds_both s s t (notes_at ctx a) xs (place_binds s a) h
+  behind_notes : (s t : List Scopes.Scope) (a : Anchor) (xs : List item.Item) → Binds ctx n s t xs → Binds ctx n s t (notes_at ctx a ++ xs)
+  behind_notes s t a xs h = binds_both ctx n s s t (notes_at ctx a) xs (place_binds s a) h
 
-  mark_binds : (ss : List Scopes.Scope) (at : ℕ) → Binds ss ss (mark ctx at)
-  mark_binds ss at = let l = number_in ctx.labels (ctx.word at) in behind_notes ss ss (Before at) (item.Mark l ∷ []) (binds_one ss ss (item.Mark l) (tree.Mark l) (tree-Mark l) tt refl)
+  mark_binds : (ss : List Scopes.Scope) (at : ℕ) → Binds ctx n ss ss (mark ctx at)
+  mark_binds ss at = let l = number_in ctx.labels (ctx.word at) in behind_notes ss ss (Before at) (item.Mark l ∷ []) (binds_one ctx n ss ss (item.Mark l) (tree.Mark l) (tree-Mark l) tt refl)
 
-  label_binds : (w : Walk) (ss : List Scopes.Scope) (switch : Bool) (l : Label) → At w ss → IsReadLabel ctx.word l → label_faults (env_at ctx w) switch l [] ≡ [] → Binds ss ss (label_items ctx (env_at ctx w) l)
+  label_binds : (w : Walk) (ss : List Scopes.Scope) (switch : Bool) (l : Label) → At ctx n w ss → IsReadLabel ctx.word l → label_faults (env_at ctx w) switch l [] ≡ [] → Binds ctx n ss ss (label_items ctx (env_at ctx w) l)
   label_binds w ss switch (Named at after) a r e = mark_binds ss at
   label_binds w ss switch (Case at after t) a r e =
       let env = env_at ctx w in
       let k = parted (constant_faults env t) (fault_if (not switch) at 29) (constant_empty env t) e in
       let x = item.Arrival (Some (constant_at env t)) in
-      behind_notes ss ss (Before at) (x ∷ []) (binds_one ss ss x _ (tree-Arrival (Some (constant_at env t))) (constant_bound w ss t a r k.1) refl)
-  label_binds w ss switch (Default at after) a r e = behind_notes ss ss (Before at) (item.Arrival None ∷ []) (binds_one ss ss (item.Arrival None) (tree.Arrival None) (tree-Arrival None) tt refl)
+      behind_notes ss ss (Before at) (x ∷ []) (binds_one ctx n ss ss x _ (tree-Arrival (Some (constant_at env t))) (constant_bound ctx n w ss t a r k.1) refl)
+  label_binds w ss switch (Default at after) a r e = behind_notes ss ss (Before at) (item.Arrival None ∷ []) (binds_one ctx n ss ss (item.Arrival None) (tree.Arrival None) (tree-Arrival None) tt refl)
 
-  labels_bind : (w : Walk) (ss : List Scopes.Scope) (switch : Bool) (ls : List Label) → At w ss → Each (IsReadLabel ctx.word) ls → labels_faults (env_at ctx w) switch ls [] ≡ [] → Binds ss ss (labels_items ctx (env_at ctx w) ls)
-  labels_bind w ss switch [] a r e = binds_none ss
+  labels_bind : (w : Walk) (ss : List Scopes.Scope) (switch : Bool) (ls : List Label) → At ctx n w ss → Each (IsReadLabel ctx.word) ls → labels_faults (env_at ctx w) switch ls [] ≡ [] → Binds ctx n ss ss (labels_items ctx (env_at ctx w) ls)
+  labels_bind w ss switch [] a r e = binds_none ctx n ss
   labels_bind w ss switch (l ∷ ls) a r e =
       let p = labels_parts (env_at ctx w) switch l ls e in
-      binds_both ss ss ss (label_items ctx (env_at ctx w) l) (labels_items ctx (env_at ctx w) ls) (label_binds w ss switch l a r.0 p.0) (labels_bind w ss switch ls a r.1 p.1)
+      binds_both ctx n ss ss ss (label_items ctx (env_at ctx w) l) (labels_items ctx (env_at ctx w) ls) (label_binds w ss switch l a r.0 p.0) (labels_bind w ss switch ls a r.1 p.1)
 
-  marks_bind : (ss : List Scopes.Scope) (ls : List Label) → Binds ss ss (section_marks ctx ls)
-  marks_bind ss [] = binds_none ss
-  marks_bind ss (Named at after ∷ ls) = binds_both ss ss ss (mark ctx at) (section_marks ctx ls) (mark_binds ss at) (marks_bind ss ls)
+  marks_bind : (ss : List Scopes.Scope) (ls : List Label) → Binds ctx n ss ss (section_marks ctx ls)
+  marks_bind ss [] = binds_none ctx n ss
+  marks_bind ss (Named at after ∷ ls) = binds_both ctx n ss ss ss (mark ctx at) (section_marks ctx ls) (mark_binds ss at) (marks_bind ss ls)
   marks_bind ss (Case at after t ∷ ls) = marks_bind ss ls
   marks_bind ss (Default at after ∷ ls) = marks_bind ss ls
 
-  cases_bound : (w : Walk) (ss : List Scopes.Scope) (switch : Bool) (ls : List Label) → At w ss → Each (IsReadLabel ctx.word) ls → labels_faults (env_at ctx w) switch ls [] ≡ []
+  cases_bound : (w : Walk) (ss : List Scopes.Scope) (switch : Bool) (ls : List Label) → At ctx n w ss → Each (IsReadLabel ctx.word) ls → labels_faults (env_at ctx w) switch ls [] ≡ []
       → Each (IsBound n.slots ss) (expression_trees (section_cases (env_at ctx w) ls))
   cases_bound w ss switch [] a r e = tt
   cases_bound w ss switch (Named at after ∷ ls) a r e = cases_bound w ss switch ls a r.1 (labels_parts (env_at ctx w) switch (Named at after) ls e).1
@@ -189,7 +102,7 @@ module _ (ctx : Context) (n : Names) where
       let env = env_at ctx w in
       let p = labels_parts env switch (Case at after t) ls e in
       let k = parted (constant_faults env t) (fault_if (not switch) at 29) (constant_empty env t) p.0 in
-      (constant_bound w ss t a r.0 k.1, cases_bound w ss switch ls a r.1 p.1)
+      (constant_bound ctx n w ss t a r.0 k.1, cases_bound w ss switch ls a r.1 p.1)
   cases_bound w ss switch (Default at after ∷ ls) a r e = cases_bound w ss switch ls a r.1 (labels_parts (env_at ctx w) switch (Default at after) ls e).1
 
   -- ---- declarations
@@ -201,8 +114,8 @@ module _ (ctx : Context) (n : Names) where
   slot_named k d w b = ap (λ (o : Option Slot). option_map_or (λ (s : Slot). s.name) o []) (ap (λ l. slice_get l (length w.slots)) b.1 ∙ slot_there w.slots b.0 (slot_of (env_in ctx.word w) k d))
 
   -- behind a declared name
-  at_declared : (k : Kinded) (d : Declarator) (w : Walk) (ss : List Scopes.Scope) → At w ss → local_faults ctx.word k d w [] ≡ [] → Ends (declared ctx.word k d w)
-      → At (declared ctx.word k d w) (Scopes.bind (ctx.word d.name) (AVariable (H.Slot (length w.slots))) ss)
+  at_declared : (k : Kinded) (d : Declarator) (w : Walk) (ss : List Scopes.Scope) → At ctx n w ss → local_faults ctx.word k d w [] ≡ [] → Ends (declared ctx.word k d w)
+      → At ctx n (declared ctx.word k d w) (Scopes.bind (ctx.word d.name) (AVariable (H.Slot (length w.slots))) ss)
   at_declared k d w ss a e b = record {
     knows = knows_declared ctx.word n k d w ss e b a.knows;
     nearest = nearest_bound w.scopes ss (ctx.word d.name) (B.Local (length w.slots) (shape_of k d)) a.nearest (local_parts ctx.word k d w e).new;
@@ -211,11 +124,11 @@ module _ (ctx : Context) (n : Names) where
   -- a list, and the place behind it
   pub record Leads (ss : List Scopes.Scope) (xs : List item.Item) (w : Walk) : Type 0 where
     pub ss' : List Scopes.Scope
-    pub binds : Binds ss ss' xs
-    pub at : At w ss'
+    pub binds : Binds ctx n ss ss' xs
+    pub at : At ctx n w ss'
 
-  local_bound : (k : Kinded) (d : Declarator) (w : Walk) (ss : List Scopes.Scope) → At w ss → IsReadDeclarator ctx.word d → (e : local_faults ctx.word k d w [] ≡ []) → Ends (declared ctx.word k d w)
-      → Binds ss (Scopes.bind (ctx.word d.name) (AVariable (H.Slot (length w.slots))) ss) (local ctx.word k d w ∷ [])
+  local_bound : (k : Kinded) (d : Declarator) (w : Walk) (ss : List Scopes.Scope) → At ctx n w ss → IsReadDeclarator ctx.word d → (e : local_faults ctx.word k d w [] ≡ []) → Ends (declared ctx.word k d w)
+      → Binds ctx n ss (Scopes.bind (ctx.word d.name) (AVariable (H.Slot (length w.slots))) ss) (local ctx.word k d w ∷ [])
   local_bound k d w ss a r e b =
       let v = declared ctx.word k d w in
       let given = initial (value_at (env_in ctx.word v)) d.value in
@@ -224,28 +137,28 @@ module _ (ctx : Context) (n : Names) where
       let after = at_declared k d w ss a e b in
       let ss' = Scopes.bind (ctx.word d.name) (AVariable (H.Slot (length w.slots))) ss in
       let same : behind n.slots ss (tree.Local (length w.slots) (option_map expression_trees given)) ≡ ss' = ap (λ m. Scopes.bind m (AVariable (H.Slot (length w.slots))) ss) name in
-      binds_one ss ss' (local ctx.word k d w) _ (tree-Local (length w.slots) given) (
+      binds_one ctx n ss ss' (local ctx.word k d w) _ (tree-Local (length w.slots) given) (
         subst (λ m. IsNew m ss) (sym name) (nearest_new w.scopes ss (ctx.word d.name) a.nearest p.new),
         subst (λ z. IfSome (option_map expression_trees given) (Each (IsBound n.slots z))) (sym same)
-            (values_are ctx.word (value_faults (env_in ctx.word v)) (value_empty (env_in ctx.word v)) (value_at (env_in ctx.word v)) (IsBound n.slots ss') (λ t rt et. value_bound v ss' t after rt et) d.value r.value p.values),
+            (values_are ctx.word (value_faults (env_in ctx.word v)) (value_empty (env_in ctx.word v)) (value_at (env_in ctx.word v)) (IsBound n.slots ss') (λ t rt et. value_bound ctx n v ss' t after rt et) d.value r.value p.values),
       )
       same
 
-  locals_bind : (k : Kinded) (ds : List Declarator) (w : Walk) (ss : List Scopes.Scope) → At w ss → Each (IsReadDeclarator ctx.word) ds → locals_faults ctx.word k ds w [] ≡ [] → Ends (all_declared ctx.word k ds w)
+  locals_bind : (k : Kinded) (ds : List Declarator) (w : Walk) (ss : List Scopes.Scope) → At ctx n w ss → Each (IsReadDeclarator ctx.word) ds → locals_faults ctx.word k ds w [] ≡ [] → Ends (all_declared ctx.word k ds w)
       → Leads ss (locals ctx.word k ds w) (all_declared ctx.word k ds w)
-  locals_bind k [] w ss a r e z = record { ss' = ss; binds = binds_none ss; at = a }
+  locals_bind k [] w ss a r e z = record { ss' = ss; binds = binds_none ctx n ss; at = a }
   locals_bind k (d ∷ ds) w ss a r e z =
       let p = locals_parts ctx.word k d ds w e in
       let v = declared ctx.word k d w in
       let b = begins_before v.slots (all_declared ctx.word k ds v).slots n.slots (locals_grow ctx Any (λ k d w r e. tt) k ds v r.1 p.1) z in
       let mid = Scopes.bind (ctx.word d.name) (AVariable (H.Slot (length w.slots))) ss in
       let rest = locals_bind k ds v mid (at_declared k d w ss a p.0 b) r.1 p.1 z in
-      record { ss' = rest.ss'; binds = binds_both ss mid rest.ss' (local ctx.word k d w ∷ []) (locals ctx.word k ds v) (local_bound k d w ss a r.0 p.0 b) rest.binds; at = rest.at }
+      record { ss' = rest.ss'; binds = binds_both ctx n ss mid rest.ss' (local ctx.word k d w ∷ []) (locals ctx.word k ds v) (local_bound k d w ss a r.0 p.0 b) rest.binds; at = rest.at }
 
-  start_binds : (start : Start) (w : Walk) (ss : List Scopes.Scope) → At w ss → IsReadStart ctx.word start → start_faults ctx start w [] ≡ [] → Ends (behind_start ctx start w) → Leads ss (start_items ctx start w) (behind_start ctx start w)
-  start_binds NoStart w ss a r e z = record { ss' = ss; binds = binds_none ss; at = a }
+  start_binds : (start : Start) (w : Walk) (ss : List Scopes.Scope) → At ctx n w ss → IsReadStart ctx.word start → start_faults ctx start w [] ≡ [] → Ends (behind_start ctx start w) → Leads ss (start_items ctx start w) (behind_start ctx start w)
+  start_binds NoStart w ss a r e z = record { ss' = ss; binds = binds_none ctx n ss; at = a }
   start_binds (StartValue t) w ss a r e z =
-      let x = dropped_at (env_at ctx w) t in record { ss' = ss; binds = binds_one ss ss (item.Evaluate x) _ (tree-Evaluate x) (dropped_bound w ss t a r e) refl; at = a }
+      let x = dropped_at (env_at ctx w) t in record { ss' = ss; binds = binds_one ctx n ss ss (item.Evaluate x) _ (tree-Evaluate x) (dropped_bound ctx n w ss t a r e) refl; at = a }
   start_binds (StartNames d) w ss a r e z = locals_bind (kinded ctx.word d) d.names w ss a r e z
 
   -- ---- sections
@@ -260,12 +173,12 @@ module _ (ctx : Context) (n : Names) where
   -- a section that is being read: its scopes at its beginning, and by now
   abbrev pub ReadingBound : List Scopes.Scope → List Scopes.Scope → Option Reading → Type 0
   ReadingBound s t None = s ≡ t
-  ReadingBound s t (Some r) = Each (IsBound n.slots s) (expression_trees r.cases) × Binds s t r.list
+  ReadingBound s t (Some r) = Each (IsBound n.slots s) (expression_trees r.cases) × Binds ctx n s t r.list
 
-  extended_bound : (s t u : List Scopes.Scope) (o : Option Reading) (xs : List item.Item) → ReadingBound s t o → Binds t u xs → ReadingBound s u (extended o xs)
-  extended_bound s t u (Some r) xs h k = (h.0, binds_both s t u r.list xs h.1 k)
+  extended_bound : (s t u : List Scopes.Scope) (o : Option Reading) (xs : List item.Item) → ReadingBound s t o → Binds ctx n t u xs → ReadingBound s u (extended o xs)
+  extended_bound s t u (Some r) xs h k = (h.0, binds_both ctx n s t u r.list xs h.1 k)
   extended_bound s t u None [] h k = h ∙ (sym (ap (behind_all n.slots t) trees-none) ∙ k.behind_it)
-  extended_bound s t u None (x ∷ xs) h k = (tt, subst (λ z. Binds z u (x ∷ xs)) (sym h) k)
+  extended_bound s t u None (x ∷ xs) h k = (tt, subst (λ z. Binds ctx n z u (x ∷ xs)) (sym h) k)
 
   cut_bound : (ss : List Scopes.Scope) (a : Forest) → AreBound n.slots ss a → AreBound n.slots ss (without_end a)
   cut_bound ss Nil h = tt
@@ -315,14 +228,14 @@ module _ (ctx : Context) (n : Names) where
   switch_bound : (ss : List Scopes.Scope) (cs : List Section) → SectionsBound ss cs → SectionsAreBound n.slots ss (sections_of (passed_on [] false cs))
   switch_bound ss cs h = subst (SectionsAreBound n.slots ss) (sym (sections_are (passed_on [] false cs) ∙ ap sections (passed_same [] false cs))) (trees_bound ss (passed_trees [] false (map section_tree cs)) (passed_bound ss [] false (map section_tree cs) tt h))
 
-  end_bound : (s t : List Scopes.Scope) (o : Option Reading) (notes : List item.Item) → ReadingBound s t o → ((z : List Scopes.Scope) → Binds z z notes) → SectionsBound s (statements.sections_of o notes)
+  end_bound : (s t : List Scopes.Scope) (o : Option Reading) (notes : List item.Item) → ReadingBound s t o → ((z : List Scopes.Scope) → Binds ctx n z z notes) → SectionsBound s (statements.sections_of o notes)
   end_bound s t None notes h k = tt
   end_bound s t (Some r) notes h k = subst (SectionsBound s) (append-nil (closed (extended (Some r) notes))) (closed_bound s t (extended (Some r) notes) [] (extended_bound s t t (Some r) notes h (k t)) tt)
 
-  begun_bound : (w : Walk) (ss : List Scopes.Scope) (switch : Bool) (ls : List Label) (xs : List item.Item) → At w ss → Each (IsReadLabel ctx.word) ls → labels_faults (env_at ctx w) switch ls [] ≡ [] → Binds ss ss xs
+  begun_bound : (w : Walk) (ss : List Scopes.Scope) (switch : Bool) (ls : List Label) (xs : List item.Item) → At ctx n w ss → Each (IsReadLabel ctx.word) ls → labels_faults (env_at ctx w) switch ls [] ≡ [] → Binds ctx n ss ss xs
       → ReadingBound ss ss (begun ctx (env_at ctx w) ls xs)
   begun_bound w ss switch ls xs a r e h =
-      (cases_bound w ss switch ls a r e, binds_both ss ss ss (notes_at ctx (AtSection (items.first_label ls)) ++ section_marks ctx ls) xs (behind_notes ss ss (AtSection (items.first_label ls)) (section_marks ctx ls) (marks_bind ss ls)) h)
+      (cases_bound w ss switch ls a r e, binds_both ctx n ss ss ss (notes_at ctx (AtSection (items.first_label ls)) ++ section_marks ctx ls) xs (behind_notes ss ss (AtSection (items.first_label ls)) (section_marks ctx ls) (marks_bind ss ls)) h)
 
   inside_by : (b : Bool) (s t : List Scopes.Scope) (o : Option Reading) (xs ys : List Section) → ReadingBound s t o → SectionsBound t xs → SectionsBound s ys → SectionsBound s (elim b [ true ↦ closed o ++ xs | false ↦ ys ])
   inside_by true s t o xs ys h f g = closed_bound s t o xs h f
@@ -344,28 +257,28 @@ module _ (ctx : Context) (n : Names) where
   end_by false ss xs ys f g = g
 
   mutual
-    pub item_binds : (around : Around) (x : Item) (w : Walk) (ss : List Scopes.Scope) → At w ss → IsReadItem ctx.word ctx.notes x → item_faults ctx around x w [] ≡ [] → Ends (behind_item ctx x w)
+    pub item_binds : (around : Around) (x : Item) (w : Walk) (ss : List Scopes.Scope) → At ctx n w ss → IsReadItem ctx.word ctx.notes x → item_faults ctx around x w [] ≡ [] → Ends (behind_item ctx x w)
         → Leads ss (item_items ctx x w) (behind_item ctx x w)
     item_binds around (Declares first after d) w ss a r e z =
         let l = locals_bind (kinded ctx.word d) d.names w ss a r e z in
         record { ss' = l.ss'; binds = behind_notes ss l.ss' (Before first) (locals ctx.word (kinded ctx.word d) d.names w) l.binds; at = l.at }
     item_binds around (States ls p) w ss a r e z =
         let q = states_parts ctx around w ls p e in
-        record { ss' = ss; binds = binds_both ss ss ss (labels_items ctx (env_at ctx w) ls) (plain_items ctx p w) (labels_bind w ss around.switch ls a r.0 q.0) (plain_binds around p w ss a r.1 q.1 z); at = at_scopes (behind_plain ctx p w) w ss (plain_scopes ctx p w) a }
+        record { ss' = ss; binds = binds_both ctx n ss ss ss (labels_items ctx (env_at ctx w) ls) (plain_items ctx p w) (labels_bind w ss around.switch ls a r.0 q.0) (plain_binds around p w ss a r.1 q.1 z); at = at_scopes ctx n (behind_plain ctx p w) w ss (plain_scopes ctx p w) a }
 
-    plain_binds : (around : Around) (p : Plain) (w : Walk) (ss : List Scopes.Scope) → At w ss → IsReadPlain ctx.word ctx.notes p → plain_faults ctx around p w [] ≡ [] → Ends (behind_plain ctx p w) → Binds ss ss (plain_items ctx p w)
+    plain_binds : (around : Around) (p : Plain) (w : Walk) (ss : List Scopes.Scope) → At ctx n w ss → IsReadPlain ctx.word ctx.notes p → plain_faults ctx around p w [] ≡ [] → Ends (behind_plain ctx p w) → Binds ctx n ss ss (plain_items ctx p w)
     plain_binds around (From first after s) w ss a r e z = behind_notes ss ss (Before first) (statement_items ctx s w) (statement_binds around first s w ss a r e z)
 
-    statement_binds : (around : Around) (first : ℕ) (s : Statement) (w : Walk) (ss : List Scopes.Scope) → At w ss → IsReadStatement ctx.word ctx.notes s → statement_faults ctx around first s w [] ≡ [] → Ends (statements.behind_statement ctx s w)
-        → Binds ss ss (statement_items ctx s w)
-    statement_binds around first Null w ss a r e z = binds_none ss
-    statement_binds around first (Evaluate t) w ss a r e z = let x = dropped_at (env_at ctx w) t in binds_one ss ss (item.Evaluate x) _ (tree-Evaluate x) (dropped_bound w ss t a r e) refl
+    statement_binds : (around : Around) (first : ℕ) (s : Statement) (w : Walk) (ss : List Scopes.Scope) → At ctx n w ss → IsReadStatement ctx.word ctx.notes s → statement_faults ctx around first s w [] ≡ [] → Ends (statements.behind_statement ctx s w)
+        → Binds ctx n ss ss (statement_items ctx s w)
+    statement_binds around first Null w ss a r e z = binds_none ctx n ss
+    statement_binds around first (Evaluate t) w ss a r e z = let x = dropped_at (env_at ctx w) t in binds_one ctx n ss ss (item.Evaluate x) _ (tree-Evaluate x) (dropped_bound ctx n w ss t a r e) refl
     statement_binds around first (If t b) w ss a r e z =
         let p = if_parts ctx around w first t b e in
         let v = value_at (env_at ctx w) t in
         let k = body_items ctx b w in
-        binds_one ss ss (item.If (test.Source v) k []) _ (tree-If (test.Source v) k [] ∙ ap (λ x. tree.If x (trees_of k) (trees_of [])) (test-Source v))
-        (value_bound w ss t a r.0 p.0, body_bound around b w ss a r.1 p.1 z, (binds_none (inside ss)).bound) refl
+        binds_one ctx n ss ss (item.If (test.Source v) k []) _ (tree-If (test.Source v) k [] ∙ ap (λ x. tree.If x (trees_of k) (trees_of [])) (test-Source v))
+        (value_bound ctx n w ss t a r.0 p.0, body_bound around b w ss a r.1 p.1 z, (binds_none ctx n (inside ss)).bound) refl
     statement_binds around first (IfElse t b c) w ss a r e z =
         let p = if_else_parts ctx around w first t b c e in
         let v = value_at (env_at ctx w) t in
@@ -373,18 +286,18 @@ module _ (ctx : Context) (n : Names) where
         let k = body_items ctx b w in
         let l = body_items ctx c u in
         let g = begins_before u.slots (behind_body ctx c u).slots n.slots (body_grows ctx Any (λ k d w r e. tt) around c u r.2 p.2) z in
-        binds_one ss ss (item.If (test.Source v) k l) _ (tree-If (test.Source v) k l ∙ ap (λ x. tree.If x (trees_of k) (trees_of l)) (test-Source v))
-        (value_bound w ss t a r.0 p.0, body_bound around b w ss a r.1 p.1 g, body_bound around c u ss (at_scopes u w ss (body_scopes ctx b w) a) r.2 p.2 z) refl
+        binds_one ctx n ss ss (item.If (test.Source v) k l) _ (tree-If (test.Source v) k l ∙ ap (λ x. tree.If x (trees_of k) (trees_of l)) (test-Source v))
+        (value_bound ctx n w ss t a r.0 p.0, body_bound around b w ss a r.1 p.1 g, body_bound around c u ss (at_scopes ctx n u w ss (body_scopes ctx b w) a) r.2 p.2 z) refl
     statement_binds around first (While t b) w ss a r e z =
         let p = while_parts ctx around w first t b e in
         let v = value_at (env_at ctx w) t in
         let k = body_items ctx b w in
-        binds_one ss ss (item.While (test.Source v) k) _ (tree-While (test.Source v) k ∙ ap (λ x. tree.While x (trees_of k)) (test-Source v)) (value_bound w ss t a r.0 p.0, body_bound (in_loop around) b w ss a r.1 p.1 z) refl
+        binds_one ctx n ss ss (item.While (test.Source v) k) _ (tree-While (test.Source v) k ∙ ap (λ x. tree.While x (trees_of k)) (test-Source v)) (value_bound ctx n w ss t a r.0 p.0, body_bound (in_loop around) b w ss a r.1 p.1 z) refl
     statement_binds around first (DoWhile b t) w ss a r e z =
         let p = do_parts ctx around w first b t e in
         let v = value_at (env_at ctx w) t in
         let k = body_items ctx b w in
-        binds_one ss ss (item.Do k (test.Source v)) _ (tree-Do k (test.Source v) ∙ ap (tree.Do (trees_of k)) (test-Source v)) (value_bound w ss t a r.1 p.0, body_bound (in_loop around) b w ss a r.0 p.1 z) refl
+        binds_one ctx n ss ss (item.Do k (test.Source v)) _ (tree-Do k (test.Source v) ∙ ap (tree.Do (trees_of k)) (test-Source v)) (value_bound ctx n w ss t a r.1 p.0, body_bound (in_loop around) b w ss a r.0 p.1 z) refl
     statement_binds around first (For start t u b) w ss a r e z =
         let p = for_parts ctx around w first start t u b e in
         let inner = behind_start ctx start (enter w) in
@@ -394,51 +307,51 @@ module _ (ctx : Context) (n : Names) where
         let x = option_map (value_at env) t in
         let y = option_map (dropped_at env) u in
         let g = begins_before inner.slots (behind_body ctx b inner).slots n.slots (body_grows ctx Any (λ k d w r e. tt) (in_loop around) b inner r.3 p.3) z in
-        let s = start_binds start (enter w) (inside ss) (at_inside w ss a) r.0 p.0 g in
+        let s = start_binds start (enter w) (inside ss) (at_inside ctx n w ss a) r.0 p.0 g in
         let same = sym s.binds.behind_it in
-        binds_one ss ss (item.For f x y k) _ (tree-For f x y k) (
+        binds_one ctx n ss ss (item.For f x y k) _ (tree-For f x y k) (
           s.binds.bound,
-          subst (λ q. IfSome (option_map expression_tree x) (IsBound n.slots q)) same (values_bound inner s.ss' t s.at r.1 p.1),
-          subst (λ q. IfSome (option_map expression_tree y) (IsBound n.slots q)) same (drops_bound inner s.ss' u s.at r.2 p.2),
+          subst (λ q. IfSome (option_map expression_tree x) (IsBound n.slots q)) same (values_bound ctx n inner s.ss' t s.at r.1 p.1),
+          subst (λ q. IfSome (option_map expression_tree y) (IsBound n.slots q)) same (drops_bound ctx n inner s.ss' u s.at r.2 p.2),
           subst (λ q. AreBound n.slots (inside q) (trees_of k)) same (body_bound (in_loop around) b inner s.ss' s.at r.3 p.3 z),
         ) refl
     statement_binds around first (Switch t b) w ss a r e z =
         let p = switch_parts ctx around w first t b e in
         let v = value_at (env_at ctx w) t in
         let cs = switch_sections ctx b w in
-        binds_one ss ss (item.Switch (selector.Source v) (passed_on [] false cs)) _ (tree-Switch (selector.Source v) (passed_on [] false cs) ∙ ap (λ x. tree.Switch x (sections_of (passed_on [] false cs))) (selector-Source v))
-        (value_bound w ss t a r.0 p.0, switch_bound (inside ss) cs (sections_bound (in_switch around) b w ss a r.1 p.1 z)) refl
-    statement_binds around first (Block b) w ss a r e z = let k = body_items ctx b w in binds_one ss ss (item.Block k) _ (tree-Block k) (body_bound around b w ss a r e z) refl
-    statement_binds around first (Goto at) w ss a r e z = let l = number_in ctx.labels (ctx.word at) in binds_one ss ss (item.Goto l) _ (tree-Goto l) tt refl
-    statement_binds around first Break w ss a r e z = binds_one ss ss item.Break _ tree-Break tt refl
-    statement_binds around first Continue w ss a r e z = binds_one ss ss item.Continue _ tree-Continue tt refl
-    statement_binds around first (Return t) w ss a r e z = let x = option_map (value_at (env_at ctx w)) t in binds_one ss ss (item.Return x) _ (tree-Return x) (returned_bound ctx.result w ss first t a r e) refl
+        binds_one ctx n ss ss (item.Switch (selector.Source v) (passed_on [] false cs)) _ (tree-Switch (selector.Source v) (passed_on [] false cs) ∙ ap (λ x. tree.Switch x (sections_of (passed_on [] false cs))) (selector-Source v))
+        (value_bound ctx n w ss t a r.0 p.0, switch_bound (inside ss) cs (sections_bound (in_switch around) b w ss a r.1 p.1 z)) refl
+    statement_binds around first (Block b) w ss a r e z = let k = body_items ctx b w in binds_one ctx n ss ss (item.Block k) _ (tree-Block k) (body_bound around b w ss a r e z) refl
+    statement_binds around first (Goto at) w ss a r e z = let l = number_in ctx.labels (ctx.word at) in binds_one ctx n ss ss (item.Goto l) _ (tree-Goto l) tt refl
+    statement_binds around first Break w ss a r e z = binds_one ctx n ss ss item.Break _ tree-Break tt refl
+    statement_binds around first Continue w ss a r e z = binds_one ctx n ss ss item.Continue _ tree-Continue tt refl
+    statement_binds around first (Return t) w ss a r e z = let x = option_map (value_at (env_at ctx w)) t in binds_one ctx n ss ss (item.Return x) _ (tree-Return x) (returned_bound ctx n ctx.result w ss first t a r e) refl
     statement_binds around first Unread w ss a r e z = absurd r
 
-    body_bound : (around : Around) (b : Body) (w : Walk) (ss : List Scopes.Scope) → At w ss → IsReadBody ctx.word ctx.notes b → body_faults ctx around b w [] ≡ [] → Ends (behind_body ctx b w) → AreBound n.slots (inside ss) (trees_of (body_items ctx b w))
+    body_bound : (around : Around) (b : Body) (w : Walk) (ss : List Scopes.Scope) → At ctx n w ss → IsReadBody ctx.word ctx.notes b → body_faults ctx around b w [] ≡ [] → Ends (behind_body ctx b w) → AreBound n.slots (inside ss) (trees_of (body_items ctx b w))
     body_bound around (Braces first after xs) w ss a r e z =
-        let l = list_binds around xs (enter w) (inside ss) (at_inside w ss a) r e z in
-        (binds_both (inside ss) l.ss' l.ss' (list_items ctx xs (enter w)) (notes_at ctx (AtEnd first)) l.binds (place_binds l.ss' (AtEnd first))).bound
+        let l = list_binds around xs (enter w) (inside ss) (at_inside ctx n w ss a) r e z in
+        (binds_both ctx n (inside ss) l.ss' l.ss' (list_items ctx xs (enter w)) (notes_at ctx (AtEnd first)) l.binds (place_binds l.ss' (AtEnd first))).bound
     body_bound around (Lone first after x) w ss a r e z =
-        let l = item_binds around x (enter w) (inside ss) (at_inside w ss a) r e z in
-        (binds_both (inside ss) l.ss' l.ss' (item_items ctx x (enter w)) (notes_at ctx (AtEnd first)) l.binds (place_binds l.ss' (AtEnd first))).bound
+        let l = item_binds around x (enter w) (inside ss) (at_inside ctx n w ss a) r e z in
+        (binds_both ctx n (inside ss) l.ss' l.ss' (item_items ctx x (enter w)) (notes_at ctx (AtEnd first)) l.binds (place_binds l.ss' (AtEnd first))).bound
 
-    pub list_binds : (around : Around) (xs : Items) (w : Walk) (ss : List Scopes.Scope) → At w ss → AreReadItems ctx.word ctx.notes xs → list_faults ctx around xs w [] ≡ [] → Ends (behind_items ctx xs w) → Leads ss (list_items ctx xs w) (behind_items ctx xs w)
-    list_binds around NoItem w ss a r e z = record { ss' = ss; binds = binds_none ss; at = a }
+    pub list_binds : (around : Around) (xs : Items) (w : Walk) (ss : List Scopes.Scope) → At ctx n w ss → AreReadItems ctx.word ctx.notes xs → list_faults ctx around xs w [] ≡ [] → Ends (behind_items ctx xs w) → Leads ss (list_items ctx xs w) (behind_items ctx xs w)
+    list_binds around NoItem w ss a r e z = record { ss' = ss; binds = binds_none ctx n ss; at = a }
     list_binds around (items.Then x xs) w ss a r e z =
         let p = list_parts ctx around w x xs e in
         let v = behind_item ctx x w in
         let g = begins_before v.slots (behind_items ctx xs v).slots n.slots (list_grows ctx Any (λ k d w r e. tt) around xs v r.1 p.1) z in
         let h = item_binds around x w ss a r.0 p.0 g in
         let l = list_binds around xs v h.ss' h.at r.1 p.1 z in
-        record { ss' = l.ss'; binds = binds_both ss h.ss' l.ss' (item_items ctx x w) (list_items ctx xs v) h.binds l.binds; at = l.at }
+        record { ss' = l.ss'; binds = binds_both ctx n ss h.ss' l.ss' (item_items ctx x w) (list_items ctx xs v) h.binds l.binds; at = l.at }
 
-    sections_bound : (around : Around) (b : Body) (w : Walk) (ss : List Scopes.Scope) → At w ss → IsReadBody ctx.word ctx.notes b → switch_body_faults ctx around b w [] ≡ [] → Ends (behind_body ctx b w) → SectionsBound (inside ss) (switch_sections ctx b w)
+    sections_bound : (around : Around) (b : Body) (w : Walk) (ss : List Scopes.Scope) → At ctx n w ss → IsReadBody ctx.word ctx.notes b → switch_body_faults ctx around b w [] ≡ [] → Ends (behind_body ctx b w) → SectionsBound (inside ss) (switch_sections ctx b w)
     sections_bound around (Braces first after xs) w ss a r e z =
-        outside_bound around None xs (notes_at ctx (AtEnd first)) (enter w) (inside ss) (inside ss) refl (λ q. place_binds q (AtEnd first)) (at_inside w ss a) r e z
-    sections_bound around (Lone first after x) w ss a r e z = lone_bound around x (notes_at ctx (AtEnd first)) (enter w) (inside ss) (λ q. place_binds q (AtEnd first)) (at_inside w ss a) r e z
+        outside_bound around None xs (notes_at ctx (AtEnd first)) (enter w) (inside ss) (inside ss) refl (λ q. place_binds q (AtEnd first)) (at_inside ctx n w ss a) r e z
+    sections_bound around (Lone first after x) w ss a r e z = lone_bound around x (notes_at ctx (AtEnd first)) (enter w) (inside ss) (λ q. place_binds q (AtEnd first)) (at_inside ctx n w ss a) r e z
 
-    outside_bound : (around : Around) (o : Option Reading) (xs : Items) (notes : List item.Item) (w : Walk) (s t : List Scopes.Scope) → ReadingBound s t o → ((q : List Scopes.Scope) → Binds q q notes) → At w t → AreReadItems ctx.word ctx.notes xs
+    outside_bound : (around : Around) (o : Option Reading) (xs : Items) (notes : List item.Item) (w : Walk) (s t : List Scopes.Scope) → ReadingBound s t o → ((q : List Scopes.Scope) → Binds ctx n q q notes) → At ctx n w t → AreReadItems ctx.word ctx.notes xs
         → outside_faults ctx around xs w [] ≡ [] → Ends (behind_items ctx xs w) → SectionsBound s (sections_from ctx o xs notes w)
     outside_bound around o NoItem notes w s t h k a r e z = end_bound s t o notes h k
     outside_bound around o (items.Then (Declares first after d) xs) notes w s t h k a r e z = absurd (outside_declares ctx around w first after d xs e)
@@ -450,13 +363,13 @@ module _ (ctx : Context) (n : Names) where
         let g = begins_before v.slots (behind_items ctx xs v).slots n.slots (outside_later ls p xs around w r.1 (has_case ls) q.1) z in
         let m = plain_binds around p w t a r.0.1 f.1 g in
         let new = labels_items ctx env ls ++ plain_items ctx p w in
-        let l = binds_both t t t (labels_items ctx env ls) (plain_items ctx p w) (labels_bind w t around.switch ls a r.0.0 f.0) m in
-        let b = at_scopes v w t (plain_scopes ctx p w) a in
+        let l = binds_both ctx n t t t (labels_items ctx env ls) (plain_items ctx p w) (labels_bind w t around.switch ls a r.0.0 f.0) m in
+        let b = at_scopes ctx n v w t (plain_scopes ctx p w) a in
         outside_by around w ls p xs (has_case ls) q.1 s t o (sections_from ctx (begun ctx env ls (plain_items ctx p w)) xs notes v) (sections_from ctx (extended o new) xs notes v) h
         (λ y. inside_bound around (begun ctx env ls (plain_items ctx p w)) xs notes v t t (begun_bound w t around.switch ls (plain_items ctx p w) a r.0.0 f.0 m) k b r.1 y z)
         (λ y. outside_bound around (extended o new) xs notes v s t (extended_bound s t t o new h l) k b r.1 y z)
 
-    inside_bound : (around : Around) (o : Option Reading) (xs : Items) (notes : List item.Item) (w : Walk) (s t : List Scopes.Scope) → ReadingBound s t o → ((q : List Scopes.Scope) → Binds q q notes) → At w t → AreReadItems ctx.word ctx.notes xs
+    inside_bound : (around : Around) (o : Option Reading) (xs : Items) (notes : List item.Item) (w : Walk) (s t : List Scopes.Scope) → ReadingBound s t o → ((q : List Scopes.Scope) → Binds ctx n q q notes) → At ctx n w t → AreReadItems ctx.word ctx.notes xs
         → list_faults ctx around xs w [] ≡ [] → Ends (behind_items ctx xs w) → SectionsBound s (sections_from ctx o xs notes w)
     inside_bound around o NoItem notes w s t h k a r e z = end_bound s t o notes h k
     inside_bound around o (items.Then (Declares first after d) xs) notes w s t h k a r e z =
@@ -474,13 +387,13 @@ module _ (ctx : Context) (n : Names) where
         let g = begins_before v.slots (behind_items ctx xs v).slots n.slots (list_grows ctx Any (λ k d w r e. tt) around xs v r.1 q.1) z in
         let m = plain_binds around p w t a r.0.1 f.1 g in
         let new = labels_items ctx env ls ++ plain_items ctx p w in
-        let l = binds_both t t t (labels_items ctx env ls) (plain_items ctx p w) (labels_bind w t around.switch ls a r.0.0 f.0) m in
-        let b = at_scopes v w t (plain_scopes ctx p w) a in
+        let l = binds_both ctx n t t t (labels_items ctx env ls) (plain_items ctx p w) (labels_bind w t around.switch ls a r.0.0 f.0) m in
+        let b = at_scopes ctx n v w t (plain_scopes ctx p w) a in
         inside_by (has_case ls) s t o (sections_from ctx (begun ctx env ls (plain_items ctx p w)) xs notes v) (sections_from ctx (extended o new) xs notes v) h
         (inside_bound around (begun ctx env ls (plain_items ctx p w)) xs notes v t t (begun_bound w t around.switch ls (plain_items ctx p w) a r.0.0 f.0 m) k b r.1 q.1 z)
         (inside_bound around (extended o new) xs notes v s t (extended_bound s t t o new h l) k b r.1 q.1 z)
 
-    lone_bound : (around : Around) (x : Item) (notes : List item.Item) (w : Walk) (ss : List Scopes.Scope) → ((q : List Scopes.Scope) → Binds q q notes) → At w ss → IsReadItem ctx.word ctx.notes x → outside_fault ctx around x w [] ≡ [] → Ends (behind_item ctx x w)
+    lone_bound : (around : Around) (x : Item) (notes : List item.Item) (w : Walk) (ss : List Scopes.Scope) → ((q : List Scopes.Scope) → Binds ctx n q q notes) → At ctx n w ss → IsReadItem ctx.word ctx.notes x → outside_fault ctx around x w [] ≡ [] → Ends (behind_item ctx x w)
         → SectionsBound ss (sections_at ctx None x notes w)
     lone_bound around (Declares first after d) notes w ss k a r e z = absurd (none_left _ _ e)
     lone_bound around (States ls p) notes w ss k a r e z =
@@ -489,7 +402,7 @@ module _ (ctx : Context) (n : Names) where
         let env = env_at ctx w in
         let m = plain_binds around p w ss a r.1 f.1 z in
         let new = labels_items ctx env ls ++ plain_items ctx p w in
-        let l = binds_both ss ss ss (labels_items ctx env ls) (plain_items ctx p w) (labels_bind w ss around.switch ls a r.0 f.0) m in
+        let l = binds_both ctx n ss ss ss (labels_items ctx env ls) (plain_items ctx p w) (labels_bind w ss around.switch ls a r.0 f.0) m in
         end_by (has_case ls) ss (statements.sections_of (begun ctx env ls (plain_items ctx p w)) notes) (statements.sections_of (extended None new) notes)
         (end_bound ss ss (begun ctx env ls (plain_items ctx p w)) notes (begun_bound w ss around.switch ls (plain_items ctx p w) a r.0 f.0 m) k)
         (end_bound ss ss (extended None new) notes (extended_bound ss ss ss None new refl l) k)

@@ -36,7 +36,8 @@ use Rattle.c_resolved.specs.Switches.{HasCases}
 use Rattle.c_resolved.specs.Within.{Each, AllDiffer}
 use Rattle.resolving_core.proofs.Arrays.{array_fine}
 use Rattle.resolving_core.proofs.Bindings.{names_same, knows_bound, knows_inside, look_up_tree}
-use Rattle.resolving_core.proofs.Bound.{Nearest, nearest_new, nearest_bound, At, binds_both, place_binds, item_binds, list_binds}
+use Rattle.resolving_core.proofs.BoundTerms.{Nearest, nearest_new, nearest_bound, At, binds_both}
+use Rattle.resolving_core.proofs.Bound.{place_binds, item_binds, list_binds}
 use Rattle.resolving_core.proofs.Declared.{slot_there}
 use Rattle.resolving_core.proofs.FileParts.{BodyParts, parameters_parts}
 use Rattle.resolving_core.proofs.FunctionTrees.{inside_slots, take_all, drop_all, body_grown, behind_parameters}

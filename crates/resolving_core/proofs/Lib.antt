@@ -33,13 +33,16 @@ pub mod Gathered
 pub mod SlotNumbers
 pub mod LabelNumbers
 pub mod TheLaws
+pub mod BoundTerms
 pub mod Bound
 pub mod Sectioned
 pub mod ItemForms
 pub mod Entries
+pub mod Numbered
 pub mod Compared
 pub mod ItemCases
 pub mod Counted
+pub mod LimitedTerms
 pub mod Limited
 pub mod Longest
 pub mod Untangled

@@ -22,7 +22,7 @@ use Rattle.c_resolved.specs.Within.{Each}
 use Rattle.resolving_core.specs.Counts.{IsFew, IsFewInitialiser, IsFewDeclarator}
 use Rattle.resolving_core.specs.Read.{IsReadTerm, IsReadDeclarator, IsReadEnumerator}
 use Rattle.resolving_core.proofs.Known.{Knows}
-use Rattle.resolving_core.proofs.Limited.{constant_few}
+use Rattle.resolving_core.proofs.LimitedTerms.{constant_few}
 use Rattle.resolving_core.proofs.PrintedItems.{constant_prints, given_prints, given_there}
 use Rattle.resolving_core.proofs.SpelledTrees.{length_prints, values_print}
 
