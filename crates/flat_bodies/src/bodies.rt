@@ -83,11 +83,7 @@ fn codes_of(
 /// The flat form of the body of a function with jumps. Its variables are those of the function, and
 /// behind them one for each scattered switch, in text order. Want of memory is the only failure;
 /// numbers past `u32` count as that.
-pub fn flat_body(
-    alloc: Global,
-    function: &Function,
-    body: &List<Item>,
-) -> Result<FlatBody, Memory>
+pub fn flat_body(alloc: Global, function: &Function, body: &List<Item>) -> Result<FlatBody, Memory>
     ensures items { IfOk result (λ it. trees_of it.items ≡ the_flat_body constant function.now.slots (length function.now.labels) (trees_of body.now)) }
     ensures codes { IfOk result (λ it. it.codes ≡ label_codes function.now (trees_of body.now)) }
 {

@@ -81,10 +81,7 @@ fn add_item(alloc: Global, item: &Item, out: &mut List<Item>) -> Result<(), Memo
 }
 
 #[cycle(unlabel)]
-fn unlabelled_sections(
-    alloc: Global,
-    sections: &[Section],
-) -> Result<List<Section>, Memory>
+fn unlabelled_sections(alloc: Global, sections: &[Section]) -> Result<List<Section>, Memory>
     ensures { IfOk result (λ it. sections_of it ≡ unlabelled_among (sections_of sections.now)) }
 {
     let mut out = List::new(alloc);

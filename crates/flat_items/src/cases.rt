@@ -215,6 +215,13 @@ pub fn add_choice(
 {
     let first = assignment(alloc, cases.kind, here.variable, selector_source(selector))?;
     add(out, first)?;
-    add_tests(alloc, plan, cases, cases.numbers.as_slice(), here.variable, out)?;
+    add_tests(
+        alloc,
+        plan,
+        cases,
+        cases.numbers.as_slice(),
+        here.variable,
+        out,
+    )?;
     add_otherwise(plan, here, sections, out)
 }

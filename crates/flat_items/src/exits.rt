@@ -42,12 +42,7 @@ pub fn is_jumpy(plan: &Plan, a: &List<Item>) -> bool
 }
 
 /// What exits become in the body of a loop.
-pub fn loop_scope(
-    plan: &Plan,
-    jumpy: bool,
-    construct: u32,
-    a: &List<Item>,
-) -> Result<Scope, Memory>
+pub fn loop_scope(plan: &Plan, jumpy: bool, construct: u32, a: &List<Item>) -> Result<Scope, Memory>
     ensures breaks { IfOk result (λ it. aim_of it.breaks ≡ the_aim jumpy (breaks (trees_of a.now)) ((plan_of plan.now).break_label construct)) }
     ensures continues { IfOk result (λ it. aim_of it.continues ≡ the_aim jumpy (continues (trees_of a.now)) ((plan_of plan.now).continue_label construct)) }
 {

@@ -161,11 +161,7 @@ fn with_third(
     }
 }
 
-fn made_while(
-    alloc: Global,
-    test: &Option<Expression>,
-    a: List<Item>,
-) -> Result<Item, Memory>
+fn made_while(alloc: Global, test: &Option<Expression>, a: List<Item>) -> Result<Item, Memory>
     ensures { IfOk result (λ it. tree_at it ≡ While (Source (test_or_one (option_map expression_tree test.now))) (trees_of a)) }
 {
     let test = test_of(alloc, test)?;

@@ -74,7 +74,11 @@ pub struct Cases {
 fn entry(table: &[Option<u32>], code: usize) -> Option<u32>
     ensures { result ≡ get_or table.now code None }
 {
-    if code < table.len() { table[code] } else { None }
+    if code < table.len() {
+        table[code]
+    } else {
+        None
+    }
 }
 
 fn shifted(code: usize, behind: u32) -> Result<u32, Memory>
@@ -120,14 +124,20 @@ pub fn break_label(plan: &Plan, construct: u32) -> Result<u32, Memory>
 pub fn continue_label(plan: &Plan, construct: u32) -> Result<u32, Memory>
     ensures { IfOk result (λ it. it ≡ (plan_of plan.now).continue_label construct) }
 {
-    label_of(&plan.places, plan.count as usize + (4 * construct as usize + 1))
+    label_of(
+        &plan.places,
+        plan.count as usize + (4 * construct as usize + 1),
+    )
 }
 
 /// The label of the default of a scattered switch.
 pub fn default_label(plan: &Plan, construct: u32) -> Result<u32, Memory>
     ensures { IfOk result (λ it. it ≡ (plan_of plan.now).default_label construct) }
 {
-    label_of(&plan.places, plan.count as usize + (4 * construct as usize + 2))
+    label_of(
+        &plan.places,
+        plan.count as usize + (4 * construct as usize + 2),
+    )
 }
 
 /// The label of a case of a scattered switch.

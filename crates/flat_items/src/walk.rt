@@ -15,12 +15,10 @@ ghost use Rattle.flat_items.specs.Plans.{aim_of, plan_of, here_of, arrivals_of, 
 ghost use Rattle.tree_views.specs.Views.{tree_at};
 
 use crate::cases::{add_arrival, add_case_marks, add_choice, cases_of, no_cases};
-use crate::exits::{
-    ends_then, is_jumpy, is_jumpy_switch, loop_scope, scatter_aim, switch_aim,
-};
+use crate::exits::{ends_then, is_jumpy, is_jumpy_switch, loop_scope, scatter_aim, switch_aim};
 use crate::pieces::{
-    add_break, add_continue, add_copy, add_do, add_end, add_for, add_goto, add_if,
-    add_initialised, add_label, add_mark, add_switch, add_while,
+    add_break, add_continue, add_copy, add_do, add_end, add_for, add_goto, add_if, add_initialised,
+    add_label, add_mark, add_switch, add_while,
 };
 use crate::plans::{Aim, Cases, Here, Plan, Scope, entered, source_label};
 use c_copies::copy_expressions;
@@ -562,7 +560,17 @@ fn write_item(
         Item::Do(a, test) => write_do(alloc, plan, cases, a, test, here, out),
         Item::For(first, test, third, a) => {
             let after = write_first(alloc, plan, scope, first, here, out)?;
-            write_for(alloc, plan, cases, here.construct, test, third, a, after, out)
+            write_for(
+                alloc,
+                plan,
+                cases,
+                here.construct,
+                test,
+                third,
+                a,
+                after,
+                out,
+            )
         }
         Item::Switch(selector, sections) => {
             write_switch(alloc, plan, scope.continues, sections, selector, here, out)

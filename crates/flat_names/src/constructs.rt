@@ -37,21 +37,12 @@ fn case_count(alloc: Global, kind: IntKind, sections: &[Section]) -> Result<usiz
     Ok(numbers.len())
 }
 
-fn scattered(
-    alloc: Global,
-    selector: &Selector,
-    sections: &[Section],
-) -> Result<Construct, Memory>
+fn scattered(alloc: Global, selector: &Selector, sections: &[Section]) -> Result<Construct, Memory>
     ensures { IfOk result (λ it. it ≡ Construct.Scattered (the_switch_kind (selector_tree selector.now)) (length (cases_among (switch_labels (sections_of sections.now)))) (has_default (switch_labels (sections_of sections.now))) (the_leaves (sections_of sections.now))) }
 {
     let kind = switch_kind(selector);
     let count = case_count(alloc, kind, sections)?;
-    Ok(Construct::Scattered(
-        kind,
-        count,
-        switch_has_default(sections),
-        leaves(sections),
-    ))
+    Ok(Construct::Scattered(kind, count, switch_has_default(sections), leaves(sections)))
 }
 
 fn switch_construct(

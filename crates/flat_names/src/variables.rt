@@ -88,7 +88,13 @@ pub fn name_slots(
         used,
     };
     for i in 0..slots.len() {
-        add_slot(alloc, i < params as usize, &mut taken, &mut named, &slots[i])?;
+        add_slot(
+            alloc,
+            i < params as usize,
+            &mut taken,
+            &mut named,
+            &slots[i],
+        )?;
     }
     Ok(named)
 }

@@ -87,7 +87,13 @@ pub fn name_flat(
         variables,
         made,
     } = given;
-    let named = name_slots(alloc, function.params, taken, used, function.slots.as_slice())?;
+    let named = name_slots(
+        alloc,
+        function.params,
+        taken,
+        used,
+        function.slots.as_slice(),
+    )?;
     let Named { slots, used } = named;
     let labels = label_names(alloc, function.labels.as_slice(), &made, used, codes)?;
     let slots = with_slots(slots, variables)?;

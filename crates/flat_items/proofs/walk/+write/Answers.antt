@@ -306,7 +306,7 @@ write_ending-returns t c =
     record {
       place = c.write_list.ensures.place;
       items = IfOk-weaker c.write_list.result _ _ (λ it e. e ∙ ap (λ y. flat p h b d (arrivals_if y (case_names c.args.plan.now c.no_cases-none.result)) a) c.no_cases-none.ensures
-      ∙ sym (other_end (ending p.live a) (flat_last p h b d NoArrival a) (flat p h b d NoArrival a) q)) c.write_list.ensures.items;
+          ∙ sym (other_end (ending p.live a) (flat_last p h b d NoArrival a) (flat p h b d NoArrival a) q)) c.write_list.ensures.items;
     }
 
 pub write_trimmed-returns-clause-items : goal.write_trimmed-returns-clause-items

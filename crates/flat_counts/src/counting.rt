@@ -1,0 +1,106 @@
+ghost use Rattle.std.specs.Prelude.{◌≡◌, ◌+◌, IfOk, OnOk};
+ghost use Rattle.c_tree.specs.Everywhere.{total, total_of, total_in};
+ghost use Rattle.c_tree.specs.Trees.{trees_of, sections_of};
+ghost use Rattle.flat_counts.specs.Counts.{goto_of, counts_of};
+ghost use Rattle.tree_views.specs.Views.{tree_at};
+
+use c_tree::{Function, Item, Section};
+use c_types::{List, Memory};
+use flat_bodies::flat_body;
+use flat_parts::has_jumps;
+use std::alloc::Global;
+
+/// How many gotos and labels a flat form has.
+#[derive(Clone, Copy)]
+pub struct FlatCounts {
+    pub gotos: u64,
+    pub labels: usize,
+}
+
+fn add_one(count: &mut u64) -> Result<(), Memory>
+    ensures { OnOk result (count.new ≡ count.old + 1) }
+{
+    match count.checked_add(1) {
+        Some(sum) => {
+            *count = sum;
+            Ok(())
+        }
+        None => Err(Memory),
+    }
+}
+
+#[cycle(counting)]
+fn add_list(list: &List<Item>, count: &mut u64) -> Result<(), Memory>
+    ensures { OnOk result (count.new ≡ count.old + total goto_of (trees_of list.now)) }
+{
+    add_items(list.as_slice(), count)
+}
+
+#[cycle(counting)]
+fn add_items(items: &[Item], count: &mut u64) -> Result<(), Memory>
+    ensures { OnOk result (count.new ≡ count.old + total goto_of (trees_of items.now)) }
+{
+    for i in 0..items.len() {
+        add_item(&items[i], count)?;
+    }
+    Ok(())
+}
+
+#[cycle(counting)]
+fn add_item(item: &Item, count: &mut u64) -> Result<(), Memory>
+    ensures { OnOk result (count.new ≡ count.old + total_of goto_of (tree_at item.now)) }
+{
+    match item {
+        Item::If(_, a, b) => {
+            add_list(a, count)?;
+            add_list(b, count)
+        }
+        Item::While(_, a) => add_list(a, count),
+        Item::Do(a, _) => add_list(a, count),
+        Item::For(first, _, _, a) => {
+            add_list(first, count)?;
+            add_list(a, count)
+        }
+        Item::Block(a) => add_list(a, count),
+        Item::Switch(_, sections) => add_sections(sections.as_slice(), count),
+        Item::Goto(_) => add_one(count),
+        _ => Ok(()),
+    }
+}
+
+#[cycle(counting)]
+fn add_sections(sections: &[Section], count: &mut u64) -> Result<(), Memory>
+    ensures { OnOk result (count.new ≡ count.old + total_in goto_of (sections_of sections.now)) }
+{
+    for i in 0..sections.len() {
+        add_list(&sections[i].list, count)?;
+    }
+    Ok(())
+}
+
+fn gotos_in(list: &List<Item>) -> Result<u64, Memory>
+    ensures { IfOk result (λ it. it ≡ total goto_of (trees_of list.now)) }
+{
+    let mut count = 0;
+    add_list(list, &mut count)?;
+    Ok(count)
+}
+
+/// How many gotos and labels the flat form of a function with this body has; `None` where it has no
+/// jumps. Want of memory is the only failure.
+pub fn flat_counts(
+    alloc: Global,
+    function: &Function,
+    body: &List<Item>,
+) -> Result<Option<FlatCounts>, Memory>
+    ensures { IfOk result (λ it. it ≡ counts_of function.now (trees_of body.now)) }
+{
+    if has_jumps(body) {
+        let flat = flat_body(alloc, function, body)?;
+        let gotos = gotos_in(&flat.items)?;
+        let labels = flat.codes.len();
+        Ok(Some(FlatCounts { gotos, labels }))
+    } else {
+        Ok(None)
+    }
+}

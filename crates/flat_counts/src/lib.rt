@@ -1,0 +1,6 @@
+//! How many gotos and labels a flat form has.
+#![tactic(auto)]
+
+mod counting;
+
+pub use counting::{FlatCounts, flat_counts};
