@@ -43,11 +43,7 @@ fn read_scanned<C: FlatCounter>(
 /// its first fault: the first lexical one, else the first token that fits nowhere or is nested too
 /// deeply, else the violation with the least place, then the least reason. Else the only failure is want
 /// of memory.
-pub fn read<C: FlatCounter>(
-    alloc: Global,
-    counter: &C,
-    text: &[u8],
-) -> Result<Program, ReadStop>
+pub fn read<C: FlatCounter>(alloc: Global, counter: &C, text: &[u8]) -> Result<Program, ReadStop>
     ensures { Gives (λ program. program) result (spec.reading (C.flat counter.now) text.now) }
 {
     match scan(alloc, text) {
