@@ -27,13 +27,13 @@ use Rattle.named_forms.specs.Laws.{codes_of, named_flat, FlatNamesMakeForms}
 
 -- ---- variables of scattered switches
 
-abbrev kinds : List Construct → List IntKind
+abbrev pub kinds : List Construct → List IntKind
 kinds [] = []
 kinds (c.Stays ∷ cs) = kinds cs
 kinds (c.Scattered k n d l ∷ cs) = k ∷ kinds cs
 
 -- numbers of these kinds, one each
-abbrev AreNumbers : List IntKind → List Slot → Type 0
+abbrev pub AreNumbers : List IntKind → List Slot → Type 0
 AreNumbers [] [] = Unit {0}
 AreNumbers (k ∷ ks) (s ∷ ss) = (s.kind ≡ k) × (s.cells ≡ None) × (s.constant ≡ false) × AreNumbers ks ss
 AreNumbers _ _ = ⊥
@@ -44,19 +44,19 @@ numbers_more [] (t ∷ ss) k s h e = absurd h
 numbers_more (j ∷ ks) [] k s h e = absurd h
 numbers_more (j ∷ ks) (t ∷ ss) k s h e = (h.0, h.1, h.2, numbers_more ks ss k s h.3 e)
 
-break_same : (k : ℕ) (b : Bool) (g : Given) → (name_break k b g).variables ≡ g.variables
+pub break_same : (k : ℕ) (b : Bool) (g : Given) → (name_break k b g).variables ≡ g.variables
 break_same k true g = refl
 break_same k false g = refl
 
-default_same : (k : ℕ) (b : Bool) (g : Given) → (name_default k b g).variables ≡ g.variables
+pub default_same : (k : ℕ) (b : Bool) (g : Given) → (name_default k b g).variables ≡ g.variables
 default_same k true g = refl
 default_same k false g = refl
 
-cases_same : (k i n : ℕ) (g : Given) → (name_cases k i n g).variables ≡ g.variables
+pub cases_same : (k i n : ℕ) (g : Given) → (name_cases k i n g).variables ≡ g.variables
 cases_same k i zero g = refl
 cases_same k i (suc n) g = cases_same k (i + 1) n (name_case k i g)
 
-numbers_named : (i : ℕ) (cs : List Construct) (g : Given) (ks : List IntKind) → AreNumbers ks g.variables → AreNumbers (ks ++ kinds cs) (name_constructs i cs g).variables
+pub numbers_named : (i : ℕ) (cs : List Construct) (g : Given) (ks : List IntKind) → AreNumbers ks g.variables → AreNumbers (ks ++ kinds cs) (name_constructs i cs g).variables
 numbers_named i [] g ks h = subst (λ z. AreNumbers z g.variables) (sym (append-nil ks)) h
 numbers_named i (c.Stays ∷ cs) g ks h = numbers_named (i + 1) cs (name_construct i c.Stays g) ks h
 numbers_named i (c.Scattered k n d l ∷ cs) g ks h =
@@ -239,7 +239,7 @@ module _ (vs : List Slot) (ks : List IntKind) (numbers : AreNumbers ks vs) where
       subst (λ m. AllByRecursion (λ (r : Slot). r.constant ≡ false) (drop n ((named_slots m (slot_taken b taken used s) (slot_used b taken used s) ss).slots ++ vs))) (sym e)
       (free_behind n (slot_taken b taken used s) (slot_used b taken used s) ss (omega (arith, h)))
 
-  first_same : (n : ℕ) (taken used : List (List ℕ)) (ss : List Slot) → n ≤ length ss → take n ((named_slots n taken used ss).slots ++ vs) ≡ take n ss
+  pub first_same : (n : ℕ) (taken used : List (List ℕ)) (ss : List Slot) → n ≤ length ss → take n ((named_slots n taken used ss).slots ++ vs) ≡ take n ss
   first_same zero taken used ss h = refl
   first_same (suc n) taken used [] h = absurd (omega (arith, h))
   first_same (suc n) taken used (s ∷ ss) h =
@@ -250,7 +250,7 @@ module _ (vs : List Slot) (ks : List IntKind) (numbers : AreNumbers ks vs) where
       (first_same n (slot_taken b taken used s) (slot_used b taken used s) ss (omega (arith, h))) in
       ap (λ z. slot_named z taken used s ∷ take n ((named_slots (suc n - 1) (slot_taken b taken used s) (slot_used b taken used s) ss).slots ++ vs)) f ∙ ap (λ l. s ∷ l) rest
 
-named_length : (n : ℕ) (taken used : List (List ℕ)) (ss : List Slot) → length (named_slots n taken used ss).slots ≡ length ss
+pub named_length : (n : ℕ) (taken used : List (List ℕ)) (ss : List Slot) → length (named_slots n taken used ss).slots ≡ length ss
 named_length n taken used [] = refl
 named_length n taken used (s ∷ ss) = let b = nat_lt 0 n in ap suc (named_length (n - 1) (slot_taken b taken used s) (slot_used b taken used s) ss)
 

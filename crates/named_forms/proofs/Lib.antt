@@ -1,1 +1,4 @@
 pub mod Forms
+pub mod FreshNames
+pub mod OwnNames
+pub mod NamedOwn

@@ -1,12 +1,18 @@
 //! What the names of a flat form make of a function.
 //!
-//! The definitions stand in specs/. The function here runs no code: its contract is the law.
+//! The definitions stand in specs/. The functions here run no code: their contracts are the laws.
 #![tactic(auto)]
 
 ghost use Rattle.named_forms.specs.Laws.{FlatNamesMakeForms};
+ghost use Rattle.named_forms.specs.Own.{FlatNamesAreOwn};
 
 /// A function whose variables and labels are those that a flat form names, with a flat body, is the flat form of the
 /// function.
 pub fn flat_names_make_forms()
     ensures { FlatNamesMakeForms }
+{}
+
+/// Each of its variables that is no parameter has a name of its own in the program.
+pub fn flat_names_are_own()
+    ensures { FlatNamesAreOwn }
 {}

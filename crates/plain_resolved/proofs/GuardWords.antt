@@ -11,18 +11,18 @@ use Rattle.c_resolved.specs.PrintableExpressions.{IsName}
 
 -- ---- bytes of words
 
-abbrev IsTail : List ℕ → Type 0
+abbrev pub IsTail : List ℕ → Type 0
 IsTail w = list_all is_word_byte w ≡ true
 
-and_both : (a b : Bool) → a ≡ true → b ≡ true → (a && b) ≡ true
+pub and_both : (a b : Bool) → a ≡ true → b ≡ true → (a && b) ≡ true
 and_both true b e h = h
 and_both false b e h = e
 
-and_first : (a b : Bool) → (a && b) ≡ true → a ≡ true
+pub and_first : (a b : Bool) → (a && b) ≡ true → a ≡ true
 and_first true b e = refl
 and_first false b e = e
 
-and_second : (a b : Bool) → (a && b) ≡ true → b ≡ true
+pub and_second : (a b : Bool) → (a && b) ≡ true → b ≡ true
 and_second true b e = e
 and_second false b e = cc
 
@@ -34,11 +34,11 @@ or_second : (a b : Bool) → b ≡ true → (a || b) ≡ true
 or_second true b e = refl
 or_second false b e = e
 
-tail_append : (a b : List ℕ) → IsTail a → IsTail b → IsTail (a ++ b)
+pub tail_append : (a b : List ℕ) → IsTail a → IsTail b → IsTail (a ++ b)
 tail_append [] b h g = g
 tail_append (c ∷ a) b h g = and_both (is_word_byte c) (list_all is_word_byte (a ++ b)) (and_first (is_word_byte c) _ h) (tail_append a b (and_second (is_word_byte c) _ h) g)
 
-word_tail : (w : List ℕ) → is_word w ≡ true → IsTail w
+pub word_tail : (w : List ℕ) → is_word w ≡ true → IsTail w
 word_tail [] e = cc
 word_tail (c ∷ cs) e = and_both (is_word_byte c) (list_all is_word_byte cs) (or_first (is_letter c) (is_digit c) (and_first (is_letter c) _ e)) (and_second (is_letter c) _ e)
 
@@ -58,7 +58,7 @@ digits_tail (suc k) n acc h =
     cond_tail true x y p q = p
     cond_tail false x y p q = q
 
-decimal_tail : (n : ℕ) → IsTail (decimal n)
+pub decimal_tail : (n : ℕ) → IsTail (decimal n)
 unfolding digits
 decimal_tail n = digits_tail 64 n [] refl
 

@@ -25,21 +25,21 @@ use Rattle.plain_resolved.proofs.PlainTops.{plain_flat, no_body}
 
 -- ---- names that don't stand in a list
 
-or_neither : (a b : Bool) → (a || b) ≡ false → (a ≡ false) × (b ≡ false)
+pub or_neither : (a b : Bool) → (a || b) ≡ false → (a ≡ false) × (b ≡ false)
 or_neither true b e = cc
 or_neither false b e = (refl, e)
 
-has_append : (xs ys : List (List ℕ)) (m : List ℕ) → has_name (xs ++ ys) m ≡ false → (has_name xs m ≡ false) × (has_name ys m ≡ false)
+pub has_append : (xs ys : List (List ℕ)) (m : List ℕ) → has_name (xs ++ ys) m ≡ false → (has_name xs m ≡ false) × (has_name ys m ≡ false)
 has_append [] ys m e = (refl, e)
 has_append (x ∷ xs) ys m e =
     let h = or_neither (bytes_eq m x) (has_name (xs ++ ys) m) e in
     let i = has_append xs ys m h.1 in
     (ap (λ b. b || has_name xs m) h.0 ∙ i.0, i.1)
 
-not_same : (m x : List ℕ) → bytes_eq m x ≡ false → x ≢ m
+pub not_same : (m x : List ℕ) → bytes_eq m x ≡ false → x ≢ m
 not_same m x e i = true≢false (sym ((bytes_eq-Decides m x).1 (sym i)) ∙ e)
 
-first_not : (m x : List ℕ) (xs : List (List ℕ)) → has_name (x ∷ xs) m ≡ false → x ≢ m
+pub first_not : (m x : List ℕ) (xs : List (List ℕ)) → has_name (x ∷ xs) m ≡ false → x ≢ m
 first_not m x xs e = not_same m x (or_neither (bytes_eq m x) (has_name xs m) e).0
 
 rest_not : (m x : List ℕ) (xs : List (List ℕ)) → has_name (x ∷ xs) m ≡ false → has_name xs m ≡ false
@@ -57,7 +57,7 @@ module _ (m : List ℕ) where
   top_other (T.Include bytes) e = tt
   top_other (T.Note bytes) e = tt
 
-  tops_other : (ts : List Top) → has_name (tops_names ts) m ≡ false → IsFreeIn ts m
+  pub tops_other : (ts : List Top) → has_name (tops_names ts) m ≡ false → IsFreeIn ts m
   tops_other [] e = tt
   tops_other (t ∷ ts) e = let h = has_append (top_names t) (tops_names ts) m e in (top_other t h.0, tops_other ts h.1)
 
@@ -101,14 +101,14 @@ module _ (xs : List Item) where
 
 -- ---- lists, one after the other
 
-differ_append : (xs ys : List (List ℕ)) → AllDiffer xs → AllDiffer ys → Each (λ y. Each (λ x. x ≢ y) xs) ys → AllDiffer (xs ++ ys)
+pub differ_append : (xs ys : List (List ℕ)) → AllDiffer xs → AllDiffer ys → Each (λ y. Each (λ x. x ≢ y) xs) ys → AllDiffer (xs ++ ys)
 differ_append [] ys h g k = g
 differ_append (x ∷ xs) ys h g k = (
   each_append (λ y. y ≢ x) xs ys h.0 (each_map (λ y. Each (λ z. z ≢ y) (x ∷ xs)) (λ y. y ≢ x) (λ y e i. e.0 (sym i)) ys k),
   differ_append xs ys h.1 g (each_map (λ y. Each (λ z. z ≢ y) (x ∷ xs)) (λ y. Each (λ z. z ≢ y) xs) (λ y e. e.1) ys k),
 )
 
-map_more : (xs : List Slot) (ms : List (List ℕ)) → map (λ (s : Slot). s.name) (xs ++ map guard_slot ms) ≡ map (λ (s : Slot). s.name) xs ++ ms
+pub map_more : (xs : List Slot) (ms : List (List ℕ)) → map (λ (s : Slot). s.name) (xs ++ map guard_slot ms) ≡ map (λ (s : Slot). s.name) xs ++ ms
 map_more [] [] = refl
 map_more [] (m ∷ ms) = ap (λ l. m ∷ l) (map_more [] ms)
 map_more (x ∷ xs) ms = ap (λ l. x.name ∷ l) (map_more xs ms)
