@@ -1,5 +1,5 @@
 -- The names of a flat form make the flat form of a function.
-use Rattle.std.proofs.Common.{◌≡◌, ℕ, zero, suc, ◌+◌, ◌-◌, ◌≤◌, Bool, true, false, cond, List, [], ◌∷◌, ◌++◌, length, take, drop, None, refl, sym, ap, subst, ◌∙◌, arith, append_assoc, length-append}
+use Rattle.std.proofs.Common.{◌≡◌, ℕ, zero, suc, ◌+◌, ◌-◌, ◌≤◌, Bool, true, false, cond, List, [], ◌∷◌, ◌++◌, length, take, drop, None, refl, sym, ap, subst, ◌∙◌, arith, append_assoc, length-append, Option, Some}
 use Rattle.std.specs.Prelude.{nat_lt}
 use Rattle.std.specs.List.{AllByRecursion}
 use Rattle.std.proofs.lemmas.Bool.{lt-ltb, le-ltb}
@@ -7,6 +7,8 @@ use Rattle.std.proofs.lemmas.List.{append-nil}
 use Rattle.c_types.specs.declared.kinds.IntKind.{IntKind}
 use Rattle.c_types.specs.Words.{known_functions}
 use Rattle.c_copies.specs.Names.{with_names}
+use Rattle.c_tree.specs.declared.tree.Function.{Function}
+use Rattle.c_tree.specs.declared.tree.Item.{Item}
 use Rattle.c_tree.specs.declared.tree.Slot.{Slot}
 use Rattle.c_tree.specs.Everywhere.{total, total_of, total_in}
 use Rattle.c_tree.specs.Trees.{Tree, Forest, Nil, Then, Sections, NoSection, Section, Evaluate, Return, If, While, Do, For, Switch, Block, Local, Break, Continue, Goto, Mark, Arm, Leap, Land, Arrival, Note, trees_of}
@@ -14,16 +16,23 @@ use Rattle.jump_meaning.specs.Code.{entry_or}
 use Rattle.jump_meaning.specs.World.{no_slot}
 use Rattle.jump_meaning.specs.Step.{switch_kind}
 use Rattle.loose_core.specs.Loose.{Setting, ExtendSlots}
-use Rattle.flat_core.specs.Parts.{is_scattered, switch_labels, cases_among, has_default, leaves, variables_of, Here, past, past_item, inside}
+use Rattle.flat_core.specs.Parts.{has_jumps, is_scattered, switch_labels, cases_among, has_default, leaves, variables_of, Here, past, past_item, inside}
 use Rattle.flat_core.specs.FlatForm.{first_here}
 use Rattle.flat_core.specs.Source.{IsVariable, IfTrue, HaveVariables, HasVariables, HaveVariablesAmong}
+use Rattle.flat_bodies.specs.Codes.{label_codes}
 use Rattle.flat_names.specs.declared.constructs.Construct.{Construct}
 use Rattle.flat_names.specs.declared.constructs.Construct.TheVariants as c
 use Rattle.flat_names.specs.declared.giving.Given.{Given}
 use Rattle.flat_names.specs.declared.giving.Made.{Made}
 use Rattle.flat_names.specs.FlatNames.{constructs, constructs_in, constructs_among, name_variable, name_cases, name_case, name_default, name_break, name_construct, name_constructs, none_given, slot_named, slot_taken, slot_used, named_slots, naming, label_of, used_then, label_names}
-use Rattle.whole_core.specs.Rewritten.{setting}
-use Rattle.named_forms.specs.Laws.{codes_of, named_flat, FlatNamesMakeForms}
+use Rattle.whole_core.specs.Rewritten.{setting, IsFlatForm, IsUnlabelledForm, FlatTop, ft_flat, ft_unlabelled, ft_declared}
+use Rattle.whole_core.proofs.Flattened.{body_is}
+use Rattle.flat_forms.specs.declared.forms.Form.{Form}
+use Rattle.flat_forms.specs.declared.forms.Form.TheVariants.{Same, Calm, Flat}
+use Rattle.flat_forms.specs.Flattened.{IsFormOf, applied}
+use Rattle.c_tree.specs.declared.tree.Top.TheVariants as T
+use Rattle.flat_names.specs.declared.whole.FlatNames.{FlatNames}
+use Rattle.named_forms.specs.Laws.{named_flat, FlatNamesMakeForms, FlattenedAreForms}
 
 -- ---- variables of scattered switches
 
@@ -291,5 +300,34 @@ forms names file f old new there params trees =
       slots = extended g.variables ks numbers f.params taken g.used f.slots;
       more_slots = omega (arith, l, n, k, a);
       variables = have (setting f flat) (first_here (length f.slots)) (length named.slots) body (sym l) at;
-      labels = labels_length f.labels g.made named.used (codes_of f body);
+      labels = labels_length f.labels g.made named.used (label_codes f body);
     }
+
+-- ---- what a function is flattened to
+
+module _ (names file : List (List ℕ)) (f g : Function) (unflat : f.flat ≡ false) (params : f.params ≤ length f.slots) where
+  by_body : (o : Option (List Item)) → f.body ≡ o → (form : Form) → IsFormOf names file (record f { body = o }) form → g ≡ applied form f → FlatTop (T.Function f) (T.Function g)
+  by_body None e form i w = subst (λ k. FlatTop (T.Function f) (T.Function k)) (sym (w ∙ ap (λ m. applied m f) i)) (ft_declared f e)
+  by_body (Some body) e Same i w = absurd i
+  by_body (Some body) e (Calm new) i w =
+      let form : IsUnlabelledForm f (applied (Calm new) f) = record {
+        old = body;
+        new = new;
+        old_body = e;
+        new_body = refl;
+        trees = i.1;
+        flat = unflat;
+        name = refl;
+        result = refl;
+        params = refl;
+        file_only = refl;
+        slots = refl;
+        labels = refl;
+      } in
+      ft_unlabelled (ap has_jumps (body_is f body e) ∙ i.0) (subst (IsUnlabelledForm f) (sym w) form)
+  by_body (Some body) e (Flat m) i w =
+      let whole : g ≡ named_flat names file f body m.body = w ∙ ap (λ (n : FlatNames). record f { slots = n.slots; labels = n.labels; body = Some m.body; flat = true }) i.2 in
+      ft_flat (ap has_jumps (body_is f body e) ∙ i.0) (subst (IsFlatForm f) (sym whole) (forms names file f body m.body e params i.1))
+
+pub flattened : FlattenedAreForms
+flattened names file f g unflat params h = by_body names file f g unflat params f.body refl h.form h.is h.whole

@@ -3,7 +3,7 @@
 //! The definitions stand in specs/. The functions here run no code: their contracts are the laws.
 #![tactic(auto)]
 
-ghost use Rattle.named_forms.specs.Laws.{FlatNamesMakeForms};
+ghost use Rattle.named_forms.specs.Laws.{FlatNamesMakeForms, FlattenedAreForms};
 ghost use Rattle.named_forms.specs.Own.{FlatNamesAreOwn};
 
 /// A function whose variables and labels are those that a flat form names, with a flat body, is the flat form of the
@@ -12,7 +12,12 @@ pub fn flat_names_make_forms()
     ensures { FlatNamesMakeForms }
 {}
 
-/// Each of its variables that is no parameter has a name of its own in the program.
+/// A function of a source is flattened to its flat form, or, where it has no jumps, loses its labels alone.
+pub fn flattened_are_forms()
+    ensures { FlattenedAreForms }
+{}
+
+/// Each variable of a flat form that is no parameter has a name of its own in the program.
 pub fn flat_names_are_own()
     ensures { FlatNamesAreOwn }
 {}
