@@ -49,18 +49,18 @@ wants_agree (x ∷ xs) (y ∷ ys) defined h =
 wants_agree [] (y ∷ ys) defined h = absurd h
 wants_agree (x ∷ xs) [] defined h = absurd h
 
-module _ (ts : List Top) (f g : Function) (word : ℕ → List ℕ) (x : tops.Function) (bodies before : List (List ℕ)) (ss : List resolved.Scope) (w : IsWrittenAs word x f) (d : IsDeclared ts f g bodies before ss) where
+module _ (ts : List Top) (f g : Function) (word : ℕ → List ℕ) (x : tops.Function) (bodies before : List (List ℕ)) (ss : List resolved.Scope) (d : IsDeclared ts f g bodies before ss) where
   abbrev file : Names
   file = record { tops = ts; slots = [] }
 
   abbrev external : Bool
   external = not (is_some g.body)
 
-  abbrev sig : Signature
+  abbrev pub sig : Signature
   sig = record { result = f.result; wants = wants_in external (take f.params f.slots) }
 
-  sig_is : signature_in bodies word x ≡ sig
-  sig_is =
+  sig_is : IsWrittenAs word x f → signature_in bodies word x ≡ sig
+  sig_is w =
       let e : not (has_function bodies (word x.name)) ≡ external = ap (λ m. not (has_function bodies m)) (w.name) ∙ ap not (d.defined) in
       (λ i. record { result = w.result i; wants = map (want_of word (e i)) x.parameters }) ∙ (λ i. record { result = f.result; wants = w.wants external i })
 
@@ -83,7 +83,7 @@ module _ (ts : List Top) (f g : Function) (word : ℕ → List ℕ) (x : tops.Fu
       kept : is_some (found f.name t) ≡ true → with_name f.name (binding.Function sig) t ≡ t
       kept e = ap (λ b. cond b t (with_entry f.name (binding.Function sig) t)) e
 
-  bound_same : (scopes : List Scope) → IsInScope ss → AreSameScopes file ss scopes → AreSameScopes file (behind_top ss (T.Function f)) (bind f.name (binding.Function sig) scopes)
+  pub bound_same : (scopes : List Scope) → IsInScope ss → AreSameScopes file ss scopes → AreSameScopes file (behind_top ss (T.Function f)) (bind f.name (binding.Function sig) scopes)
   bound_same scopes there h = by_scopes ss scopes (d.named) there h
     where
       by_found : (o : Option Meaning) (s : resolved.Scope) (ss : List resolved.Scope) (t : Scope) (ts : List Scope) → resolved.found f.name s ≡ o → IfSome o (λ b. b ≡ AFunction) → AreSameScopes file (s ∷ ss) (t ∷ ts)
@@ -118,8 +118,8 @@ module _ (ts : List Top) (f g : Function) (word : ℕ → List ℕ) (x : tops.Fu
       by_scopes [] (t ∷ scopes) k h = absurd h
       by_scopes (s ∷ ss) [] k h = absurd h
 
-  main_formed : (bytes_eq (word x.name) (codes "main") && not (is_main_form word x)) ≡ false
-  main_formed = ap (λ m. bytes_eq m (codes "main") && not (is_main_form word x)) (w.name) ∙ by_bool (bytes_eq f.name (codes "main")) (λ y. let m = is_main (d.formed y) in (λ i. y i && not (m i))) (λ n. (λ i. n i && not (is_main_form word x)))
+  main_formed : IsWrittenAs word x f → (bytes_eq (word x.name) (codes "main") && not (is_main_form word x)) ≡ false
+  main_formed w = ap (λ m. bytes_eq m (codes "main") && not (is_main_form word x)) (w.name) ∙ by_bool (bytes_eq f.name (codes "main")) (λ y. let m = is_main (d.formed y) in (λ i. y i && not (m i))) (λ n. (λ i. n i && not (is_main_form word x)))
     where
       empty_of : (xs : List tops.Parameter) → map (want_of word false) xs ≡ [] → is_empty xs ≡ true
       empty_of [] e = refl
@@ -132,13 +132,13 @@ module _ (ts : List Top) (f g : Function) (word : ℕ → List ℕ) (x : tops.Fu
           let p : is_empty x.parameters ≡ true = empty_of x.parameters (w.wants false ∙ ap (λ k. wants_in false (take k f.slots)) (m.parameters)) in
           (λ i. r i && s i && p i)
 
-  pub name_reads : (scopes : List Scope) → IsInScope ss → AreSameScopes file ss scopes → NameReads ts f bodies before x (record { word = word; scopes = scopes }) ss
-  name_reads scopes there h =
+  pub name_reads : IsWrittenAs word x f → (scopes : List Scope) → IsInScope ss → AreSameScopes file ss scopes → NameReads ts f bodies before x (record { word = word; scopes = scopes }) ss
+  name_reads w scopes there h =
       let again : (has_body x && has_function before (word x.name)) ≡ false = (λ i. w.body i && has_function before (w.name i)) ∙ d.single in
       let unknown : is_known (word x.name) ≡ false = ap is_known (w.name) ∙ d.unknown in
       record {
-        same = subst (λ z. AreSameScopes file (behind_top ss (T.Function f)) z) (λ i. bind (sym (w.name) i) (binding.Function (sym sig_is i)) scopes) (bound_same scopes there h);
+        same = subst (λ z. AreSameScopes file (behind_top ss (T.Function f)) z) (λ i. bind (sym (w.name) i) (binding.Function (sym (sig_is w) i)) scopes) (bound_same scopes there h);
         clear = λ vs.
-            (λ i. again_faults x.name (has_body x && has_function before (word x.name)) (sig_is i) (bound (w.name i) scopes) (fault_if (main_formed i) x.name 36 (fault_if (unknown i) x.name 21 vs)))
+            (λ i. again_faults x.name (has_body x && has_function before (word x.name)) (sig_is w i) (bound (w.name i) scopes) (fault_if (main_formed w i) x.name 36 (fault_if (unknown i) x.name 21 vs)))
             ∙ again_clear (bound f.name scopes) (has_body x && has_function before (word x.name)) vs again (bound_to scopes h);
       }

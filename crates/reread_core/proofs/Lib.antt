@@ -39,4 +39,7 @@ pub mod GlobalsRead
 pub mod EnumsRead
 pub mod StartScopes
 pub mod FunctionNamesRead
+pub mod FilesRead
+pub mod GlobalsFound
+pub mod TokenWords
 pub mod TheLaws

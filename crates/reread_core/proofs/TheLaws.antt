@@ -17,6 +17,9 @@ use Rattle.reread_core.proofs.FunctionsRead.{function_reads}
 use Rattle.reread_core.proofs.FileSources.{file_writes}
 use Rattle.reread_core.proofs.GlobalsRead.{global_reads}
 use Rattle.reread_core.proofs.EnumsRead.{enum_reads}
+use Rattle.reread_core.proofs.GlobalsFound.{globals_found}
+use Rattle.reread_core.proofs.TokenWords.{words_of}
+use Rattle.reread_core.proofs.FilesRead.{file_reads, program_reads}
 use Rattle.reread_core.proofs.FunctionNamesRead.{name_reads}
 use Rattle.reread_core.proofs.StartScopes.{at_the_start, in_function}
 use Rattle.reread_core.proofs.BodyRead.{body_reads}
@@ -53,5 +56,9 @@ reread_laws = record {
   enums = λ ts x xs ss env tokens at ps words there same h b. enum_reads ts env.word tokens words x xs ss env.scopes at ps there same h b;
   starts = at_the_start;
   inward = in_function;
-  names = λ ts f g bodies before x env ss w d there h. name_reads ts f g env.word x bodies before ss w d env.scopes there h;
+  names = λ ts f g bodies before x env ss w d there h. name_reads ts f g env.word x bodies before ss d w env.scopes there h;
+  whole_files = λ counts ts file tokens xs ss s at noted words there k h g b. file_reads counts ts file tokens words xs ss s at noted there k h g b;
+  programs = program_reads;
+  words = words_of;
+  found_variables = globals_found;
 }

@@ -1,13 +1,13 @@
 -- The laws of this crate: what is printed of a resolved program reads back as it was.
-use Rattle.std.specs.Prelude.{◌≡◌, ◌+◌, ℕ, List, [], ◌∷◌, map, Some}
+use Rattle.std.specs.Prelude.{◌≡◌, ◌+◌, ℕ, List, [], ◌∷◌, map, Some, negsuc, ◌&&◌, false, ◌++◌, ◌≤◌, length, IsSomeAnd, Ok, Bool, cond, is_some, take, Option, None, option_map}
 use Rattle.c_tree.specs.declared.tree.Expression.{Expression, out-Expression}
 use Rattle.c_tree.specs.ExpressionTrees.{ExpressionTree, expression_tree}
 use Rattle.c_tree.specs.declared.tree.Function.{Function}
 use Rattle.c_tree.specs.declared.tree.Top.{Top}
 use Rattle.c_tree.specs.declared.tree.Item.{Item}
-use Rattle.c_tree.specs.Trees.{trees_of}
+use Rattle.c_tree.specs.Trees.{trees_of, expression_trees}
 use Rattle.c_tree.specs.TextItems.{braced, printed, label_name}
-use Rattle.c_tree.specs.TextPieces.{Piece}
+use Rattle.c_tree.specs.TextPieces.{Piece, newline, joined}
 use Rattle.c_tree.specs.TextExpressions.{expression_text}
 use Rattle.c_grammar.specs.declared.syntax.Syntax.{Syntax}
 use Rattle.c_grammar.specs.Expressions.{Assignment, Conditional}
@@ -15,93 +15,67 @@ use Rattle.c_grammar.specs.Expressions as g
 use Rattle.c_grammar.specs.ExpressionSyntax.{expression_node, assignment_node, conditional_node, expression_end, assignment_end, conditional_end}
 use Rattle.c_source.specs.Terms.{Term, At}
 use Rattle.c_grammar.specs.Statements.{Local, Items, NoItems, Braces}
-use Rattle.c_grammar.specs.StatementSyntax.{local_node, block_node, block_end}
-use Rattle.c_source.specs.Parts.{part_of, term_of, declaration_in, block_in}
+use Rattle.c_grammar.specs.StatementSyntax.{local_node, block_node, block_end, word_end}
+use Rattle.c_source.specs.Parts.{part_of, term_of, declaration_in, block_in, OfTop, file_of}
 use Rattle.c_kinds.specs.Scopes.{Env, Faults}
 use Rattle.c_kinds.specs.Values.{of_result}
 use Rattle.c_kinds.specs.Typing.{typed, faults}
-use Rattle.c_resolved.specs.Names.{Names}
-use Rattle.c_statements.specs.Context.{Anchor, Context, Walk, no_construct}
-use Rattle.c_statements.specs.Functions.{result_kind, context, body_items, behind_body, body_faults}
+use Rattle.c_resolved.specs.Names.{Names, the_function, the_global}
+use Rattle.c_statements.specs.Context.{Anchor, Context, Walk, no_construct, Before, Last}
+use Rattle.c_statements.specs.Functions.{result_kind, context, body_items, behind_body, body_faults, want_of, function_of, tangle_fault, function_faults}
 use Rattle.c_statements.specs.Labels.{body_labels, distinct, twice_faults}
 use Rattle.c_resolved.specs.Form.{gathered, marked_label}
 use Rattle.c_resolved.specs.Resolved.{names_in, IsResolvedFunction}
 use Rattle.c_resolved.specs.Limits.{FlatCounts}
-use Rattle.c_resolved.specs.Within.{AllDiffer}
-use Rattle.c_resolved.specs.PrintableStatements.{ItemsPrint}
+use Rattle.c_resolved.specs.Within.{AllDiffer, Each}
+use Rattle.c_resolved.specs.PrintableStatements.{ItemsPrint, DeclaratorPrints}
 use Rattle.c_source.specs.Tops as tops
-use Rattle.c_resolved.specs.Scopes.{Scope, behind_all, AreBound}
-use Rattle.printed_syntax.specs.Reread.{Spelling}
+use Rattle.c_resolved.specs.Scopes.{Scope, behind_all, AreBound, bind_constants, ConstantsAreBound, Meaning, AVariable, at_start, NamesAreBound, IsFunctionName, behind_top, TopIsBound, inside, AreNewParameters, BodyIsBound}
+use Rattle.printed_syntax.specs.Reread.{Spelling, spellings, read_at}
 use Rattle.printed_syntax.specs.Standing.{Stands}
-use Rattle.printed_syntax.specs.ExpressionDerivations.{derivation_of}
-use Rattle.printed_syntax.specs.StatementDerivations.{assignment_of, conditional_of, items_of}
+use Rattle.printed_syntax.specs.ExpressionDerivations.{derivation_of, type_of}
+use Rattle.printed_syntax.specs.StatementDerivations.{assignment_of, conditional_of, items_of, declaration_of}
 use Rattle.reread_core.specs.WrittenExpressions.{expression_form, assignment_form, conditional_form}
 use Rattle.reread_core.specs.WrittenStatements.{written_declaration, written_block}
-use Rattle.reread_core.specs.Keywords.{ItemsHaveKeywords}
+use Rattle.reread_core.specs.Keywords.{ItemsHaveKeywords, FunctionHasKeywords}
 use Rattle.reread_core.specs.Words.{AreWords}
 use Rattle.reread_core.specs.Places.{IsPlace, IsExpressionOf, Standing}
 use Rattle.reread_core.specs.GoodItems.{AreGood, slots_in}
 use Rattle.reread_core.specs.PlacedNotes.{NotesOfBody}
-use Rattle.std.specs.Prelude.{negsuc}
 use Rattle.c_tree.specs.declared.tree.EnumItem.{EnumItem}
-use Rattle.c_tree.specs.Text.{enum_text}
-use Rattle.c_tree.specs.TextPieces.{newline}
-use Rattle.c_grammar.specs.FileSyntax.{enumeration_end}
+use Rattle.c_tree.specs.Text.{enum_text, top_text, global_text, function_text}
+use Rattle.c_grammar.specs.FileSyntax.{enumeration_end, declaration_end, parameters_end, result_end, function_end, function_node, file_node}
 use Rattle.c_source.specs.Tops.{Enumerator}
 use Rattle.c_scopes.specs.Enums.{enum_items, behind_enum, enum_faults}
-use Rattle.c_resolved.specs.Files.{HaveValues, AreNotMain}
-use Rattle.c_resolved.specs.PrintablePrograms.{EnumPrints}
-use Rattle.c_resolved.specs.Scopes.{bind_constants, ConstantsAreBound}
-use Rattle.printed_syntax.specs.FileDerivations.{enumeration_of}
-use Rattle.reread_core.specs.WrittenFiles.{written_enumeration}
+use Rattle.c_resolved.specs.Files.{HaveValues, AreNotMain, SameParameters, MainIsFormed, IsGlobal, IsNotMain}
+use Rattle.c_resolved.specs.PrintablePrograms.{EnumPrints, FunctionPrints}
+use Rattle.printed_syntax.specs.FileDerivations.{enumeration_of, global_of, parameters_of}
+use Rattle.reread_core.specs.WrittenFiles.{written_enumeration, written_tops, FileHasKeywords}
 use Rattle.c_tree.specs.declared.tree.Home.TheVariants as H
-use Rattle.c_scopes.specs.Files.{start}
-use Rattle.c_resolved.specs.Scopes.{Meaning, AVariable, at_start, NamesAreBound}
-use Rattle.std.specs.Prelude.{◌&&◌, false}
+use Rattle.c_scopes.specs.Files.{start, File, State, tops_of, file_faults}
 use Rattle.c_types.specs.Words.{is_known}
-use Rattle.c_scopes.specs.FunctionNames.{has_function, function_bound, function_name_faults}
-use Rattle.c_resolved.specs.Names.{the_function}
-use Rattle.c_resolved.specs.Files.{SameParameters, MainIsFormed}
-use Rattle.c_resolved.specs.Scopes.{IsFunctionName}
+use Rattle.c_scopes.specs.FunctionNames.{has_function, function_bound, function_name_faults, with_function}
+use Rattle.c_resolved.specs.Verbatims.{IsComment, IsDirective}
+use Rattle.c_tree.specs.declared.tree.Program.{Program}
+use Rattle.c_lexer.specs.declared.token.Token.{Token}
+use Rattle.c_lexer.specs.declared.token.Span.{Span}
+use Rattle.c_source.specs.Words.{word_of}
+use Rattle.c_scopes.specs.Resolving.{file_at, resolved}
+use Rattle.printed_syntax.specs.Laws.{printed_pieces}
 use Rattle.c_tree.specs.declared.tree.Top.TheVariants as T
 use Rattle.c_tree.specs.declared.tree.GlobalVariable.{GlobalVariable}
-use Rattle.c_tree.specs.Trees.{expression_trees}
-use Rattle.c_tree.specs.Text.{global_text}
-use Rattle.c_grammar.specs.FileSyntax.{declaration_end}
-use Rattle.c_source.specs.Items.{Declaration}
+use Rattle.c_source.specs.Items.{Declaration, Body}
 use Rattle.c_statements.specs.Declarations.{kinded}
 use Rattle.c_scopes.specs.Globals.{behind_globals, globals, globals_faults}
-use Rattle.c_resolved.specs.Names.{the_global}
-use Rattle.c_resolved.specs.Files.{IsGlobal, IsNotMain}
-use Rattle.c_resolved.specs.Scopes.{behind_top, TopIsBound}
-use Rattle.c_resolved.specs.PrintableStatements.{DeclaratorPrints}
-use Rattle.printed_syntax.specs.StatementDerivations.{declaration_of}
-use Rattle.printed_syntax.specs.FileDerivations.{global_of}
-use Rattle.reread_core.specs.Bindings.{IsInScope}
-use Rattle.std.specs.Prelude.{Bool, cond, is_some, take, Option, None, option_map}
+use Rattle.reread_core.specs.Bindings.{IsInScope, AreSameScopes}
 use Rattle.c_tree.specs.declared.tree.Slot.{Slot}
-use Rattle.c_tree.specs.Text.{function_text}
 use Rattle.c_grammar.specs.Files as files
-use Rattle.c_grammar.specs.StatementSyntax.{word_end}
-use Rattle.c_grammar.specs.FileSyntax.{parameters_end, result_end, function_end, function_node}
-use Rattle.c_source.specs.Items.{Body}
-use Rattle.c_source.specs.Parts.{OfTop}
 use Rattle.c_kinds.specs.declared.binding.Want.{Want}
 use Rattle.c_kinds.specs.declared.binding.Want.TheVariants as want
 use Rattle.c_kinds.specs.Scopes as kinds
-use Rattle.c_statements.specs.Functions.{want_of, function_of, tangle_fault, function_faults}
-use Rattle.c_resolved.specs.Scopes.{inside, AreNewParameters, BodyIsBound}
 use Rattle.c_resolved.specs.Spelling.{FunctionIsSpelled}
-use Rattle.c_resolved.specs.PrintablePrograms.{FunctionPrints}
-use Rattle.printed_syntax.specs.ExpressionDerivations.{type_of}
-use Rattle.printed_syntax.specs.FileDerivations.{parameters_of}
 use Rattle.printed_syntax.specs.FileDerivations as derivation
-use Rattle.reread_core.specs.Bindings.{AreSameScopes}
-use Rattle.reread_core.specs.Keywords.{FunctionHasKeywords}
 use Rattle.reread_core.specs.WrittenFunctions.{written_function}
-use Rattle.c_grammar.specs.FileSyntax.{file_node}
-use Rattle.c_source.specs.Parts.{file_of}
-use Rattle.reread_core.specs.WrittenFiles.{written_tops, FileHasKeywords}
 
 -- ---- expressions
 
@@ -258,6 +232,47 @@ pub record NameReads (ts : List Top) (f : Function) (bodies before : List (List 
   pub same : AreSameScopes (record { tops = ts; slots = [] }) (behind_top ss (T.Function f)) (function_bound bodies x env).scopes
   pub clear : (vs : Faults) → function_name_faults bodies before x env vs ≡ vs
 
+-- ---- files
+
+-- a function, of which these stand before with a body, and which is not too tangled
+pub record IsFileFunction (counts : FlatCounts) (ts : List Top) (file : File) (f : Function) (ss : List Scope) (before : List (List ℕ)) (at : ℕ) : Type 0 where
+  pub declared : IsSomeAnd (the_function f.name ts) (λ g. IsDeclared ts f g file.bodies before ss)
+  pub function : IsFunction counts ts f (behind_top ss (T.Function f))
+  pub notes : NotesOfFunction f file.notes (body_at at f) f.body
+  pub untangled : (vs : Faults) → measured file.flat file.word (written_function file.word at (derivation.function_of f)) (written_function file.word at (derivation.function_of f)).body f.body vs ≡ vs
+
+abbrev pub bodies_behind : Function → List (List ℕ) → List (List ℕ)
+bodies_behind f before = cond (is_some f.body) (with_function f.name before) before
+
+-- what stands from a token on, behind these comments that no token has been behind
+abbrev pub AreTops : FlatCounts → List Top → File → List Scope → List (List ℕ) → ℕ → List (List ℕ) → List Top → Type 0
+AreTops counts ts file ss before at noted [] = file.notes Last ≡ noted
+AreTops counts ts file ss before at noted (T.Note bytes ∷ xs) = IsComment bytes × AreTops counts ts file ss before at (noted ++ bytes ∷ []) xs
+AreTops counts ts file ss before at noted (T.Include bytes ∷ xs) = IsDirective bytes × (file.notes (Before at) ≡ noted) × AreTops counts ts file ss before (at + 1) [] xs
+AreTops counts ts file ss before at noted (T.Enum [] ∷ xs) = ⊥
+AreTops counts ts file ss before at noted (T.Enum (x ∷ es) ∷ xs) =
+    IsEnum ts (x ∷ es) ss × (file.notes (Before at) ≡ noted) × AreTops counts ts file (bind_constants (x ∷ es) ss) before (enumeration_end at (enumeration_of x es)) [] xs
+AreTops counts ts file ss before at noted (T.Global g ∷ xs) =
+    IsFileVariable ts g ss × (file.notes (Before at) ≡ noted) × AreTops counts ts file (behind_top ss (T.Global g)) before (declaration_end at (global_of g)) [] xs
+AreTops counts ts file ss before at noted (T.Function f ∷ xs) =
+    IsFileFunction counts ts file f ss before at × (file.notes (Before at) ≡ noted) × AreTops counts ts file (behind_top ss (T.Function f)) (bodies_behind f before) (function_end at (derivation.function_of f)) [] xs
+
+-- the printed text of them reads back as they are, without a violation
+pub record FileReads (file : File) (s : State) (at : ℕ) (noted : List (List ℕ)) (xs : List Top) : Type 0 where
+  pub keywords : FileHasKeywords file.word at (derivation.tops_of xs)
+  pub tops : tops_of file (written_tops file.word at (derivation.tops_of xs)) s ≡ map T.Note noted ++ xs
+  pub clear : (vs : Faults) → file_faults file (written_tops file.word at (derivation.tops_of xs)) s vs ≡ vs
+
+-- the name of a variable of file scope stands for that variable
+abbrev pub IsFound : List Top → Top → Type 0
+IsFound ts (T.Global g) = the_global g.slot.name ts ≡ Some g.slot
+IsFound ts _ = Unit {0}
+
+-- a token that stands in a text
+pub record IsTokenOf (text : List ℕ) (t : Token) : Type 0 where
+  pub in_order : t.start ≤ t.end
+  pub inside : t.end ≤ length text
+
 pub record RereadLaws : Type 0 where
   -- what the syntax of a derivation writes
   pub expression : (word : ℕ → List ℕ) (at : ℕ) (e : g.Expression) → term_of word (expression_node at e) ≡ At at (expression_form at e)
@@ -295,3 +310,13 @@ pub record RereadLaws : Type 0 where
   -- the name of a function is bound as in the program
   pub names : (ts : List Top) (f g : Function) (bodies before : List (List ℕ)) (x : tops.Function) (env : Env) (ss : List Scope) → IsWrittenAs env.word x f → IsDeclared ts f g bodies before ss → IsInScope ss
       → AreSameScopes (record { tops = ts; slots = [] }) ss env.scopes → NameReads ts f bodies before x env ss
+  -- and what stands in a file reads back, where the comments stand where they are printed
+  pub whole_files : (counts : FlatCounts) (ts : List Top) (file : File) (tokens : List Spelling) (xs : List Top) (ss : List Scope) (s : State) (at : ℕ) (noted : List (List ℕ)) → AreWords file.word tokens → IsInScope ss → AreOfFile ss
+      → AreSameScopes (record { tops = ts; slots = [] }) ss s.scopes → AreTops counts ts file ss s.bodies at noted xs → Stands tokens at (joined (map top_text xs) []) → FileReads file s at noted xs
+  -- so that the syntax of the printed text of a program gives the program
+  pub programs : (counts : FlatCounts) (p : Program) (flat : List Item → Option (ℕ × ℕ)) (text : List ℕ) (tokens : List Token) (comments : List Span) → AreWords (word_of text tokens) (spellings (printed_pieces p)) → NamesAreBound p.tops
+      → AreTops counts p.tops (file_at flat text tokens comments (written_tops (word_of text tokens) 0 (derivation.file_of p))) at_start [] 0 [] p.tops → resolved flat text tokens comments (derivation.syntax_of p) ≡ Ok p
+  -- whose words are those of its tokens
+  pub words : (text : List ℕ) (tokens : List Token) (found : List Spelling) → Each (IsTokenOf text) tokens → map (read_at text) tokens ≡ found → AreWords (word_of text tokens) found
+  -- where each name of a program is bound, that of a variable stands for that variable
+  pub found_variables : (ts : List Top) → NamesAreBound ts → Each (IsFound ts) ts

@@ -5,7 +5,7 @@
 
 ghost use Rattle.reread_core.specs.Laws.{RereadLaws};
 
-/// Resolving the syntax of the printed text of a resolved program gives the program.
+/// Resolving the syntax of the printed text of a program gives the program, where each part of the file is as it is read.
 pub fn reread_laws()
     ensures { RereadLaws }
 {}
