@@ -1,0 +1,6 @@
+//! Flat forms of worked functions. This crate holds tests alone, so that the calls are not proved twice
+//! for them.
+#![tactic(auto)]
+
+#[cfg(test)]
+mod worked;
