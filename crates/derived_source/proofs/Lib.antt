@@ -1,7 +1,10 @@
 pub mod Bytes
 pub mod Classes
+pub mod Words
 pub mod Expressions
 pub mod Declarations
 pub mod Ends
 pub mod Statements
+pub mod Silence
+pub mod Files
 pub mod TheLaws

@@ -1,19 +1,50 @@
 -- The laws of this crate: the derivation of a text gives source trees as resolving reads them.
-use Rattle.std.specs.Prelude.{ℕ, List}
-use Rattle.c_statements.specs.Context.{Anchor}
-use Rattle.c_resolved.specs.PrintableExpressions.{AreBytes}
+use Rattle.std.specs.Prelude.{◌≡◌, ◌+◌, ◌<◌, ℕ, List, [], ◌∷◌, ◌++◌, length}
+use Rattle.c_lexer.specs.Pieces.{Piece, Spells, tokens_of}
 use Rattle.c_grammar.specs.declared.class.Class.{Class}
+use Rattle.c_grammar.specs.declared.class.Class.TheVariants as c
+use Rattle.c_grammar.specs.declared.syntax.Syntax.{Syntax}
+use Rattle.c_grammar.specs.TokenClasses.{classes_of}
+use Rattle.c_grammar.specs.Derives.{Derives}
 use Rattle.c_grammar.specs.Expressions.{Expression, FitsExpression, expression_tokens}
 use Rattle.c_grammar.specs.ExpressionSyntax.{expression_end}
-use Rattle.reread_core.specs.WrittenExpressions.{expression_form}
-use Rattle.resolving_core.specs.Read.{IsReadForm, AreReadItems}
 use Rattle.c_grammar.specs.Statements.{Items, FitsItems, items_tokens}
 use Rattle.c_grammar.specs.StatementSyntax.{items_end}
+use Rattle.c_source.specs.Words.{word_of}
+use Rattle.c_source.specs.Parts.{file_of}
+use Rattle.c_statements.specs.Context.{Anchor}
+use Rattle.c_resolved.specs.PrintableExpressions.{AreBytes}
+use Rattle.c_resolved.specs.Within.{Each}
 use Rattle.reread_core.specs.Keywords.{ItemsHaveKeywords}
+use Rattle.reread_core.specs.WrittenExpressions.{expression_form}
 use Rattle.reread_core.specs.WrittenStatements.{written_items}
-use Rattle.derived_source.specs.Quiet.{AreQuiet}
+use Rattle.reread_core.specs.WrittenFiles.{written_tops}
+use Rattle.resolving_core.specs.Read.{IsReadForm, AreReadItems}
 use Rattle.derived_source.specs.Classed.{Stand}
+use Rattle.derived_source.specs.Formed.{IsFormedTop}
+use Rattle.derived_source.specs.Quiet.{AreQuiet, IsQuietFile}
+
+-- of words that are bytes
+abbrev pub OfBytes : ((ℕ → List ℕ) → Type 0) → Type 0
+OfBytes P = (word : ℕ → List ℕ) → ((at : ℕ) → AreBytes (word at)) → P word
+
+-- of the derivation of a text, whose bytes are bytes and can be counted
+abbrev pub OfDerivation : ((word : ℕ → List ℕ) (tokens : List Class) (x : Syntax) → Derives tokens x → Type 0) → Type 0
+OfDerivation P =
+    (pieces : List Piece) (t : List ℕ) → Spells pieces t → AreBytes t → length t + 1 < 2147483648 →
+    let tokens = tokens_of pieces in (x : Syntax) (d : Derives (classes_of t tokens) x) → P (word_of t tokens) (classes_of t tokens) x d
 
 pub record DerivedLaws : Type 0 where
-  pub expressions : (word : ℕ → List ℕ) → ((at : ℕ) → AreBytes (word at)) → (at : ℕ) (e : Expression) (r : List Class) → FitsExpression e → Stand word at (expression_tokens e r) → IsReadForm word (expression_form at e) × Stand word (expression_end at e) r
-  pub items : (word : ℕ → List ℕ) → ((at : ℕ) → AreBytes (word at)) → (notes : Anchor → List (List ℕ)) → (at : ℕ) (xs : Items) (r : List Class) → FitsItems xs → AreQuiet word notes at xs → Stand word at (items_tokens xs r) → AreReadItems word notes (written_items at xs) × ItemsHaveKeywords word at xs × Stand word (items_end at xs) r
+  -- the tokens of a text stand by their numbers, as words of their classes
+  pub words : (pieces : List Piece) (t : List ℕ) → Spells pieces t → length t + 1 < 2147483648 → Stand (word_of t (tokens_of pieces)) 0 (classes_of t (tokens_of pieces) ++ c.End ∷ [])
+  -- what derives an expression there is read
+  pub expressions : OfBytes (λ word.
+      (at : ℕ) (e : Expression) (r : List Class) → FitsExpression e → Stand word at (expression_tokens e r) → IsReadForm word (expression_form at e) × Stand word (expression_end at e) r)
+  -- and what derives the items of a list, where the places of comments leave the front of each switch quiet
+  pub items : OfBytes (λ word.
+      (notes : Anchor → List (List ℕ)) → (at : ℕ) (xs : Items) (r : List Class) → FitsItems xs → AreQuiet word notes at xs → Stand word at (items_tokens xs r)
+      → AreReadItems word notes (written_items at xs) × ItemsHaveKeywords word at xs × Stand word (items_end at xs) r)
+  -- what the syntax of a derived text writes
+  pub writes : OfDerivation (λ word tokens x d. file_of word x ≡ written_tops word 0 d.file)
+  -- a derived text is read, apart from its limits
+  pub file : OfDerivation (λ word tokens x d. (notes : Anchor → List (List ℕ)) → IsQuietFile word notes 0 d.file → Each (IsFormedTop word notes) (file_of word x))

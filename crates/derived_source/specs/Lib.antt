@@ -1,3 +1,4 @@
 pub mod Classed
 pub mod Quiet
+pub mod Formed
 pub mod Laws
