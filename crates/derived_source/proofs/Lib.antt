@@ -7,4 +7,5 @@ pub mod Ends
 pub mod Statements
 pub mod Silence
 pub mod Files
+pub mod Depths
 pub mod TheLaws

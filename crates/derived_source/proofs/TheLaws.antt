@@ -14,7 +14,7 @@ use Rattle.c_resolved.specs.Within.{Each}
 use Rattle.reread_core.specs.WrittenFiles.{written_tops, FileHasKeywords}
 use Rattle.reread_core.proofs.FileSources.{file_writes}
 use Rattle.derived_source.specs.Classed.{Stand}
-use Rattle.derived_source.specs.Formed.{IsFormedTop}
+use Rattle.derived_source.specs.Formed.{IsFormedTop, IsShallow}
 use Rattle.derived_source.specs.Quiet.{IsQuietFile}
 use Rattle.derived_source.specs.Laws.{DerivedLaws}
 use Rattle.derived_source.proofs.Bytes.{word_bytes}
@@ -22,6 +22,7 @@ use Rattle.derived_source.proofs.Words.{words}
 use Rattle.derived_source.proofs.Expressions.{expression_read}
 use Rattle.derived_source.proofs.Statements.{items_read}
 use Rattle.derived_source.proofs.Files.{file_read}
+use Rattle.derived_source.proofs.Depths.{file_shallow}
 use Rattle.derived_source.proofs.Silence.{silent_file}
 
 module _ (pieces : List Piece) (t : List ℕ) (spells : Spells pieces t) (bytes : AreBytes t) (few : length t + 1 < 2147483648) (x : Syntax) (d : Derives (classes_of t (tokens_of pieces)) x) where
@@ -40,6 +41,9 @@ module _ (pieces : List Piece) (t : List ℕ) (spells : Spells pieces t) (bytes 
   formed : (notes : Anchor → List (List ℕ)) → IsQuietFile the_word notes 0 d.file → Each (IsFormedTop the_word notes) (file_of the_word x)
   formed notes q = subst (λ xs. Each (IsFormedTop the_word notes) xs) (sym writes) (read notes q).0
 
+  shallow : Each IsShallow (file_of the_word x)
+  shallow = subst (λ xs. Each IsShallow xs) (sym writes) (file_shallow d.file the_word 0 [] (d.within)).0
+
 pub derived_laws : DerivedLaws
 derived_laws =
     record {
@@ -48,4 +52,5 @@ derived_laws =
       items = λ word bytes notes at xs r f q s. let x = items_read word bytes notes at xs r f q s in (x.items, x.keywords, x.behind);
       writes = writes;
       file = formed;
+      shallow = shallow;
     }

@@ -1,7 +1,8 @@
 -- What is read of a file apart from its limits: each name is one, each body, value and size is read.
-use Rattle.std.specs.Prelude.{◌<◌, ℕ, List, IfSome, length}
+use Rattle.std.specs.Prelude.{◌<◌, ◌≤◌, ℕ, List, IfSome, length}
 use Rattle.c_source.specs.Tops.{Enumerator, Function, Top, Form, Line, Enum, Globals, Defines, From, Unread}
 use Rattle.c_statements.specs.Context.{Anchor}
+use Rattle.c_statements.specs.Measures.{body_depth}
 use Rattle.c_resolved.specs.Within.{Each}
 use Rattle.resolving_core.specs.Read.{IsNameAt, IsReadTerm, IsReadParameter, IsReadDeclaration, IsReadBody}
 
@@ -24,3 +25,8 @@ module _ (word : ℕ → List ℕ) (notes : Anchor → List (List ℕ)) where
 
   abbrev pub IsFormedTop : Top → Type 0
   IsFormedTop (From first after form) = IsFormed form
+
+-- the lists of a function's body stand at most so deep in each other
+abbrev pub IsShallow : Top → Type 0
+IsShallow (From first after (Defines f)) = IfSome f.body (λ b. body_depth b ≤ 400)
+IsShallow _ = Unit {0}

@@ -21,7 +21,7 @@ use Rattle.reread_core.specs.WrittenStatements.{written_items}
 use Rattle.reread_core.specs.WrittenFiles.{written_tops}
 use Rattle.resolving_core.specs.Read.{IsReadForm, AreReadItems}
 use Rattle.derived_source.specs.Classed.{Stand}
-use Rattle.derived_source.specs.Formed.{IsFormedTop}
+use Rattle.derived_source.specs.Formed.{IsFormedTop, IsShallow}
 use Rattle.derived_source.specs.Quiet.{AreQuiet, IsQuietFile}
 
 -- of words that are bytes
@@ -48,3 +48,5 @@ pub record DerivedLaws : Type 0 where
   pub writes : OfDerivation (λ word tokens x d. file_of word x ≡ written_tops word 0 d.file)
   -- a derived text is read, apart from its limits
   pub file : OfDerivation (λ word tokens x d. (notes : Anchor → List (List ℕ)) → IsQuietFile word notes 0 d.file → Each (IsFormedTop word notes) (file_of word x))
+  -- and the lists of each function stand at most so deep in each other as its limit says
+  pub shallow : OfDerivation (λ word tokens x d. Each IsShallow (file_of word x))
