@@ -19,7 +19,9 @@ use Rattle.move_core.specs.Bodies.{with_body}
 use Rattle.jump_meaning.specs.Code.{Code}
 use Rattle.plain_core.specs.Laws.{IsNoLeap, IsReady, IsTopReady}
 use Rattle.plain_core.specs.Plain.{tidied, with_guard_variables, plain_body, plain_function, plain_top}
-use Rattle.whole_core.specs.Rewritten.{Made, IsFlatForm, IsUnlabelledForm, IsNoFunction, FlatTop, ft_flat, ft_unlabelled, ft_declared, ft_other, FlatTops, ft_none, ft_more, IsMoved, MovedTop, mt_moved, mt_other, MovedTops, mt_none, mt_more}
+use Rattle.move_records.specs.declared.moves.Move.{Move}
+use Rattle.derived_functions.specs.Moved.{IsMoved, MovedTop, mt_moved, mt_other, MovedTops, mt_none, mt_more}
+use Rattle.whole_core.specs.Rewritten.{IsFlatForm, IsUnlabelledForm, IsNoFunction, FlatTop, ft_flat, ft_unlabelled, ft_declared, ft_other, FlatTops, ft_none, ft_more}
 
 -- h is the plain form of a function with jumps
 pub record IsMovedForm (f h : Function) : Type 0 where
@@ -88,7 +90,7 @@ none_is_some : {A : Type 0} (o : Option A) (a : A) → o ≡ None → o ≡ Some
 none_is_some o a e i = let q : None ≡ Some a = sym e ∙ i in cc
 
 module _ (Own : Function → Type 0) (c : Code) (names : Function → List (List ℕ)) where
-  moved_form : (f g k : Function) (ms : List Made) → has_jumps (body_of f) ≡ true → IsFlatForm f g → IsMoved g k ms → IsReady c names k → IsMovedForm f (plain_function (names k) k)
+  moved_form : (f g k : Function) (ms : List Move) → has_jumps (body_of f) ≡ true → IsFlatForm f g → IsMoved g k ms → IsReady c names k → IsMovedForm f (plain_function (names k) k)
   moved_form f g k ms jumps w m n = record {
     jumps = jumps;
     flat_form = g;
@@ -113,7 +115,7 @@ module _ (Own : Function → Type 0) (c : Code) (names : Function → List (List
   unmoved_form : (f g : Function) → has_jumps (body_of f) ≡ false → IsUnlabelledForm f g → IsUnmovedForm f (plain_function (names g) g)
   unmoved_form f g free w = record { free = free; left = g; is_left = w; plain = ap (plain_body (names g) g) w.new_body ∙ plain_unflat (names g) g w.new w.flat }
 
-  plain_of : {t u v : Top} {ms : List Made} → FlatTop t u → MovedTop u v ms → IsTopReady c names v → IsOwnTop Own names v → PlainTop Own t (plain_top names v)
+  plain_of : {t u v : Top} {ms : List Move} → FlatTop t u → MovedTop u v ms → IsTopReady c names v → IsOwnTop Own names v → PlainTop Own t (plain_top names v)
   plain_of (ft_flat {f = f} {g = g} jumps w) (mt_moved {g = k} {ms = ms} flat m) n o = pt_moved (moved_form f g k ms jumps w m n) (o (ap (λ (j : Function). j.flat) m.result ∙ w.flat))
   plain_of (ft_flat jumps w) (mt_other t unflat) n o = absurd (true≢false (sym w.flat ∙ unflat))
   plain_of (ft_unlabelled free w) (mt_moved flat m) n o = absurd (true≢false (sym flat ∙ w.flat))
@@ -123,6 +125,6 @@ module _ (Own : Function → Type 0) (c : Code) (names : Function → List (List
   plain_of (ft_other t q) (mt_moved flat m) n o = absurd q
   plain_of (ft_other t q) (mt_other s unflat) n o = subst (PlainTop Own t) (sym (other_plain names t q)) (pt_other t q)
 
-  pub plain_tops : {ts us vs : List Top} {ms : List Made} → FlatTops ts us → MovedTops us vs ms → AllByRecursion (IsTopReady c names) vs → AllByRecursion (IsOwnTop Own names) vs → PlainTops Own ts (map (plain_top names) vs)
+  pub plain_tops : {ts us vs : List Top} {ms : List Move} → FlatTops ts us → MovedTops us vs ms → AllByRecursion (IsTopReady c names) vs → AllByRecursion (IsOwnTop Own names) vs → PlainTops Own ts (map (plain_top names) vs)
   plain_tops ft_none mt_none n o = pt_none
   plain_tops (ft_more w r) (mt_more m s) n o = pt_more (plain_of w m n.0 o.0) (plain_tops r s n.1 o.1)

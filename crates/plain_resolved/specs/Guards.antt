@@ -11,7 +11,8 @@ use Rattle.plain_core.specs.Plain.{plain_with}
 use Rattle.c_resolved.specs.Within.{Each}
 use Rattle.c_resolved.specs.PrintableExpressions.{IsName}
 use Rattle.resolved_core.specs.Counts.{IsResolved}
-use Rattle.whole_core.specs.Rewritten.{Made, IsRewritten}
+use Rattle.move_records.specs.declared.moves.Move.{Move}
+use Rattle.whole_core.specs.Rewritten.{IsRewritten}
 use Rattle.plain_resolved.specs.Names.{HasOwnNames}
 
 -- a flat function of what a program is rewritten to: its variables have names of their own, its labels have names, and no
@@ -27,4 +28,4 @@ TopHasNames p _ = Unit {0}
 
 -- the plain form with the names of guards that the tool gives is resolved
 abbrev pub NamedPlainFormIsResolved : Type 0
-NamedPlainFormIsResolved = (p q : Program) (ms : List Made) → IsResolved p → IsRewritten p q ms → All (TopHasNames p) q.tops → IsResolved (plain_with (guard_names (names p)) q)
+NamedPlainFormIsResolved = (p q : Program) (ms : List Move) → IsResolved p → IsRewritten p q ms → All (TopHasNames p) q.tops → IsResolved (plain_with (guard_names (names p)) q)

@@ -6,7 +6,8 @@ use Rattle.c_tree.specs.declared.tree.Top.TheVariants as T
 use Rattle.c_tree.specs.declared.tree.Program.{Program}
 use Rattle.plain_core.specs.Plain.{plain_function, plain_with}
 use Rattle.resolved_core.specs.Counts.{IsResolved}
-use Rattle.whole_core.specs.Rewritten.{Made, IsRewritten}
+use Rattle.move_records.specs.declared.moves.Move.{Move}
+use Rattle.whole_core.specs.Rewritten.{IsRewritten}
 use Rattle.whole_core.specs.Laws.{IsTopNamed}
 use Rattle.plain_resolved.specs.Names.{HasOwnNames}
 
@@ -18,4 +19,4 @@ IsTopOwn ts names _ = Unit {0}
 -- the plain form of what a resolved program is rewritten to is resolved
 abbrev pub PlainFormIsResolved : Type 0
 PlainFormIsResolved =
-    (names : Function → List (List ℕ)) (p q : Program) (ms : List Made) → IsResolved p → IsRewritten p q ms → All (IsTopNamed names) q.tops → All (IsTopOwn p.tops names) q.tops → IsResolved (plain_with names q)
+    (names : Function → List (List ℕ)) (p q : Program) (ms : List Move) → IsResolved p → IsRewritten p q ms → All (IsTopNamed names) q.tops → All (IsTopOwn p.tops names) q.tops → IsResolved (plain_with names q)

@@ -7,7 +7,8 @@ use Rattle.guard_vars.specs.GuardNames.{guard_names}
 use Rattle.plain_core.specs.Plain.{plain_with}
 use Rattle.plain_core.specs.Laws.{BehavesAsStructured}
 use Rattle.resolved_core.specs.Counts.{IsResolved}
-use Rattle.whole_core.specs.Rewritten.{Made, IsRewritten}
+use Rattle.move_records.specs.declared.moves.Move.{Move}
+use Rattle.whole_core.specs.Rewritten.{IsRewritten}
 use Rattle.plain_resolved.specs.Guards.{TopHasNames}
 use Rattle.printed_reading.specs.Laws.{Parses}
 
@@ -22,4 +23,4 @@ pub record ReadsBack (p r : Program) : Type 0 where
   pub runs : BehavesAsStructured p r
 
 abbrev pub PlainFormReadsBack : Type 0
-PlainFormReadsBack = (p q : Program) (ms : List Made) → IsResolved p → IsRewritten p q ms → All (TopHasNames p) q.tops → ReadsBack p (plain_with (guard_names (names p)) q)
+PlainFormReadsBack = (p q : Program) (ms : List Move) → IsResolved p → IsRewritten p q ms → All (TopHasNames p) q.tops → ReadsBack p (plain_with (guard_names (names p)) q)

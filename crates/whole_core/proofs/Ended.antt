@@ -19,7 +19,9 @@ use Rattle.derivation.proofs.OneDerivation.{well_made_derived}
 use Rattle.derivation.proofs.NoLeaps.{no_leaps}
 use Rattle.guard_simplify.proofs.Next.{choice_laws}
 use Rattle.plain_core.specs.Laws.{IsNoLeap}
-use Rattle.whole_core.specs.Rewritten.{Made, FlatTop, ft_flat, ft_unlabelled, ft_declared, ft_other, IsMoved, MovedTop, mt_moved, mt_other}
+use Rattle.move_records.specs.declared.moves.Move.{Move}
+use Rattle.derived_functions.specs.Moved.{IsMoved, MovedTop, mt_moved, mt_other}
+use Rattle.whole_core.specs.Rewritten.{FlatTop, ft_flat, ft_unlabelled, ft_declared, ft_other}
 use Rattle.whole_core.proofs.Source.{IsSourceTop}
 use Rattle.whole_core.proofs.BodiesKept.{reached_kept, none_left}
 use Rattle.whole_core.proofs.Chains.{IsConvertible}
@@ -129,7 +131,7 @@ flat_free f e h = subst (λ b. body_holds (if b then is_jump_free else is_plain)
 unflat_free : (f : Function) → f.flat ≡ false → is_plain_function f ≡ true → is_jump_free_function f ≡ true
 unflat_free f e h = subst (λ b. body_holds (if b then is_jump_free else is_plain) f.body ≡ true) (sym e) h
 
-moved_ended : (f g : Function) (ms : List Made) → f.flat ≡ true → IsConvertible (T.Function f) → IsMoved f g ms → IsEndedFunction g
+moved_ended : (f g : Function) (ms : List Move) → f.flat ≡ true → IsConvertible (T.Function f) → IsMoved f g ms → IsEndedFunction g
 moved_ended f g ms flat w m =
     let first = w flat m.body m.body_is in
     let made = well_made_derived m.derives first in
@@ -140,7 +142,7 @@ moved_ended f g ms flat w m =
     let end : IsEndedFunction (with_body (converted f) m.new) = record { made = λ e. last; leapless = λ e. leapless; free = flat_free (with_body (converted f) m.new) flat (free_body m.new free) } in
     subst IsEndedFunction (sym m.result) end
 
-pub ended_top : {t u : Top} {ms : List Made} → IsConvertible t → IsPlainTop t → MovedTop t u ms → IsEnded u
+pub ended_top : {t u : Top} {ms : List Move} → IsConvertible t → IsPlainTop t → MovedTop t u ms → IsEnded u
 ended_top w p (mt_moved {f = f} {g = g} {ms = ms} flat m) = moved_ended f g ms flat w m
 ended_top w p (mt_other (T.Function f) n) = record { made = λ e. absurd (true≢false (sym e ∙ n)); leapless = λ e. absurd (true≢false (sym e ∙ n)); free = unflat_free f n (p n) }
 ended_top w p (mt_other (T.Include b) n) = tt

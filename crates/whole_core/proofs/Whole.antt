@@ -19,7 +19,9 @@ use Rattle.plain_core.proofs.TheLaws.{plain_laws}
 use Rattle.kinds_kept.specs.Laws.{IsKindedTop, IsKindedProgram}
 use Rattle.c_resolved.specs.Limits.{FlatCounts}
 use Rattle.c_resolved.specs.Resolved.{IsResolvedWith}
-use Rattle.whole_core.specs.Rewritten.{Made, FlatTops, ft_none, ft_more, MovedTops, mt_none, mt_more, IsRewritten}
+use Rattle.move_records.specs.declared.moves.Move.{Move}
+use Rattle.derived_functions.specs.Moved.{MovedTops, mt_none, mt_more}
+use Rattle.whole_core.specs.Rewritten.{FlatTops, ft_none, ft_more, IsRewritten}
 use Rattle.whole_core.proofs.Source.{IsSourceTop, IsSource, resolved_source}
 use Rattle.whole_core.specs.Laws.{IsTopNamed, IsRight, WholeLaws}
 use Rattle.whole_core.proofs.Chains.{AreConvertible, moved_tops, chain_steady, chain_kinds}
@@ -34,7 +36,7 @@ record IsKept (p q : Program) : Type 0 where
   same : BehaveTheSame p q
   kinded : IsKindedProgram q
 
-kept : (p q : Program) (ms : List Made) → IsSource p → IsRewritten p q ms → IsKept p q
+kept : (p q : Program) (ms : List Move) → IsSource p → IsRewritten p q ms → IsKept p q
 kept p q ms s w =
     let f = flat_program p w.flat s w.flattened in
     let c = moved_tops f.convertible w.moved in
@@ -47,11 +49,11 @@ plain_tops : {ts us : List Top} → AllByRecursion IsSourceTop ts → FlatTops t
 plain_tops s ft_none = tt
 plain_tops s (ft_more w r) = (plain_top s.0 w, plain_tops s.1 r)
 
-ended_tops : {ts us : List Top} {ms : List Made} → AreConvertible ts → AllByRecursion IsPlainTop ts → MovedTops ts us ms → AllByRecursion IsEnded us
+ended_tops : {ts us : List Top} {ms : List Move} → AreConvertible ts → AllByRecursion IsPlainTop ts → MovedTops ts us ms → AllByRecursion IsEnded us
 ended_tops c p mt_none = tt
 ended_tops c p (mt_more m r) = (ended_top c.0 p.0 m, ended_tops c.1 p.1 r)
 
-ended : (p q : Program) (ms : List Made) → IsSource p → IsRewritten p q ms → AllByRecursion IsEnded q.tops
+ended : (p q : Program) (ms : List Move) → IsSource p → IsRewritten p q ms → AllByRecursion IsEnded q.tops
 ended p q ms s w =
     let f = flat_program p w.flat s w.flattened in
     ended_tops f.convertible (plain_tops (recursion_from_All IsSourceTop p.tops s.tops) w.flattened) w.moved
@@ -64,7 +66,7 @@ free_tops (T.Enum es ∷ ts) h = free_tops ts h.1
 free_tops (T.Global g ∷ ts) h = free_tops ts h.1
 free_tops (T.Note b ∷ ts) h = free_tops ts h.1
 
-jump_free : (p q : Program) (ms : List Made) → IsSource p → IsRewritten p q ms → is_jump_free_program q ≡ true
+jump_free : (p q : Program) (ms : List Move) → IsSource p → IsRewritten p q ms → is_jump_free_program q ≡ true
 jump_free p q ms s w = free_tops q.tops (ended p q ms s w)
 
 -- ---- the plain form
@@ -85,7 +87,7 @@ both_runs p q r h k = record {
 }
 
 -- what is reached is ready for its plain form
-ready : (names : Function → List (List ℕ)) (p q : Program) (ms : List Made) → IsSource p → IsRewritten p q ms → All (IsTopNamed names) q.tops → IsProgramReady names q
+ready : (names : Function → List (List ℕ)) (p q : Program) (ms : List Move) → IsSource p → IsRewritten p q ms → All (IsTopNamed names) q.tops → IsProgramReady names q
 ready names p q ms s w n =
     let k = kept p q ms s w in
     let c = code_of q in
@@ -93,10 +95,10 @@ ready names p q ms s w n =
     (finished_tops c names q.tops (ended p q ms s w) (recursion_from_All (IsKindedTop c) q.tops k.kinded) (recursion_from_All (IsTopNamed names) q.tops n)) in
     plain_laws.of_steady names q k.steady finished
 
-pub resolved_ready : (counts : FlatCounts) (names : Function → List (List ℕ)) (p q : Program) (ms : List Made) → IsResolvedWith counts p → IsRewritten p q ms → All (IsTopNamed names) q.tops → IsProgramReady names q
+pub resolved_ready : (counts : FlatCounts) (names : Function → List (List ℕ)) (p q : Program) (ms : List Move) → IsResolvedWith counts p → IsRewritten p q ms → All (IsTopNamed names) q.tops → IsProgramReady names q
 resolved_ready counts names p q ms r w n = ready names p q ms (resolved_source counts p r) w n
 
-whole : (names : Function → List (List ℕ)) (p q : Program) (ms : List Made) → IsSource p → IsRewritten p q ms → All (IsTopNamed names) q.tops → IsRight names p q
+whole : (names : Function → List (List ℕ)) (p q : Program) (ms : List Move) → IsSource p → IsRewritten p q ms → All (IsTopNamed names) q.tops → IsRight names p q
 whole names p q ms s w n =
     let k = kept p q ms s w in
     let is_ready = ready names p q ms s w n in

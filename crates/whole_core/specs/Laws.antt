@@ -10,7 +10,8 @@ use Rattle.jump_meaning.specs.Runs.{BehaveTheSame}
 use Rattle.jump_meaning.specs.Steady.{IsSteady}
 use Rattle.plain_core.specs.Plain.{plain_with}
 use Rattle.plain_core.specs.Laws.{BehavesAsStructured}
-use Rattle.whole_core.specs.Rewritten.{Made, IsRewritten}
+use Rattle.move_records.specs.declared.moves.Move.{Move}
+use Rattle.whole_core.specs.Rewritten.{IsRewritten}
 use Rattle.c_resolved.specs.Limits.{FlatCounts}
 use Rattle.c_resolved.specs.Resolved.{IsResolvedWith}
 
@@ -29,8 +30,8 @@ pub record IsRight (names : Function → List (List ℕ)) (p q : Program) : Type
 
 pub record WholeLaws : Type 0 where
   -- what a resolved program is rewritten to is steady, and behaves the same
-  pub steady : (counts : FlatCounts) (p q : Program) (ms : List Made) → IsResolvedWith counts p → IsRewritten p q ms → IsSteady q × BehaveTheSame p q
+  pub steady : (counts : FlatCounts) (p q : Program) (ms : List Move) → IsResolvedWith counts p → IsRewritten p q ms → IsSteady q × BehaveTheSame p q
   -- it has no jumps
-  pub jump_free : (counts : FlatCounts) (p q : Program) (ms : List Made) → IsResolvedWith counts p → IsRewritten p q ms → is_jump_free_program q ≡ true
+  pub jump_free : (counts : FlatCounts) (p q : Program) (ms : List Move) → IsResolvedWith counts p → IsRewritten p q ms → is_jump_free_program q ≡ true
   -- and its plain form is plain, in range, and its structural runs are the runs of the program
-  pub whole : (counts : FlatCounts) (names : Function → List (List ℕ)) (p q : Program) (ms : List Made) → IsResolvedWith counts p → IsRewritten p q ms → All (IsTopNamed names) q.tops → IsRight names p q
+  pub whole : (counts : FlatCounts) (names : Function → List (List ℕ)) (p q : Program) (ms : List Move) → IsResolvedWith counts p → IsRewritten p q ms → All (IsTopNamed names) q.tops → IsRight names p q

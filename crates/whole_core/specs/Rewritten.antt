@@ -4,7 +4,6 @@ use Rattle.std.specs.Prelude.{ℕ, ◌+◌, ◌≡◌, true, false, List, [], �
 use Rattle.std.specs.List.{AllByRecursion}
 use Rattle.c_tree.specs.declared.tree.Item.{Item}
 use Rattle.c_tree.specs.declared.tree.Slot.{Slot}
-use Rattle.c_tree.specs.declared.tree.Path.{Path}
 use Rattle.c_tree.specs.declared.tree.Function.{Function}
 use Rattle.c_tree.specs.declared.tree.Top.{Top}
 use Rattle.c_tree.specs.declared.tree.Top.TheVariants as T
@@ -12,7 +11,6 @@ use Rattle.c_tree.specs.declared.tree.Program.{Program}
 use Rattle.c_tree.specs.Trees.{trees_of}
 use Rattle.c_tree.specs.Everywhere.{total}
 use Rattle.c_tree.specs.InRange.{body_of}
-use Rattle.jump_meaning.specs.Laws.{IsTopUnflat}
 use Rattle.loose_core.specs.Pieces.{Stays}
 use Rattle.c_tree.specs.Numerals.{constant}
 use Rattle.loose_core.specs.Loose.{Setting, NoArrival, ExtendSlots}
@@ -22,13 +20,8 @@ use Rattle.flat_core.specs.FlatForm.{Plan, flat, marks, coded, numbered, first_h
 use Rattle.flat_core.specs.Source.{HaveVariables}
 use Rattle.flat_core.specs.Unlabelled.{unlabelled}
 use Rattle.flat_made.specs.Laws.{label_count}
-use Rattle.guard_vars.specs.Conversion.{converted, converted_list}
-use Rattle.move_core.specs.Bodies.{with_body}
-use Rattle.move_records.specs.declared.moves.MoveKind.{MoveKind}
-use Rattle.derivation.specs.declared.kept.Kept.{Kept}
-use Rattle.derivation.specs.Derivations.{Derives}
-use Rattle.guard_simplify.specs.declared.choice.Choice.{Choice}
-use Rattle.guard_simplify.specs.Application.{Reaches, IsSimple}
+use Rattle.move_records.specs.declared.moves.Move.{Move}
+use Rattle.derived_functions.specs.Moved.{MovedTops}
 
 -- ---- flat forms
 
@@ -104,45 +97,8 @@ pub data FlatTops : List Top → List Top → Type 0 where
   ft_none : FlatTops [] []
   ft_more : {t u : Top} {ts us : List Top} → FlatTop t u → FlatTops ts us → FlatTops (t ∷ ts) (u ∷ us)
 
--- ---- moves
-
--- a move: in which function, of which kind, of which label, and where
-pub record Made : Type 0 where
-  pub function : List ℕ
-  pub kind : MoveKind
-  pub label : Option ℕ
-  pub path : Path
-
-abbrev pub of_kept : Function → Kept → Made
-of_kept f m = record { function = f.name; kind = m.kind; label = Some m.label; path = m.path }
-
-abbrev pub of_choice : Function → Choice → Made
-of_choice f c = record { function = f.name; kind = c.kind; label = c.label; path = c.path }
-
--- g is f, a flat function, after its conversion, all moves of its Leaps and all simplifications
-pub record IsMoved (f g : Function) (ms : List Made) : Type 0 where
-  pub body : List Item
-  pub middle : List Item
-  pub new : List Item
-  pub moves : List Kept
-  pub choices : List Choice
-  pub body_is : f.body ≡ Some body
-  pub derives : Derives (converted_list body) moves middle
-  pub reaches : Reaches middle choices new
-  pub simple : IsSimple new
-  pub result : g ≡ with_body (converted f) new
-  pub made : ms ≡ map (of_kept f) moves ++ map (of_choice f) choices
-
-pub data MovedTop : Top → Top → List Made → Type 0 where
-  mt_moved : {f g : Function} {ms : List Made} → f.flat ≡ true → IsMoved f g ms → MovedTop (T.Function f) (T.Function g) ms
-  mt_other : (t : Top) → IsTopUnflat t → MovedTop t t []
-
-pub data MovedTops : List Top → List Top → List Made → Type 0 where
-  mt_none : MovedTops [] [] []
-  mt_more : {t u : Top} {ts us : List Top} {ms ns : List Made} → MovedTop t u ms → MovedTops ts us ns → MovedTops (t ∷ ts) (u ∷ us) (ms ++ ns)
-
 -- q is what p is rewritten to, by these moves in this order
-pub record IsRewritten (p q : Program) (ms : List Made) : Type 0 where
+pub record IsRewritten (p q : Program) (ms : List Move) : Type 0 where
   pub flat : Program
   pub flattened : FlatTops p.tops flat.tops
   pub moved : MovedTops flat.tops q.tops ms
