@@ -8,4 +8,6 @@ pub mod Statements
 pub mod Silence
 pub mod Files
 pub mod Depths
+pub mod Lines
+pub mod Comments
 pub mod TheLaws

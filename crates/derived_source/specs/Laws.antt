@@ -1,6 +1,6 @@
 -- The laws of this crate: the derivation of a text gives source trees as resolving reads them.
-use Rattle.std.specs.Prelude.{◌≡◌, ◌+◌, ◌<◌, ℕ, List, [], ◌∷◌, ◌++◌, length}
-use Rattle.c_lexer.specs.Pieces.{Piece, Spells, tokens_of}
+use Rattle.std.specs.Prelude.{◌≡◌, ◌+◌, ◌<◌, ℕ, true, List, [], ◌∷◌, ◌++◌, length}
+use Rattle.c_lexer.specs.Pieces.{Piece, Spells, tokens_of, comments_of}
 use Rattle.c_grammar.specs.declared.class.Class.{Class}
 use Rattle.c_grammar.specs.declared.class.Class.TheVariants as c
 use Rattle.c_grammar.specs.declared.syntax.Syntax.{Syntax}
@@ -12,8 +12,11 @@ use Rattle.c_grammar.specs.Statements.{Items, FitsItems, items_tokens}
 use Rattle.c_grammar.specs.StatementSyntax.{items_end}
 use Rattle.c_source.specs.Words.{word_of}
 use Rattle.c_source.specs.Parts.{file_of}
+use Rattle.c_source.specs.Tops.{Top}
 use Rattle.c_statements.specs.Context.{Anchor}
+use Rattle.c_scopes.specs.Notes.{notes_of}
 use Rattle.c_resolved.specs.PrintableExpressions.{AreBytes}
+use Rattle.c_resolved.specs.Verbatims.{IsComment}
 use Rattle.c_resolved.specs.Within.{Each}
 use Rattle.reread_core.specs.Keywords.{ItemsHaveKeywords}
 use Rattle.reread_core.specs.WrittenExpressions.{expression_form}
@@ -21,6 +24,7 @@ use Rattle.reread_core.specs.WrittenStatements.{written_items}
 use Rattle.reread_core.specs.WrittenFiles.{written_tops}
 use Rattle.resolving_core.specs.Read.{IsReadForm, AreReadItems}
 use Rattle.derived_source.specs.Classed.{Stand}
+use Rattle.derived_source.specs.Closed.{is_closed}
 use Rattle.derived_source.specs.Formed.{IsFormedTop, IsShallow}
 use Rattle.derived_source.specs.Quiet.{AreQuiet, IsQuietFile}
 
@@ -50,3 +54,5 @@ pub record DerivedLaws : Type 0 where
   pub file : OfDerivation (λ word tokens x d. (notes : Anchor → List (List ℕ)) → IsQuietFile word notes 0 d.file → Each (IsFormedTop word notes) (file_of word x))
   -- and the lists of each function stand at most so deep in each other as its limit says
   pub shallow : OfDerivation (λ word tokens x d. Each IsShallow (file_of word x))
+  -- at each place of a text that ends with a newline stand comments
+  pub comments : (pieces : List Piece) (t : List ℕ) → Spells pieces t → is_closed t ≡ true → (xs : List Top) (a : Anchor) → Each IsComment (notes_of t (tokens_of pieces) (comments_of pieces) xs a)
