@@ -1,0 +1,42 @@
+use c_printer::print;
+use c_reading::read;
+use c_scopes::FlatCounter;
+use c_tree::Item;
+use c_types::{List, Memory, ReadStop};
+use std::alloc::Global;
+
+/// Counts no jumps, so that no function is too tangled.
+struct NoJumps;
+
+impl FlatCounter for NoJumps {
+    ghost use Rattle.std.specs.Prelude.{None};
+
+    ghost flat = { λ s items. None };
+
+    fn count(&self, _body: &List<Item>) -> Result<Option<(u64, u64)>, Memory> {
+        Ok(None)
+    }
+}
+
+/// Whether a text is refused for a reason at an offset.
+pub fn is_refused(alloc: Global, text: &[u8], reason: u32, at: u64) -> bool {
+    match read(alloc, &NoJumps, text) {
+        Err(ReadStop::Refused(refusal)) => refusal.reason == reason && refusal.at == at,
+        Err(ReadStop::Memory) => false,
+        Ok(program) => {
+            drop(program);
+            false
+        }
+    }
+}
+
+/// Whether a text reads as a program that is printed so.
+pub fn is_printed(alloc: Global, text: &[u8], printed: &[u8]) -> bool {
+    match read(alloc, &NoJumps, text) {
+        Ok(program) => match print(alloc, &program) {
+            Ok(bytes) => bytes.as_slice() == printed,
+            Err(_) => false,
+        },
+        Err(_) => false,
+    }
+}
