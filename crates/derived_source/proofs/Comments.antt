@@ -38,7 +38,7 @@ no_backslash first (l.Directive w) r f = refl
 no_backslash first (l.Line w) r f = refl
 no_backslash first (l.Block w) r f = refl
 
-text_first : (first : Bool) (ps : List Piece) → Good first ps [] → begins_with 92 (text ps []) ≡ false
+pub text_first : (first : Bool) (ps : List Piece) → Good first ps [] → begins_with 92 (text ps []) ≡ false
 text_first first [] g = refl
 text_first first (p ∷ ps) g = no_backslash first p (text ps []) (g.0)
 

@@ -10,4 +10,5 @@ pub mod Files
 pub mod Depths
 pub mod Lines
 pub mod Comments
+pub mod Directives
 pub mod TheLaws

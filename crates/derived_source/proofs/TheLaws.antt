@@ -24,6 +24,7 @@ use Rattle.derived_source.proofs.Statements.{items_read}
 use Rattle.derived_source.proofs.Files.{file_read}
 use Rattle.derived_source.proofs.Depths.{file_shallow}
 use Rattle.derived_source.proofs.Comments.{comments}
+use Rattle.derived_source.proofs.Directives.{directives}
 use Rattle.derived_source.proofs.Silence.{silent_file}
 
 module _ (pieces : List Piece) (t : List ℕ) (spells : Spells pieces t) (bytes : AreBytes t) (few : length t + 1 < 2147483648) (x : Syntax) (d : Derives (classes_of t (tokens_of pieces)) x) where
@@ -55,4 +56,5 @@ derived_laws =
       file = formed;
       shallow = shallow;
       comments = comments;
+      directives = directives;
     }

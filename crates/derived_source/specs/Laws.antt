@@ -1,5 +1,6 @@
 -- The laws of this crate: the derivation of a text gives source trees as resolving reads them.
-use Rattle.std.specs.Prelude.{◌≡◌, ◌+◌, ◌<◌, ℕ, true, List, [], ◌∷◌, ◌++◌, length}
+use Rattle.std.specs.Prelude.{◌≡◌, ◌+◌, ◌<◌, ℕ, true, List, [], ◌∷◌, ◌++◌, length, slice_range}
+use Rattle.c_lexer.specs.declared.token.Token.{Token}
 use Rattle.c_lexer.specs.Pieces.{Piece, Spells, tokens_of, comments_of}
 use Rattle.c_grammar.specs.declared.class.Class.{Class}
 use Rattle.c_grammar.specs.declared.class.Class.TheVariants as c
@@ -24,7 +25,7 @@ use Rattle.reread_core.specs.WrittenStatements.{written_items}
 use Rattle.reread_core.specs.WrittenFiles.{written_tops}
 use Rattle.resolving_core.specs.Read.{IsReadForm, AreReadItems}
 use Rattle.derived_source.specs.Classed.{Stand}
-use Rattle.derived_source.specs.Closed.{is_closed}
+use Rattle.derived_source.specs.Closed.{is_closed, IsDirectiveToken}
 use Rattle.derived_source.specs.Formed.{IsFormedTop, IsShallow}
 use Rattle.derived_source.specs.Quiet.{AreQuiet, IsQuietFile}
 
@@ -56,3 +57,5 @@ pub record DerivedLaws : Type 0 where
   pub shallow : OfDerivation (λ word tokens x d. Each IsShallow (file_of word x))
   -- at each place of a text that ends with a newline stand comments
   pub comments : (pieces : List Piece) (t : List ℕ) → Spells pieces t → is_closed t ≡ true → (xs : List Top) (a : Anchor) → Each IsComment (notes_of t (tokens_of pieces) (comments_of pieces) xs a)
+  -- and its directives are `#include` lines
+  pub directives : (pieces : List Piece) (t : List ℕ) → Spells pieces t → is_closed t ≡ true → Each (λ (x : Token). IsDirectiveToken x.kind (slice_range t x.start x.end)) (tokens_of pieces)
