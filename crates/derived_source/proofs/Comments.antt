@@ -11,9 +11,10 @@ use Rattle.c_lexer.specs.Pieces.{Piece, text, spelled, behind, comment_of, all_o
 use Rattle.c_lexer.specs.Pieces as l
 use Rattle.c_lexer.proofs.PieceLemmas.{Stands, spelled_split}
 use Rattle.c_lexer.proofs.Truths.{both_true}
-use Rattle.c_statements.specs.Context.{Anchor}
+use Rattle.c_statements.specs.declared.anchors.Anchor.{Anchor}
 use Rattle.c_source.specs.Tops.{Top}
-use Rattle.c_scopes.specs.Notes.{notes_of, same_place, place_in, next_token}
+use Rattle.c_scopes.specs.Notes.{notes_of, place_in, next_token}
+use Rattle.c_statements.specs.Context.{same_place}
 use Rattle.c_resolved.specs.Verbatims.{IsComment}
 use Rattle.c_resolved.specs.Within.{Each}
 use Rattle.printed_syntax.specs.Reread.{comment_bytes, comment_at}
@@ -76,5 +77,5 @@ kept t f (x ∷ xs) h = by_test t x (filter f xs) (f x) (h.0) (kept t f xs (h.1)
 
 pub comments : (pieces : List Piece) (t : List ℕ) → Spells pieces t → is_closed t ≡ true → (xs : List Top) (a : Anchor) → Each IsComment (notes_of t (tokens_of pieces) (comments_of pieces) xs a)
 comments pieces t s e xs a =
-    kept t (λ x. same_place (place_in xs (next_token (tokens_of pieces) x)) a) (comments_of pieces)
+    kept t (λ x. same_place (place_in xs (next_token (tokens_of pieces) x.start)) a) (comments_of pieces)
     (spans_from t true pieces 0 (s.good) ([], s.spells, refl) (ap is_closed (sym (s.spells)) ∙ e))

@@ -10,7 +10,7 @@ use Rattle.c_grammar.specs.StatementSyntax.{word_end, more_end, rest_end}
 use Rattle.c_grammar.specs.Files.{Parameter, Typed, Parameters, NoParameters, VoidParameters, SomeParameters, Enumeration, Enumerated, Declares, Function, Defined, Top, Line, OfEnum, OfDeclaration, OfFunction, parameter_tokens, parameters_tokens, constant_tokens, enumerator_tokens, enumeration_tokens, result_tokens, body_tokens, function_tokens, top_tokens, file_tokens, FitsParameter, FitsParameters, FitsConstant, FitsEnumeration, FitsBody, FitsFunction, FitsTop, FitsFile}
 use Rattle.c_grammar.specs.FileSyntax.{parameter_end, parameters_end, enumerator_end, enumeration_end, result_end, body_end, function_end, top_end}
 use Rattle.c_source.specs.Tops as s
-use Rattle.c_statements.specs.Context.{Anchor}
+use Rattle.c_statements.specs.declared.anchors.Anchor.{Anchor}
 use Rattle.c_resolved.specs.PrintableExpressions.{AreBytes}
 use Rattle.c_resolved.specs.Within.{Each}
 use Rattle.reread_core.specs.Keywords.{BodyHasKeywords, FunctionHasKeywords}

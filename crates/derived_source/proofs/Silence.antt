@@ -6,7 +6,7 @@ use Rattle.c_grammar.specs.StatementSyntax.{word_end, local_end, label_end, for_
 use Rattle.c_grammar.specs.Files.{Defined, Top, Line, OfEnum, OfDeclaration, OfFunction}
 use Rattle.c_grammar.specs.FileSyntax.{parameters_end, result_end, top_end}
 use Rattle.c_source.specs.Items as s
-use Rattle.c_statements.specs.Context.{Anchor}
+use Rattle.c_statements.specs.declared.anchors.Anchor.{Anchor}
 use Rattle.reread_core.specs.WrittenStatements.{written_body}
 use Rattle.resolving_core.specs.Read.{IsQuietFront, IsQuietSwitch}
 use Rattle.derived_source.specs.Quiet.{AreQuiet, IsQuiet, IsQuietPlain, IsQuietBlock, IsQuietTop, IsQuietFile}

@@ -8,7 +8,7 @@ use Rattle.c_grammar.specs.Statements.{Label, NameLabel, CaseLabel, DefaultLabel
 use Rattle.c_grammar.specs.StatementSyntax.{optional_end, local_end, label_end, for_start_end, items_end, statement_end, plain_end}
 use Rattle.c_source.specs.Items as s
 use Rattle.c_source.specs.Parts.{list_of_plain}
-use Rattle.c_statements.specs.Context.{Anchor}
+use Rattle.c_statements.specs.declared.anchors.Anchor.{Anchor}
 use Rattle.c_resolved.specs.PrintableExpressions.{AreBytes}
 use Rattle.c_resolved.specs.Within.{Each}
 use Rattle.reread_core.specs.Keywords.{LabelHasKeyword, ItemsHaveKeywords, HasKeywords, PlainHasKeywords}

@@ -8,7 +8,7 @@ use Rattle.c_grammar.specs.Derives.{Derives}
 use Rattle.c_grammar.specs.Files.{file_tokens}
 use Rattle.c_source.specs.Words.{word_of}
 use Rattle.c_source.specs.Parts.{file_of}
-use Rattle.c_statements.specs.Context.{Anchor}
+use Rattle.c_statements.specs.declared.anchors.Anchor.{Anchor}
 use Rattle.c_resolved.specs.PrintableExpressions.{AreBytes}
 use Rattle.c_resolved.specs.Within.{Each}
 use Rattle.reread_core.specs.WrittenFiles.{written_tops, FileHasKeywords}

@@ -1,7 +1,7 @@
 -- What is read of a file apart from its limits: each name is one, each body, value and size is read.
 use Rattle.std.specs.Prelude.{◌<◌, ◌≤◌, ℕ, List, IfSome, length}
 use Rattle.c_source.specs.Tops.{Enumerator, Function, Top, Form, Line, Enum, Globals, Defines, From, Unread}
-use Rattle.c_statements.specs.Context.{Anchor}
+use Rattle.c_statements.specs.declared.anchors.Anchor.{Anchor}
 use Rattle.c_statements.specs.Measures.{body_depth}
 use Rattle.c_resolved.specs.Within.{Each}
 use Rattle.resolving_core.specs.Read.{IsNameAt, IsReadTerm, IsReadParameter, IsReadDeclaration, IsReadBody}

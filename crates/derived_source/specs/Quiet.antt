@@ -5,7 +5,7 @@ use Rattle.c_grammar.specs.Statements.{Block, Braces, Items, NoItems, LocalItem,
 use Rattle.c_grammar.specs.StatementSyntax.{word_end, local_end, label_end, for_start_end, optional_end, statement_end}
 use Rattle.c_grammar.specs.Files.{Function, Defined, Top, OfFunction}
 use Rattle.c_grammar.specs.FileSyntax.{parameters_end, result_end, top_end}
-use Rattle.c_statements.specs.Context.{Anchor}
+use Rattle.c_statements.specs.declared.anchors.Anchor.{Anchor}
 use Rattle.reread_core.specs.WrittenStatements.{written_body}
 use Rattle.resolving_core.specs.Read.{IsQuietSwitch}
 

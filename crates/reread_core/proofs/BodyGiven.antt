@@ -27,7 +27,8 @@ use Rattle.c_tree.specs.TextPieces.{Piece}
 use Rattle.c_tree.specs.TextItems.{braced, printed}
 use Rattle.c_grammar.specs.Statements.{NoItems}
 use Rattle.c_source.specs.Tops as tops
-use Rattle.c_statements.specs.Context.{Anchor, Walk}
+use Rattle.c_statements.specs.declared.anchors.Anchor.{Anchor}
+use Rattle.c_statements.specs.Context.{Walk}
 use Rattle.c_statements.specs.Functions.{result_kind, context}
 use Rattle.c_statements.specs.Labels.{numbers, distinct, body_labels}
 use Rattle.c_resolved.specs.Within.{AllDiffer}

@@ -18,7 +18,7 @@ use Rattle.c_kinds.specs.Constants.{is_constant, is_constant_node, constant_of}
 use Rattle.c_statements.specs.declared.entries.Entry.{Entry}
 use Rattle.c_statements.specs.declared.entries.Entry.TheVariants.{Value, Other}
 use Rattle.c_statements.specs.Declarations.{constant_or_placeholder}
-use Rattle.c_statements.specs.Cases.{label_entries, is_among, with_value, entry_faults}
+use Rattle.c_statements.specs.Cases.{label_entries, is_among, with_value, entry_faults, case_entry}
 use Rattle.c_statements.specs.Labels.{labels_faults}
 use Rattle.c_resolved.specs.Within.{Each, AllDiffer}
 use Rattle.c_resolved.specs.Switches.{IsConstantValue, AreLabels, section_labels, cases_among, defaults_among}
@@ -114,7 +114,7 @@ module _ (env : Env) where
   entries_are (x ∷ xs) at default found h =
       let y = conditional_end (at + 1) (conditional_of x) + 1 in
       let form = conditional_form (at + 1) (conditional_of x) in
-      ap (label_entries env (section_list y xs default [])) (λ i. elim (constant_here env form x (h.0) (h.1) i) as (λ _. List Entry) [ Some c ↦ found ++ Value at c.1 ∷ [] | None ↦ found ])
+      ap (label_entries env (section_list y xs default [])) (λ i. case_entry at (constant_here env form x (h.0) (h.1) i) found)
       ∙ entries_are xs y default (found ++ Value at (worth x) ∷ []) (h.2) ∙ append_assoc found (Value at (worth x) ∷ []) (section_entries y xs default)
 
 -- ---- entries and labels

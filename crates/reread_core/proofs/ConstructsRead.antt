@@ -23,7 +23,8 @@ use Rattle.c_grammar.specs.Statements as g
 use Rattle.c_grammar.specs.StatementSyntax.{items_end, statement_end}
 use Rattle.c_source.specs.Items as source
 use Rattle.c_kinds.specs.Scopes.{Faults}
-use Rattle.c_statements.specs.Context.{Context, Walk, Around, in_loop, Before, env_at, enter, leave, notes_at}
+use Rattle.c_statements.specs.declared.anchors.Anchor.TheVariants.{Before}
+use Rattle.c_statements.specs.Context.{Context, Walk, Around, in_loop, env_at, enter, leave, notes_at}
 use Rattle.c_statements.specs.Declarations.{value_faults}
 use Rattle.c_statements.specs.Statements.{behind_items, behind_body, list_items, body_items, test_at}
 use Rattle.c_statements.specs.Violations.{list_faults, body_faults}

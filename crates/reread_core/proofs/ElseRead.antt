@@ -12,7 +12,8 @@ use Rattle.c_grammar.specs.Statements.{NoItems}
 use Rattle.c_grammar.specs.Statements as g
 use Rattle.c_grammar.specs.StatementSyntax.{statement_end}
 use Rattle.c_source.specs.Items as source
-use Rattle.c_statements.specs.Context.{Context, Walk, Around, Before, AtEnd, enter, leave}
+use Rattle.c_statements.specs.declared.anchors.Anchor.TheVariants.{Before, AtEnd}
+use Rattle.c_statements.specs.Context.{Context, Walk, Around, enter, leave}
 use Rattle.c_statements.specs.Statements.{behind_body, body_items}
 use Rattle.c_statements.specs.Violations.{body_faults}
 use Rattle.c_resolved.specs.Resolved.{names_in}

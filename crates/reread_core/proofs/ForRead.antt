@@ -17,7 +17,8 @@ use Rattle.c_grammar.specs.Statements.{NoItems}
 use Rattle.c_grammar.specs.Statements as g
 use Rattle.c_grammar.specs.StatementSyntax.{optional_end, local_end}
 use Rattle.c_kinds.specs.Scopes.{Faults}
-use Rattle.c_statements.specs.Context.{Context, Walk, in_loop, Before, env_at, enter, leave, notes_at}
+use Rattle.c_statements.specs.declared.anchors.Anchor.TheVariants.{Before}
+use Rattle.c_statements.specs.Context.{Context, Walk, in_loop, env_at, enter, leave, notes_at}
 use Rattle.c_statements.specs.Declarations.{value_at, value_faults, kinded, locals}
 use Rattle.c_statements.specs.Statements.{behind_body, dropped_at}
 use Rattle.c_statements.specs.Violations.{dropped_faults, optional_faults, body_faults}

@@ -20,12 +20,13 @@ use Rattle.c_grammar.specs.FileSyntax.{parameters_end, result_end, function_end}
 use Rattle.c_source.specs.Tops as tops
 use Rattle.c_kinds.specs.Scopes.{Faults}
 use Rattle.c_kinds.specs.Scopes as kinds
-use Rattle.c_statements.specs.Context.{Anchor, Context, Walk}
+use Rattle.c_statements.specs.declared.anchors.Anchor.{Anchor}
+use Rattle.c_statements.specs.Context.{Context, Walk}
 use Rattle.c_statements.specs.Labels.{body_labels, twice_faults}
 use Rattle.c_resolved.specs.PrintableStatements.{ItemsPrint}
 use Rattle.reread_core.specs.Keywords.{FunctionHasKeywords}
 use Rattle.reread_core.specs.PlacedNotes.{NotesOfBody}
-use Rattle.c_statements.specs.Functions.{bind_parameters, tangle_fault, body_faults, result_kind, context, prototype_context, want_of, function_of, function_faults}
+use Rattle.c_statements.specs.Functions.{bind_parameters, tangle_fault, body_faults, result_kind, context, want_of, function_of, function_faults}
 use Rattle.c_resolved.specs.Within.{Each}
 use Rattle.c_resolved.specs.Names.{Names}
 use Rattle.c_resolved.specs.Files.{IsParameterLength, AreLengths}
@@ -53,6 +54,10 @@ use Rattle.reread_core.proofs.Marks.{kind_is}
 use Rattle.reread_core.proofs.GoodGiven.{slots_counted}
 use Rattle.reread_core.proofs.BodyGiven.{counted, resolved_reads}
 use Rattle.reread_core.proofs.ParametersRead.{AreParameters, behind_parameters, all_read}
+
+-- a context of which only the words count
+abbrev prototype_context : (ℕ → List ℕ) → tops.Function → Context
+prototype_context word f = record { word = word; notes = λ anchor. []; labels = []; result = result_kind word f }
 
 -- ---- lists
 

@@ -20,7 +20,8 @@ use Rattle.c_grammar.specs.declared.class.Class.TheVariants as c
 use Rattle.c_grammar.specs.TokenClasses.{keyword_class}
 use Rattle.c_grammar.specs.ExpressionSyntax.{expression_end}
 use Rattle.c_kinds.specs.Scopes.{Env, Faults, fault_if, found}
-use Rattle.c_statements.specs.Context.{Context, Walk, Before, env_at, notes_at, number_in, has_label}
+use Rattle.c_statements.specs.declared.anchors.Anchor.TheVariants.{Before}
+use Rattle.c_statements.specs.Context.{Context, Walk, env_at, notes_at, number_in, has_label}
 use Rattle.c_statements.specs.Declarations.{placeholder, value_at, value_faults}
 use Rattle.c_statements.specs.Statements.{dropped_at}
 use Rattle.c_statements.specs.Violations.{dropped_faults, return_faults}

@@ -13,7 +13,8 @@ use Rattle.c_grammar.specs.Statements as g
 use Rattle.c_grammar.specs.StatementSyntax.{local_end, items_end}
 use Rattle.c_source.specs.Items as s
 use Rattle.c_kinds.specs.Scopes.{Faults}
-use Rattle.c_statements.specs.Context.{Context, Walk, Around, Before, enter, leave, notes_at}
+use Rattle.c_statements.specs.declared.anchors.Anchor.TheVariants.{Before}
+use Rattle.c_statements.specs.Context.{Context, Walk, Around, enter, leave, notes_at}
 use Rattle.c_statements.specs.Statements.{behind_item, behind_items, item_items, list_items}
 use Rattle.c_statements.specs.Violations.{item_faults, list_faults}
 use Rattle.c_tree.specs.TextItems.{label_name}

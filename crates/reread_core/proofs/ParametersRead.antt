@@ -89,7 +89,7 @@ module _ (n : Names) (ctx : Context) (tokens : List Spelling) (words : AreWords 
 
   record Bound (ss : List Scope) (k : ℕ) (w : Walk) (at : ℕ) (s : Slot) (defines : Bool) : Type 0 where
     standing : Standing n (resolved.bind_parameter s.name k ss) (suc k) (bind_parameter ctx.word (the at s) w)
-    clear : (vs : Faults) → parameter_fault ctx defines (the at s) w vs ≡ vs
+    clear : (vs : Faults) → parameter_fault ctx.word defines (the at s) w vs ≡ vs
 
   -- a parameter of these slots
   pub record IsParameter (ss : List Scope) (k : ℕ) (s : Slot) (defines : Bool) : Type 0 where
@@ -164,7 +164,7 @@ module _ (n : Names) (ctx : Context) (tokens : List Spelling) (words : AreWords 
 
   pub record ParametersRead (ss : List Scope) (k : ℕ) (w : Walk) (xs : List Slot) (params : List Parameter) (defines : Bool) : Type 0 where
     pub standing : Standing n (behind_parameters ss k xs) (k + length xs) (bind_parameters ctx.word params w)
-    pub clear : (vs : Faults) → parameters_faults ctx defines params w vs ≡ vs
+    pub clear : (vs : Faults) → parameters_faults ctx.word defines params w vs ≡ vs
     pub wants : (external : Bool) → map (want_of ctx.word external) params ≡ wants_of external xs
     pub count : length params ≡ length xs
 
@@ -180,7 +180,7 @@ module _ (n : Names) (ctx : Context) (tokens : List Spelling) (words : AreWords 
       let e : suc k + length xs ≡ k + suc (length xs) = omega arith in
       record {
         standing = subst (λ i. Standing n (behind_parameters (resolved.bind_parameter s.name k ss) (suc k) xs) i (bind_parameters ctx.word params w1)) e (l.standing);
-        clear = λ vs. ap (parameters_faults ctx defines params w1) (b.clear vs) ∙ l.clear vs;
+        clear = λ vs. ap (parameters_faults ctx.word defines params w1) (b.clear vs) ∙ l.clear vs;
         wants = λ external. λ i. want_is s at ps external r i ∷ l.wants external i;
         count = ap suc (l.count);
       }

@@ -17,7 +17,8 @@ use Rattle.c_source.specs.Items as s
 use Rattle.c_source.specs.Items.{first_label, stated_first}
 use Rattle.c_kinds.specs.Scopes.{Env, Faults, fault_if}
 use Rattle.c_statements.specs.declared.entries.Entry.{Entry}
-use Rattle.c_statements.specs.Context.{Context, Walk, Around, AtSection, env_at, notes_at}
+use Rattle.c_statements.specs.declared.anchors.Anchor.TheVariants.{AtSection}
+use Rattle.c_statements.specs.Context.{Context, Walk, Around, env_at, notes_at}
 use Rattle.c_statements.specs.Declarations.{constant_at}
 use Rattle.c_statements.specs.Labels.{has_case, label_items, labels_items, section_marks, section_cases, has_default, labels_faults}
 use Rattle.c_statements.specs.Sections.{Reading, extended, closed}

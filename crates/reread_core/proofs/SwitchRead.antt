@@ -18,7 +18,8 @@ use Rattle.c_grammar.specs.StatementSyntax.{items_end}
 use Rattle.c_source.specs.Items as source
 use Rattle.c_kinds.specs.Scopes.{Faults}
 use Rattle.c_statements.specs.declared.entries.Entry.{Entry}
-use Rattle.c_statements.specs.Context.{Context, Walk, Around, Before, env_at, notes_at}
+use Rattle.c_statements.specs.declared.anchors.Anchor.TheVariants.{Before}
+use Rattle.c_statements.specs.Context.{Context, Walk, Around, env_at, notes_at}
 use Rattle.c_statements.specs.Sections.{Reading, closed, ended}
 use Rattle.c_statements.specs.Statements.{behind_items, list_items, sections_from}
 use Rattle.c_statements.specs.Violations.{list_faults}

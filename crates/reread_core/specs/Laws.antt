@@ -21,7 +21,9 @@ use Rattle.c_kinds.specs.Scopes.{Env, Faults}
 use Rattle.c_kinds.specs.Values.{of_result}
 use Rattle.c_kinds.specs.Typing.{typed, faults}
 use Rattle.c_resolved.specs.Names.{Names, the_function, the_global}
-use Rattle.c_statements.specs.Context.{Anchor, Context, Walk, no_construct, Before, Last}
+use Rattle.c_statements.specs.declared.anchors.Anchor.{Anchor}
+use Rattle.c_statements.specs.declared.anchors.Anchor.TheVariants.{Before, Last}
+use Rattle.c_statements.specs.Context.{Context, Walk, no_construct}
 use Rattle.c_statements.specs.Functions.{result_kind, context, body_items, behind_body, body_faults, want_of, function_of, tangle_fault, function_faults}
 use Rattle.c_statements.specs.Labels.{body_labels, distinct, twice_faults}
 use Rattle.c_resolved.specs.Form.{gathered, marked_label}

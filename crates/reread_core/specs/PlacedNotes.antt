@@ -7,7 +7,8 @@ use Rattle.c_tree.specs.Trees as t
 use Rattle.c_grammar.specs.ExpressionSyntax.{expression_end, conditional_end}
 use Rattle.c_grammar.specs.Statements.{NoItems}
 use Rattle.c_grammar.specs.StatementSyntax.{local_end, for_start_end, optional_end, statement_end}
-use Rattle.c_statements.specs.Context.{Anchor, Before, AtEnd, AtSection}
+use Rattle.c_statements.specs.declared.anchors.Anchor.{Anchor}
+use Rattle.c_statements.specs.declared.anchors.Anchor.TheVariants.{Before, AtEnd, AtSection}
 use Rattle.std.specs.Prelude.{option_map}
 use Rattle.printed_syntax.specs.ExpressionDerivations.{derivation_of}
 use Rattle.printed_syntax.specs.StatementDerivations.{conditional_of, selector_of, starts_with_local, is_nil, ends_with_note, is_last, test_of, start_of, slot_declaration, block, statement_of, items_of}

@@ -18,9 +18,11 @@ use Rattle.c_scopes.specs.Files.{File, State, env_of, function_declared, notes_t
 use Rattle.c_scopes.specs.FunctionNames.{has_function, with_function, has_body, with_body, bodies_of}
 use Rattle.c_scopes.specs.Globals.{globals, global_declared}
 use Rattle.c_statements.specs.declared.extents.Kinded.{Kinded}
-use Rattle.c_statements.specs.Context.{Anchor, Before, Last}
+use Rattle.c_statements.specs.declared.anchors.Anchor.{Anchor}
+use Rattle.c_statements.specs.declared.anchors.Anchor.TheVariants.{Before, Last}
 use Rattle.c_statements.specs.Declarations.{kinded}
-use Rattle.c_statements.specs.Functions.{function_of, defined}
+use Rattle.c_statements.specs.Functions.{function_of}
+use Rattle.resolving_core.proofs.Defined.{defined}
 use Rattle.c_resolved.specs.Names.{first_function}
 use Rattle.resolving_core.proofs.Bindings.{same_names, names_same}
 use Rattle.resolving_core.proofs.FileNames.{function_append, NoF, NoG, Unnamed, first_named}

@@ -19,7 +19,7 @@ use Rattle.c_scopes.specs.Files.{File, State, env_of, function_declared, notes_t
 use Rattle.c_scopes.specs.FunctionNames.{has_function, has_body, signature_in, again_faults}
 use Rattle.c_scopes.specs.Globals.{globals, global_declared}
 use Rattle.c_statements.specs.declared.extents.Kinded.{Kinded}
-use Rattle.c_statements.specs.Context.{Before, Last}
+use Rattle.c_statements.specs.declared.anchors.Anchor.TheVariants.{Before, Last}
 use Rattle.c_statements.specs.Declarations.{kinded}
 use Rattle.c_statements.specs.Functions.{function_of}
 use Rattle.c_resolved.specs.Files.{SameParameter, SameParameters, Agree, AgreesWith, DeclarationsAgree}

@@ -12,7 +12,9 @@ use Rattle.c_source.specs.Items.{Declarator, Label, Named, Case, Default}
 use Rattle.c_kinds.specs.Scopes.{fault_if}
 use Rattle.c_kinds.specs.Typing.{typed, constant_faults}
 use Rattle.c_statements.specs.declared.extents.Kinded.{Kinded}
-use Rattle.c_statements.specs.Context.{Anchor, Before, Context, Walk, env_at, env_in, notes_at, number_in}
+use Rattle.c_statements.specs.declared.anchors.Anchor.{Anchor}
+use Rattle.c_statements.specs.declared.anchors.Anchor.TheVariants.{Before}
+use Rattle.c_statements.specs.Context.{Context, Walk, env_at, env_in, notes_at, number_in}
 use Rattle.c_statements.specs.Declarations.{declared, local, locals, initial, value_at, constant_at}
 use Rattle.c_statements.specs.Labels.{mark, labels_items, section_marks, section_cases, has_default, label_faults, labels_faults}
 use Rattle.c_resolved.specs.Within.{Each}
@@ -27,6 +29,7 @@ use Rattle.c_kinds.specs.declared.typed.Typed as kinds
 use Rattle.c_kinds.specs.declared.typed.Typed.TheVariants as T
 use Rattle.c_statements.specs.declared.entries.Entry.{Entry}
 use Rattle.c_statements.specs.declared.entries.Entry.TheVariants.{Value, Other}
+use Rattle.c_statements.specs.Cases as the_cases
 use Rattle.c_statements.specs.Cases.{label_entry, label_entries}
 use Rattle.c_statements.specs.Declarations.{constant_or_placeholder}
 use Rattle.c_resolved.specs.Switches.{arrivals, arrivals_of, section_labels, cases_among, defaults_among, IsConstantValue}
@@ -245,7 +248,7 @@ module _ (ctx : Context) where
   case_clean w switch at after t e = given_constant (env_at ctx w) t (parted (constant_faults (env_at ctx w) t) (fault_if (not switch) at 29) (constant_empty (env_at ctx w) t) e).1
 
   case_entry : (w : Walk) (at after : ℕ) (t : Term) (found : List Entry) (c : GivenConstant (env_at ctx w) t) → label_entry (env_at ctx w) (Case at after t) found ≡ found ++ Value at c.number ∷ []
-  case_entry w at after t found c = ap (λ (o : Option (Expression × ℤ)). elim o [ Some c ↦ found ++ Value at c.1 ∷ [] | None ↦ found ]) c.given
+  case_entry w at after t found c = ap (λ (o : Option (Expression × ℤ)). the_cases.case_entry at o found) c.given
 
   -- labels as items, and as entries
   pub labels_of : (w : Walk) (switch : Bool) (ls : List Label) (found : List Entry) → labels_faults (env_at ctx w) switch ls [] ≡ [] → AddsItems found (label_entries (env_at ctx w) ls found) (labels_items ctx (env_at ctx w) ls) (label_cases ls)

@@ -26,8 +26,10 @@ use Rattle.c_types.specs.Words.{is_known}
 use Rattle.c_scopes.specs.FunctionNames.{has_function, has_body, signature_in, again_faults, is_main_form, is_empty, same_result}
 use Rattle.c_scopes.specs.Globals.{global_declared, behind_globals, global, globals, globals_faults}
 use Rattle.c_statements.specs.declared.extents.Kinded.{Kinded}
-use Rattle.c_statements.specs.Context.{Anchor, Before, Last}
+use Rattle.c_statements.specs.declared.anchors.Anchor.{Anchor}
+use Rattle.c_statements.specs.declared.anchors.Anchor.TheVariants.{Before, Last}
 use Rattle.c_statements.specs.Declarations.{kinded, shape_of, constant_at, initial, initial_faults}
+use Rattle.resolving_core.proofs.Defined as the_function
 use Rattle.c_statements.specs.Functions.{result_kind, function_of}
 use Rattle.c_statements.specs.Functions as D
 use Rattle.c_resolved.specs.Files.{IsConstantOf, HasNextValue, HaveValues, IsGlobal, IsMainForm, AreNotMain, MainIsFormed}
@@ -212,7 +214,7 @@ no_elements : {A : Type 0} (xs : List A) → is_empty xs ≡ true → length xs 
 no_elements [] e = refl
 no_elements (x ∷ xs) e = absurd (true≢false (sym e))
 
-main_by : (word : ℕ → List ℕ) (notes : Anchor → List (List ℕ)) (f : Function) (scopes : List Scope) (o : Option Body) → is_main_form word f ≡ true → IsMainForm (D.defined word notes f o scopes)
+main_by : (word : ℕ → List ℕ) (notes : Anchor → List (List ℕ)) (f : Function) (scopes : List Scope) (o : Option Body) → is_main_form word f ≡ true → IsMainForm (the_function.defined word notes f o scopes)
 main_by word notes f scopes o e =
     let l = and_left (same_result (result_kind word f) (Some Int) && not f.static) (is_empty f.parameters) e in
     let result = result_same (result_kind word f) (Some Int) (and_left (same_result (result_kind word f) (Some Int)) (not f.static) l) in
@@ -220,7 +222,7 @@ main_by word notes f scopes o e =
     let none = no_elements f.parameters (and_right (same_result (result_kind word f) (Some Int) && not f.static) (is_empty f.parameters) e) in
     formed o result public none
   where
-    formed : (o : Option Body) → result_kind word f ≡ Some Int → f.static ≡ false → length f.parameters ≡ 0 → IsMainForm (D.defined word notes f o scopes)
+    formed : (o : Option Body) → result_kind word f ≡ Some Int → f.static ≡ false → length f.parameters ≡ 0 → IsMainForm (the_function.defined word notes f o scopes)
     formed None r p n = record { result = r; parameters = n; public = p }
     formed (Some b) r p n = record { result = r; parameters = n; public = p }
 

@@ -19,9 +19,11 @@ use Rattle.c_scopes.specs.Files.{File, State, env_of, function_declared, behind_
 use Rattle.c_scopes.specs.FunctionNames.{has_function, has_body, signature_in, same_signature, again_faults, is_main_form, function_name_faults}
 use Rattle.c_scopes.specs.Globals.{global_declared, global_faults, globals_faults}
 use Rattle.c_statements.specs.declared.extents.Kinded.{Kinded}
-use Rattle.c_statements.specs.Context.{Anchor, Context, Walk, env_at, has_label, no_construct}
+use Rattle.c_statements.specs.declared.anchors.Anchor.{Anchor}
+use Rattle.c_statements.specs.Context.{Context, Walk, env_at, has_label, no_construct}
 use Rattle.c_statements.specs.Declarations.{kinded, is_bad_array, size_faults, initial_faults}
-use Rattle.c_statements.specs.Functions.{FlatCounts, bind_parameter, parameter_fault, parameters_faults, body_items, body_faults, context, prototype_context, inside, tangle_fault, measures, defined_faults}
+use Rattle.resolving_core.proofs.Defined.{prototype_context}
+use Rattle.c_statements.specs.Functions.{FlatCounts, bind_parameter, parameter_fault, parameters_faults, body_items, body_faults, context, result_kind, inside, tangle_fault, measures, faults_within}
 use Rattle.c_statements.specs.Labels.{body_labels, with_number, twice_from, twice_faults}
 use Rattle.c_statements.specs.Measures.{is_tangled}
 use Rattle.resolving_core.proofs.Empty.{Empties, constant_empty, size_empty, initial_empty, list_empty, item_empty}
@@ -130,20 +132,20 @@ function_name_parts bodies before f env vs e =
     (q.0, record { again = subst (λ vs. k vs ≡ []) x e; main = p.1; unknown = q.1 })
 
 -- parameters
-parameter_clean : (ctx : Context) (defines : Bool) (x : Parameter) (w : Walk) → Empties (parameter_fault ctx defines x w)
+parameter_clean : (ctx : Context) (defines : Bool) (x : Parameter) (w : Walk) → Empties (parameter_fault ctx.word defines x w)
 parameter_clean ctx defines x w vs e = by x.name e
   where
     by : (o : Option ℕ) → ◌≡◌ {A = Faults} (elim o [ Some at ↦ bind_fault at (ctx.word at) w.scopes (size_faults (env_at ctx w) x.size vs) | None ↦ fault_if defines x.first 43 (size_faults (env_at ctx w) x.size vs) ]) [] → vs ≡ []
     by (Some at) e = size_empty (env_at ctx w) x.size vs (if_none (is_bound (ctx.word at) w.scopes) at 21 (size_faults (env_at ctx w) x.size vs) e)
     by None e = size_empty (env_at ctx w) x.size vs (if_none defines x.first 43 (size_faults (env_at ctx w) x.size vs) e)
 
-pub parameters_clean : (ctx : Context) (defines : Bool) (xs : List Parameter) (w : Walk) → Empties (parameters_faults ctx defines xs w)
+pub parameters_clean : (ctx : Context) (defines : Bool) (xs : List Parameter) (w : Walk) → Empties (parameters_faults ctx.word defines xs w)
 parameters_clean ctx defines [] w vs e = e
-parameters_clean ctx defines (x ∷ xs) w vs e = parameter_clean ctx defines x w vs (parameters_clean ctx defines xs (bind_parameter ctx.word x w) (parameter_fault ctx defines x w vs) e)
+parameters_clean ctx defines (x ∷ xs) w vs e = parameter_clean ctx defines x w vs (parameters_clean ctx defines xs (bind_parameter ctx.word x w) (parameter_fault ctx.word defines x w vs) e)
 
-pub parameters_parts : (ctx : Context) (defines : Bool) (x : Parameter) (xs : List Parameter) (w : Walk) → parameters_faults ctx defines (x ∷ xs) w [] ≡ []
-    → (parameter_fault ctx defines x w [] ≡ []) × (parameters_faults ctx defines xs (bind_parameter ctx.word x w) [] ≡ [])
-parameters_parts ctx defines x xs w e = parted (parameters_faults ctx defines xs (bind_parameter ctx.word x w)) (parameter_fault ctx defines x w) (parameters_clean ctx defines xs (bind_parameter ctx.word x w)) e
+pub parameters_parts : (ctx : Context) (defines : Bool) (x : Parameter) (xs : List Parameter) (w : Walk) → parameters_faults ctx.word defines (x ∷ xs) w [] ≡ []
+    → (parameter_fault ctx.word defines x w [] ≡ []) × (parameters_faults ctx.word defines xs (bind_parameter ctx.word x w) [] ≡ [])
+parameters_parts ctx defines x xs w e = parted (parameters_faults ctx.word defines xs (bind_parameter ctx.word x w)) (parameter_fault ctx.word defines x w) (parameters_clean ctx defines xs (bind_parameter ctx.word x w)) e
 
 twice_clean : (known : Names ℕ) (word : ℕ → List ℕ) (ats : List ℕ) → Empties (twice_from known word ats)
 twice_clean known word [] vs e = e
@@ -173,6 +175,10 @@ tangle_clean flat word f b items vs e = by (flat items) refl e
     by None i e = (e, λ n j. absurd (true≢false (ap is_some (sym j ∙ i))))
     by (Some n) i e = let c = clean_if (is_tangled (measures word f b n)) f.name 39 vs e in (c.0, λ k j. subst (WithinLimits word f b) (sym i ∙ j) c.1)
 
+-- the violations of a function with this body, or without one
+abbrev pub defined_faults : FlatCounts → (ℕ → List ℕ) → (Anchor → List (List ℕ)) → Function → Option Body → List Scope → Faults → Faults
+defined_faults flat word notes f o scopes vs = faults_within flat word notes f o (inside word f scopes) (parameters_faults word (is_some o) f.parameters (record { scopes = [] ∷ scopes; slots = [] }) vs)
+
 -- of a prototype, and of a definition
 pub prototype_parts : (flat : FlatCounts) (word : ℕ → List ℕ) (notes : Anchor → List (List ℕ)) (f : Function) (scopes : List Scope) → Empties (defined_faults flat word notes f None scopes)
 prototype_parts flat word notes f scopes vs e = parameters_clean (prototype_context word f) false f.parameters (record { scopes = [] ∷ scopes; slots = [] }) vs e
@@ -181,7 +187,7 @@ pub record DefinedParts (flat : FlatCounts) (word : ℕ → List ℕ) (notes : A
   pub tangle : IsNotTangled flat word f b (body_items (context word notes f b) b (inside word f scopes))
   pub body : body_faults (context word notes f b) b (inside word f scopes) [] ≡ []
   pub labels : twice_from [] word (body_labels b []) [] ≡ []
-  pub parameters : parameters_faults (context word notes f b) true f.parameters (record { scopes = [] ∷ scopes; slots = [] }) [] ≡ []
+  pub parameters : parameters_faults word true f.parameters (record { scopes = [] ∷ scopes; slots = [] }) [] ≡ []
 
 pub defined_parts : (flat : FlatCounts) (word : ℕ → List ℕ) (notes : Anchor → List (List ℕ)) (f : Function) (b : Body) (scopes : List Scope) (vs : Faults) → defined_faults flat word notes f (Some b) scopes vs ≡ []
     → (vs ≡ []) × DefinedParts flat word notes f b scopes
@@ -189,7 +195,7 @@ defined_parts flat word notes f b scopes vs e =
     let ctx = context word notes f b in
     let w = inside word f scopes in
     let start : Walk = record { scopes = [] ∷ scopes; slots = [] } in
-    let ps = parameters_faults ctx true f.parameters start in
+    let ps = parameters_faults ctx.word true f.parameters start in
     let ls = twice_faults word (body_labels b []) in
     let bs = body_faults ctx b w in
     let t = tangle_clean flat word f b (body_items ctx b w) (bs (ls (ps vs))) e in
@@ -207,12 +213,12 @@ defined_parts flat word notes f b scopes vs e =
 
 -- by whether it has a body
 abbrev pub BodyParts : FlatCounts → (ℕ → List ℕ) → (Anchor → List (List ℕ)) → Function → Option Body → List Scope → Type 0
-BodyParts flat word notes f None scopes = parameters_faults (prototype_context word f) false f.parameters (record { scopes = [] ∷ scopes; slots = [] }) [] ≡ []
+BodyParts flat word notes f None scopes = parameters_faults word false f.parameters (record { scopes = [] ∷ scopes; slots = [] }) [] ≡ []
 BodyParts flat word notes f (Some b) scopes = DefinedParts flat word notes f b scopes
 
 maybe_parts : (flat : FlatCounts) (word : ℕ → List ℕ) (notes : Anchor → List (List ℕ)) (f : Function) (o : Option Body) (scopes : List Scope) (vs : Faults) → defined_faults flat word notes f o scopes vs ≡ []
     → (vs ≡ []) × BodyParts flat word notes f o scopes
-maybe_parts flat word notes f None scopes vs e = let z = prototype_parts flat word notes f scopes vs e in (z, subst (λ vs. parameters_faults (prototype_context word f) false f.parameters (record { scopes = [] ∷ scopes; slots = [] }) vs ≡ []) z e)
+maybe_parts flat word notes f None scopes vs e = let z = prototype_parts flat word notes f scopes vs e in (z, subst (λ vs. parameters_faults word false f.parameters (record { scopes = [] ∷ scopes; slots = [] }) vs ≡ []) z e)
 maybe_parts flat word notes f (Some b) scopes vs e = defined_parts flat word notes f b scopes vs e
 
 -- ---- files

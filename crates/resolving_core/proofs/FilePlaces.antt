@@ -13,7 +13,7 @@ use Rattle.c_kinds.specs.Scopes.{Scope, found, known_scope}
 use Rattle.c_scopes.specs.Enums.{enum_items}
 use Rattle.c_scopes.specs.Files.{File, State, env_of, function_declared, notes_tops, form_tops, behind_form, form_faults, tops_of, file_faults}
 use Rattle.c_scopes.specs.FunctionNames.{has_function, has_body, signature_in}
-use Rattle.c_statements.specs.Context.{Before, Last}
+use Rattle.c_statements.specs.declared.anchors.Anchor.TheVariants.{Before, Last}
 use Rattle.c_statements.specs.Declarations.{kinded}
 use Rattle.c_statements.specs.Functions.{function_of}
 use Rattle.c_resolved.specs.Names.{the_function}

@@ -10,9 +10,11 @@ use Rattle.c_kinds.specs.declared.binding.Want.TheVariants as want
 use Rattle.c_kinds.specs.Scopes.{Scope}
 use Rattle.c_scopes.specs.FunctionNames.{has_function, signature_in}
 use Rattle.c_statements.specs.declared.extents.Kinded.{Kinded}
-use Rattle.c_statements.specs.Context.{Anchor, Context, Walk, env_in, no_construct}
+use Rattle.c_statements.specs.declared.anchors.Anchor.{Anchor}
+use Rattle.c_statements.specs.Context.{Context, Walk, env_in, no_construct}
 use Rattle.c_statements.specs.Declarations.{is_array, slot_of, local_faults}
-use Rattle.c_statements.specs.Functions.{FlatCounts, want_of, parameter_slot, bind_parameter, bind_parameters, context, inside, behind_body, body_faults, defined, function_of}
+use Rattle.c_statements.specs.Functions.{FlatCounts, want_of, parameter_slot, bind_parameter, bind_parameters, context, inside, behind_body, body_faults, function_of}
+use Rattle.resolving_core.proofs.Defined.{defined}
 use Rattle.resolving_core.proofs.FileNames.{FunctionAgrees}
 use Rattle.resolving_core.proofs.FileParts.{BodyParts}
 use Rattle.resolving_core.proofs.Grown.{Grown, list_grows, item_grows}

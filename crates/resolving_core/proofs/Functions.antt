@@ -17,9 +17,12 @@ use Rattle.c_source.specs.Tops.{Parameter, Function}
 use Rattle.c_kinds.specs.declared.binding.Binding.TheVariants.{Local}
 use Rattle.c_kinds.specs.Scopes.{Scope, Faults, fault_if, is_bound, bind, bind_fault}
 use Rattle.c_statements.specs.declared.extents.Kinded.{Kinded}
-use Rattle.c_statements.specs.Context.{Anchor, AtEnd, Context, Walk, env_at, env_in, notes_at, no_construct}
+use Rattle.c_statements.specs.declared.anchors.Anchor.{Anchor}
+use Rattle.c_statements.specs.declared.anchors.Anchor.TheVariants.{AtEnd}
+use Rattle.c_statements.specs.Context.{Context, Walk, env_at, env_in, notes_at, no_construct}
 use Rattle.c_statements.specs.Declarations.{placeholder, is_array, size_faults, slot_of, local_faults}
-use Rattle.c_statements.specs.Functions.{FlatCounts, parameter_name, parameter_slot, parameter_shape, bind_parameter, bind_parameters, parameter_fault, parameters_faults, body_items, behind_body, body_faults, context, prototype_context, inside, defined, function_of}
+use Rattle.c_statements.specs.Functions.{FlatCounts, parameter_name, parameter_slot, parameter_shape, bind_parameter, bind_parameters, parameter_fault, parameters_faults, body_items, behind_body, body_faults, context, inside, function_of}
+use Rattle.resolving_core.proofs.Defined.{prototype_context, defined}
 use Rattle.c_statements.specs.Labels.{body_labels}
 use Rattle.c_statements.specs.Statements.{list_items, item_items, behind_item, behind_items}
 use Rattle.c_resolved.specs.Files.{IsLength, IsParameterLength, AreLengths}
@@ -67,7 +70,7 @@ module _ (ctx : Context) (defines : Bool) (x : Parameter) (w : Walk) where
   IsNewName None = Unit {0}
   IsNewName (Some at) = is_bound (ctx.word at) w.scopes ≡ false
 
-  pub parameter_new : parameter_fault ctx defines x w [] ≡ [] → IsNewName x.name
+  pub parameter_new : parameter_fault ctx.word defines x w [] ≡ [] → IsNewName x.name
   parameter_new e = by x.name e
     where
       by : (o : Option ℕ) → ◌≡◌ {A = Faults} (elim o [ Some at ↦ bind_fault at (ctx.word at) w.scopes (size_faults (env_at ctx w) x.size []) | None ↦ fault_if defines x.first 43 (size_faults (env_at ctx w) x.size []) ]) [] → IsNewName o
@@ -102,7 +105,7 @@ module _ (ctx : Context) (n : Names) where
       )
 
   -- what is known behind a parameter
-  behind_parameter : (defines : Bool) (x : Parameter) (w : Walk) → parameter_fault ctx defines x w [] ≡ [] → Begins (bind_parameter ctx.word x w).slots n.slots → KnownAt ctx n w.scopes → KnownAt ctx n (bind_parameter ctx.word x w).scopes
+  behind_parameter : (defines : Bool) (x : Parameter) (w : Walk) → parameter_fault ctx.word defines x w [] ≡ [] → Begins (bind_parameter ctx.word x w).slots n.slots → KnownAt ctx n w.scopes → KnownAt ctx n (bind_parameter ctx.word x w).scopes
   behind_parameter defines x w e b i = by x.name refl (parameter_new ctx defines x w e)
     where
       by : (o : Option ℕ) → x.name ≡ o → IsNewName ctx defines x w o
@@ -120,7 +123,7 @@ module _ (ctx : Context) (n : Names) where
       let r = bound_begins xs (bind_parameter ctx.word x w) b in
       (parameter_slot ctx.word x ∷ r.0, r.1 ∙ append_assoc w.slots (parameter_slot ctx.word x ∷ []) r.0)
 
-  pub parameters_known : (defines : Bool) (xs : List Parameter) (w : Walk) → parameters_faults ctx defines xs w [] ≡ [] → Begins (bind_parameters ctx.word xs w).slots n.slots → KnownAt ctx n w.scopes
+  pub parameters_known : (defines : Bool) (xs : List Parameter) (w : Walk) → parameters_faults ctx.word defines xs w [] ≡ [] → Begins (bind_parameters ctx.word xs w).slots n.slots → KnownAt ctx n w.scopes
       → KnownAt ctx n (bind_parameters ctx.word xs w).scopes
   parameters_known defines [] w e b i = i
   parameters_known defines (x ∷ xs) w e b i =
@@ -307,7 +310,7 @@ module _ (ctx : Context) (n : Names) (defines : Bool) where
     pub new : IsNewParameter (parameter_name ctx.word x.name) ss
     pub at : At ctx n (bind_parameter ctx.word x w) (Scopes.bind_parameter (parameter_name ctx.word x.name) i ss)
 
-  one_parameter : (i : ℕ) (x : Parameter) (w : Walk) (ss : List Scopes.Scope) → i ≡ length w.slots → IfSome x.name (λ at. IsName (ctx.word at)) → parameter_fault ctx defines x w [] ≡ [] → Begins (bind_parameter ctx.word x w).slots n.slots
+  one_parameter : (i : ℕ) (x : Parameter) (w : Walk) (ss : List Scopes.Scope) → i ≡ length w.slots → IfSome x.name (λ at. IsName (ctx.word at)) → parameter_fault ctx.word defines x w [] ≡ [] → Begins (bind_parameter ctx.word x w).slots n.slots
       → At ctx n w ss → ParameterBound i x w ss
   one_parameter i x w ss q r e b a = by x.name refl r (parameter_new ctx defines x w e)
     where
@@ -333,7 +336,7 @@ module _ (ctx : Context) (n : Names) (defines : Bool) where
                 (ap (λ o. Scopes.bind_parameter (parameter_name ctx.word o) i ss) j ∙ (word_nonempty m i ss r.0 ∙ ap (λ k. Scopes.bind m (AVariable (H.Slot k)) ss) q)) bound;
           }
 
-  pub parameters_bound : (xs : List Parameter) (i : ℕ) (w : Walk) (ss : List Scopes.Scope) (more : List Slot) → i ≡ length w.slots → Each (IsReadParameter ctx.word) xs → parameters_faults ctx defines xs w [] ≡ []
+  pub parameters_bound : (xs : List Parameter) (i : ℕ) (w : Walk) (ss : List Scopes.Scope) (more : List Slot) → i ≡ length w.slots → Each (IsReadParameter ctx.word) xs → parameters_faults ctx.word defines xs w [] ≡ []
       → Begins (bind_parameters ctx.word xs w).slots n.slots → At ctx n w ss → ParametersBound i xs w ss more
   parameters_bound [] i w ss more q r e b a = record { ss' = ss; same = refl; new = tt; at = a }
   parameters_bound (x ∷ xs) i w ss more q r e b a =

@@ -1,3 +1,4 @@
+mod Defined
 pub mod Lists
 pub mod Known
 pub mod Values

@@ -11,7 +11,9 @@ use Rattle.c_tree.proofs.TreeLaws.{tree-Evaluate, tree-Return, tree-If, tree-Whi
 use Rattle.c_source.specs.Items.{Declarator, Declaration, Label, Named, Case, Default, Start, NoStart, StartValue, StartNames, Item, Declares, States, Plain, From, Statement, Null, Evaluate, If, IfElse, While, DoWhile, For, Switch, Block, Goto, Break, Continue, Return, Unread, Body, Braces, Lone, Items, NoItem}
 use Rattle.c_source.specs.Items as items
 use Rattle.c_statements.specs.declared.extents.Kinded.{Kinded}
-use Rattle.c_statements.specs.Context.{Anchor, Before, AtEnd, AtSection, Context, Walk, env_at, env_in, enter, notes_at, number_in}
+use Rattle.c_statements.specs.declared.anchors.Anchor.{Anchor}
+use Rattle.c_statements.specs.declared.anchors.Anchor.TheVariants.{Before, AtEnd, AtSection}
+use Rattle.c_statements.specs.Context.{Context, Walk, env_at, env_in, enter, notes_at, number_in}
 use Rattle.c_statements.specs.Declarations.{kinded, declared, local, locals, initial, value_at, constant_at}
 use Rattle.c_statements.specs.Labels.{section_cases, has_case, mark, labels_items, section_marks}
 use Rattle.c_statements.specs.Sections.{Reading, extended, closed, passed_on}

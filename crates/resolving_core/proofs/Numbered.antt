@@ -13,7 +13,8 @@ use Rattle.c_types.specs.declared.kinds.IntKind.{IntKind}
 use Rattle.c_source.specs.Items.{Declarator, Declaration, Label, Named, Case, Default, Start, NoStart, StartValue, StartNames, Item, Declares, States, Plain, From, Statement, Null, Evaluate, If, IfElse, While, DoWhile, For, Switch, Block, Goto, Break, Continue, Return, Unread, Body, Braces, Lone, Items, NoItem}
 use Rattle.c_source.specs.Items as items
 use Rattle.c_kinds.specs.Scopes.{fault_if}
-use Rattle.c_statements.specs.Context.{Before, AtEnd, AtSection, Context, Walk, env_at, enter, notes_at, number_in, Around, in_loop}
+use Rattle.c_statements.specs.declared.anchors.Anchor.TheVariants.{Before, AtEnd, AtSection}
+use Rattle.c_statements.specs.Context.{Context, Walk, env_at, enter, notes_at, number_in, Around, in_loop}
 use Rattle.c_statements.specs.Declarations.{kinded, locals, value_at}
 use Rattle.c_statements.specs.Labels.{has_case, labels_items, section_marks, section_cases, has_default}
 use Rattle.c_statements.specs.Sections.{Reading, extended, closed, passed_on}

@@ -19,7 +19,8 @@ use Rattle.c_kinds.specs.Scopes.{Env}
 use Rattle.c_kinds.specs.Typing.{typed}
 use Rattle.c_kinds.specs.Values.{expression, value_of, dropped}
 use Rattle.c_statements.specs.declared.extents.Kinded.{Kinded}
-use Rattle.c_statements.specs.Context.{Anchor, Context, Walk, env_at, env_in}
+use Rattle.c_statements.specs.declared.anchors.Anchor.{Anchor}
+use Rattle.c_statements.specs.Context.{Context, Walk, env_at, env_in}
 use Rattle.c_statements.specs.Declarations.{placeholder, or_placeholder, value_at, constant_or_placeholder, constant_at, declared, slot_of, initial, local_faults}
 use Rattle.c_statements.specs.Statements.{dropped_at, behind_start}
 use Rattle.c_statements.specs.Context.{enter}

@@ -9,9 +9,11 @@ use Rattle.c_source.specs.Items.{Label, Named, Case, Default, Item, Declares, St
 use Rattle.c_source.specs.Items as items
 use Rattle.c_source.specs.Tops.{Parameter, Function}
 use Rattle.c_kinds.specs.Scopes.{Scope, Faults, fault_if, bind_fault}
-use Rattle.c_statements.specs.Context.{Anchor, Context, Walk, env_at}
+use Rattle.c_statements.specs.declared.anchors.Anchor.{Anchor}
+use Rattle.c_statements.specs.Context.{Context, Walk, env_at}
 use Rattle.c_statements.specs.Declarations.{size_faults}
-use Rattle.c_statements.specs.Functions.{FlatCounts, parameter_name, parameter_slot, bind_parameter, parameters_faults, body_items, behind_body, context, prototype_context, inside, defined, function_of}
+use Rattle.c_statements.specs.Functions.{FlatCounts, parameter_name, parameter_slot, bind_parameter, parameters_faults, body_items, behind_body, context, inside, function_of}
+use Rattle.resolving_core.proofs.Defined.{prototype_context, defined}
 use Rattle.c_statements.specs.Measures.{body_depth}
 use Rattle.c_statements.specs.Labels.{named_in, item_labels, plain_labels, statement_labels, body_labels, list_labels}
 use Rattle.c_resolved.specs.Form.{HasSourceForm}
@@ -106,7 +108,7 @@ module _ (ctx : Context) where
       by None h = tt
       by (Some at) h = name_prints (ctx.word at) h
 
-  all_named : (xs : List Parameter) (w : Walk) → Each (IsReadParameter ctx.word) xs → parameters_faults ctx true xs w [] ≡ [] → Each HasName (map (parameter_slot ctx.word) xs)
+  all_named : (xs : List Parameter) (w : Walk) → Each (IsReadParameter ctx.word) xs → parameters_faults ctx.word true xs w [] ≡ [] → Each HasName (map (parameter_slot ctx.word) xs)
   all_named [] w r e = tt
   all_named (x ∷ xs) w r e = let p = parameters_parts ctx true x xs w e in (by x.name r.0.named p.0, all_named xs (bind_parameter ctx.word x w) r.1 p.1)
     where

@@ -14,7 +14,7 @@ use Rattle.c_kinds.specs.Scopes.{Faults}
 use Rattle.c_scopes.specs.FunctionNames.{has_function, bodies_of}
 use Rattle.c_tree.specs.declared.tree.Slot.{Slot}
 use Rattle.c_scopes.specs.Files.{File, start, tops_of, file_faults}
-use Rattle.c_scopes.specs.Resolving.{earlier, least, file_at, program_of, violation_of, answer}
+use Rattle.c_scopes.specs.Resolving.{earlier, least, file_at, program_of, violation_of, answer, least_with}
 use Rattle.c_resolved.specs.Files.{MainIsFormed, DeclarationsAgree}
 use Rattle.c_resolved.specs.Scopes.{NamesAreBound}
 use Rattle.c_resolved.specs.Within.{Each}
@@ -27,7 +27,7 @@ use Rattle.c_tree.specs.Trees.{Nil, trees_of}
 use Rattle.std.specs.Prelude.{IfSome}
 use Rattle.std.specs.Option.{option_map_or}
 use Rattle.resolving_core.specs.Read.{IsReadFile}
-use Rattle.c_statements.specs.Context.{Anchor}
+use Rattle.c_statements.specs.declared.anchors.Anchor.{Anchor}
 use Rattle.c_resolved.specs.Resolved.{IsResolvedFunction, IsResolvedTop, IsResolvedWith}
 use Rattle.c_resolved.specs.Spelling.{IsSpelled}
 use Rattle.c_resolved.specs.Verbatims.{IsComment}
@@ -42,13 +42,13 @@ use Rattle.resolving_core.proofs.Lists.{each_map}
 
 -- ---- no violation is reported where there is none
 
-some_earlier : (v : Fault) (o : Option Fault) → is_some (earlier v o) ≡ true
-some_earlier v None = refl
-some_earlier v (Some b) = refl
+some_left : (v : Fault) (vs : Faults) → is_some (least_with (Some v) vs) ≡ true
+some_left v [] = refl
+some_left v (u ∷ vs) = some_left (earlier (Some v) u) vs
 
 none_reported : (vs : Faults) → least vs ≡ None → vs ≡ []
 none_reported [] e = refl
-none_reported (v ∷ vs) e = absurd (true≢false (sym (some_earlier v (least vs)) ∙ ap is_some e))
+none_reported (v ∷ vs) e = absurd (true≢false (sym (some_left (earlier None v) vs) ∙ ap is_some e))
 
 program_or : Program → Result Program Refusal → Program
 program_or d (Ok p) = p

@@ -5,8 +5,11 @@ use Rattle.c_tree.specs.declared.tree.Slot.{Slot}
 use Rattle.c_tree.specs.Trees.{trees_of}
 use Rattle.c_source.specs.Items.{Body, Braces, Lone}
 use Rattle.c_source.specs.Tops.{Function}
-use Rattle.c_statements.specs.Context.{Anchor, AtEnd, Context, Walk, notes_at}
-use Rattle.c_statements.specs.Functions.{parameter_slot, body_items, behind_body, context, inside, defined, measures}
+use Rattle.c_statements.specs.declared.anchors.Anchor.{Anchor}
+use Rattle.c_statements.specs.declared.anchors.Anchor.TheVariants.{AtEnd}
+use Rattle.c_statements.specs.Context.{Context, Walk, notes_at}
+use Rattle.c_statements.specs.Functions.{parameter_slot, body_items, behind_body, context, inside, measures}
+use Rattle.resolving_core.proofs.Defined.{defined}
 use Rattle.c_statements.specs.Labels.{body_labels, distinct}
 use Rattle.c_statements.specs.Measures.{body_depth, body_longest, item_depth, list_depth, is_tangled}
 use Rattle.c_statements.specs.Statements.{list_items, item_items}

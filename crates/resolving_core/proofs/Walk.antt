@@ -18,7 +18,8 @@ use Rattle.c_kinds.specs.Typing.{typed, constant_faults}
 use Rattle.c_kinds.specs.Values.{value_of}
 use Rattle.c_statements.specs.declared.extents.Kinded.{Kinded}
 use Rattle.c_statements.specs.Cases.{switch_faults, body_entries}
-use Rattle.c_statements.specs.Context.{Anchor, Context, Walk, env_at, env_in, enter, number_in, has_label, Around, in_switch}
+use Rattle.c_statements.specs.declared.anchors.Anchor.{Anchor}
+use Rattle.c_statements.specs.Context.{Context, Walk, env_at, env_in, enter, number_in, has_label, Around, in_switch}
 use Rattle.c_statements.specs.Declarations.{declared, initial, value_at, constant_at, value_faults, local_faults}
 use Rattle.c_statements.specs.Sections.{Reading, extended, closed, passed_on}
 use Rattle.c_statements.specs.Statements.{behind_start, dropped_at, start_items, switch_sections}

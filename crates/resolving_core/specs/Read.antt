@@ -11,7 +11,8 @@ use Rattle.c_source.specs.Tops as tops
 use Rattle.c_source.specs.Words.{character}
 use Rattle.c_kinds.specs.Marks.{step_of}
 use Rattle.c_kinds.specs.Typing.{joined_texts}
-use Rattle.c_statements.specs.Context.{Anchor, Before}
+use Rattle.c_statements.specs.declared.anchors.Anchor.{Anchor}
+use Rattle.c_statements.specs.declared.anchors.Anchor.TheVariants.{Before}
 use Rattle.c_statements.specs.Measures.{body_depth}
 use Rattle.c_resolved.specs.PrintableExpressions.{IsName, AreBytes}
 use Rattle.c_resolved.specs.Verbatims.{IsComment, IsDirective}
