@@ -27,18 +27,13 @@ use Rattle.c_tree.specs.declared.tree.Section.{Section}
 
 -- ---- more items of what is being read
 
-extended-none : (xs ys : List tree.Item) → extended (extended None xs) ys ≡ extended None (xs ++ ys)
-extended-none [] ys = refl
-extended-none (x ∷ xs) ys = refl
-
-extended-by : (b : Bool) (r : Reading) (ys : List tree.Item)
-    → cond b (Some (record { cases = r.cases; default = r.default; list = r.list ++ ys })) (extended None (r.list ++ ys)) ≡ extended (cond b (Some r) (extended None r.list)) ys
+extended-by : (b : Bool) (r : Reading) (ys : List tree.Item) → cond b (Some (record { cases = r.cases; default = r.default; list = r.list ++ ys })) None ≡ extended (cond b (Some r) None) ys
 extended-by true r ys = refl
-extended-by false r ys = sym (extended-none r.list ys)
+extended-by false r ys = refl
 
 pub extended_of : (r s : declared.Reading) (ys : List tree.Item) → s.begun ≡ r.begun → s.cases ≡ r.cases → s.default ≡ r.default → s.list ≡ r.list ++ ys → reading_of s ≡ extended (reading_of r) ys
 extended_of r s ys b c d l =
-    (λ i. cond (b i) (Some (record { cases = c i; default = d i; list = l i })) (extended None (l i)))
+    (λ i. cond (b i) (Some (record { cases = c i; default = d i; list = l i })) None)
     ∙ extended-by r.begun (record { cases = r.cases; default = r.default; list = r.list }) ys
 
 -- ---- an item that begins no section

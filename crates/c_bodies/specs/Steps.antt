@@ -23,9 +23,9 @@ abbrev pub begins : Item → Bool
 begins (Declares first after d) = false
 begins (States ls p) = has_case ls
 
--- what is read of a section; nothing in front of the first, where no item stands there
+-- the section that is read; none in front of the first
 abbrev pub reading_of : declared.Reading → Option Reading
-reading_of r = cond r.begun (Some (record { cases = r.cases; default = r.default; list = r.list })) (extended None r.list)
+reading_of r = cond r.begun (Some (record { cases = r.cases; default = r.default; list = r.list })) None
 
 abbrev pub closed_before : Option Reading → Item → List Section
 closed_before r x = cond (begins x) (closed r) []

@@ -92,8 +92,8 @@ fn ended(cases: List<Expression>, default: bool, list: List<Item>) -> Section
     }
 }
 
-/// Puts what was read behind the sections.
-fn add_ended(alloc: Global, read: Reading, done: &mut List<Section>) -> Result<(), Memory>
+/// Puts the section that was read behind the others.
+fn add_ended(read: Reading, done: &mut List<Section>) -> Result<(), Memory>
     ensures { OnOk result (done.new ≡ done.old ++ spec.closed (steps.reading_of read)) }
 {
     let Reading {
@@ -105,10 +105,7 @@ fn add_ended(alloc: Global, read: Reading, done: &mut List<Section>) -> Result<(
     if begun {
         return done.push(ended(cases, default, list));
     }
-    if list.is_empty() {
-        return Ok(());
-    }
-    done.push(ended(List::new(alloc), false, list))
+    Ok(())
 }
 
 /// Ends what is being read, and begins a section.
@@ -117,7 +114,7 @@ pub fn close(alloc: Global, sections: &mut Sections) -> Result<(), Memory>
     ensures current { OnOk result (sections.new.current ≡ record { begun = true; cases = []; default = false; list = [] }) }
 {
     let read = mem::replace(&mut sections.current, nothing(alloc, true));
-    add_ended(alloc, read, &mut sections.done)
+    add_ended(read, &mut sections.done)
 }
 
 /// The sections, of which the last gets the comments at the end of the list.
@@ -132,9 +129,9 @@ pub fn finish(
     let Sections { done, current } = sections;
     let mut done = done;
     let mut current = current;
-    if current.begun || !current.list.is_empty() {
+    if current.begun {
         add_notes(alloc, ctx, Anchor::AtEnd(first), &mut current.list)?;
-        add_ended(alloc, current, &mut done)?;
+        add_ended(current, &mut done)?;
     }
     Ok(done)
 }

@@ -26,7 +26,7 @@ use Rattle.c_lexer.specs.Machine.{begin, of_mark, after_mark, escape_step, char_
 use Rattle.c_lexer.proofs.MarkLemmas.{longer_text, mark_first, longest_mark, no_dots}
 use Rattle.c_lexer.proofs.PieceLemmas.{Stands, past, past_is, character_ends, characters_end, ends, ends_all}
 use Rattle.c_lexer.proofs.Truths.{both_true}
-use Rattle.c_lexer.proofs.Lines.{has_no_newline, white_newline, runs_before, runs_to_newline, Continued, continued}
+use Rattle.c_lexer.proofs.Lines.{has_no_newline, NewlineNext, ends_at_once, white_newline, runs_before, runs_to_newline, Continued, continued}
 use Rattle.c_lexer.proofs.Closings.{closes_from, goes_on, closes_on}
 use Rattle.c_lexer.proofs.Reading.{digit_power, two_on}
 use Rattle.c_lexer.proofs.Fronts.{Front, onward, text_more, good_more, ends_more, first_more, all_more, snoc, past_snoc, Progresses, escape_progresses, written_more, characters_more, Part, Ready, StuckAt, Goes, branch, grown, part_along, stuck_part, part_slice, part_slice_behind}
@@ -248,46 +248,55 @@ comment_goes s closing.Starred b at P ps w i o =
 comment_goes s closing.Joined b at P ps w i o =
     branch (b == 47) _ _ _ _ (λ h r. stuck_part s at ps 47 (42 ∷ w) P 3 i (λ q. refl) (b ∷ r)) (λ h. comment_grows s closing.Joined b at P ps w i o (ap not h))
 
--- a line that this newline ends
-line_is : (w : List ℕ) (b : ℕ) → has_no_newline w ≡ true → continued_at w ≡ None → (b == 10) ≡ true → (r : List ℕ) → IsLine w (b ∷ r)
-line_is w b none k h r = subst (λ (i : ℕ). IsLine w (i ∷ r)) (sym (eqb-true b 10 h)) (runs_to_newline w r none k, refl)
+-- a line that the newline, or the end of the text, ends
+pub line_is : (w q : List ℕ) → NewlineNext q → has_no_newline w ≡ true → continued_at w ≡ None → IsLine w q
+line_is w q next none k = (runs_to_newline w q next none k, ends_at_once q next)
 
 -- a line that a `\` continues: no piece begins with that
 line_stops : (p : List ℕ → Piece) (before : List ℕ) → ((w r : List ℕ) → spelled (p w) r ≡ before ++ w ++ r) → ((w : List ℕ) (s : ℕ) → ends (p w) s ≡ past (past s before) w) → ((w r : List ℕ) → IsLine w r → Longest (p w) r)
-    → (s b at : ℕ) (P : Front) (ps : List Piece) (w : List ℕ) (n : ℕ) → Part s at ps (before ++ w) P → has_no_newline w ≡ true → (b == 10) ≡ true → (k : Continued w n) → Fits (first_behind_all P.first ps) (p k.own)
-    → (r : List ℕ) → StuckAt P.base P.first 2 (past s before + n) (P.bytes (b ∷ r))
-line_stops p before spell end longest s b at P ps w n i none h k f r =
+    → (s at : ℕ) (P : Front) (ps : List Piece) (w : List ℕ) (n : ℕ) → Part s at ps (before ++ w) P → has_no_newline w ≡ true → (k : Continued w n) → Fits (first_behind_all P.first ps) (p k.own)
+    → (q : List ℕ) → NewlineNext q → StuckAt P.base P.first 2 (past s before + n) (P.bytes q)
+line_stops p before spell end longest s at P ps w n i none k f q next =
     record {
       pieces = ps ++ p k.own ∷ [];
       byte = 92;
-      rest = k.gap ++ 10 ∷ r;
-      spells = i.0 (b ∷ r) ∙ ap (text ps) same ∙ sym (text_more ps (p k.own) (92 ∷ k.gap ++ 10 ∷ r));
-      good = good_more P.first ps (p k.own) (92 ∷ k.gap ++ 10 ∷ r) (subst (Good P.first ps) same (i.1 (b ∷ r))) f (longest k.own _ (runs_before k.own (k.gap ++ 10 ∷ r) (k.line none), white_newline k.gap r k.white));
+      rest = k.gap ++ q;
+      spells = i.0 q ∙ ap (text ps) same ∙ sym (text_more ps (p k.own) (92 ∷ k.gap ++ q));
+      good = good_more P.first ps (p k.own) (92 ∷ k.gap ++ q) (subst (Good P.first ps) same (i.1 q)) f (longest k.own _ (runs_before k.own (k.gap ++ q) (k.line none), white_newline k.gap q next k.white));
       place_is = ends_more ps (p k.own) P.base ∙ ap (ends (p k.own)) i.2 ∙ end k.own s ∙ past_is k.own (past s before) ∙ ap (λ (m : ℕ). past s before + m) k.count;
       reason_is = refl;
     }
   where
-    same : (before ++ w) ++ b ∷ r ≡ spelled (p k.own) (92 ∷ k.gap ++ 10 ∷ r)
+    same : (before ++ w) ++ q ≡ spelled (p k.own) (92 ∷ k.gap ++ q)
     same =
-        ap (λ (i : ℕ). (before ++ w) ++ i ∷ r) (eqb-true b 10 h) ∙ ap (λ (v : List ℕ). (before ++ v) ++ 10 ∷ r) k.bytes ∙ append_assoc before (k.own ++ 92 ∷ k.gap) (10 ∷ r)
-        ∙ ap (λ (v : List ℕ). before ++ v) (append_assoc k.own (92 ∷ k.gap) (10 ∷ r)) ∙ sym (append_assoc before k.own (92 ∷ k.gap ++ 10 ∷ r)) ∙ sym (spell k.own (92 ∷ k.gap ++ 10 ∷ r))
+        ap (λ (v : List ℕ). (before ++ v) ++ q) k.bytes ∙ append_assoc before (k.own ++ 92 ∷ k.gap) q
+        ∙ ap (λ (v : List ℕ). before ++ v) (append_assoc k.own (92 ∷ k.gap) q) ∙ sym (append_assoc before k.own (92 ∷ k.gap ++ q)) ∙ sym (spell k.own (92 ∷ k.gap ++ q))
+
+pub line_stuck : (s at : ℕ) (P : Front) (ps : List Piece) (w : List ℕ) (n : ℕ) → Part s at ps (47 ∷ 47 ∷ w) P → has_no_newline w ≡ true → continued_at w ≡ Some n → (q : List ℕ) → NewlineNext q → StuckAt P.base P.first 2 (s + (n + 1 + 1)) (P.bytes q)
+line_stuck s at P ps w n i none k q next =
+    subst (λ (m : ℕ). StuckAt P.base P.first 2 m (P.bytes q)) (omega arith) (line_stops Line (47 ∷ 47 ∷ []) (λ v r. refl) (λ v m. refl) (λ v r l. l) s at P ps w n i none (continued w n k) tt q next)
+
+pub directive_stuck : (s at : ℕ) (P : Front) (ps : List Piece) (w : List ℕ) (n : ℕ) → Part s at ps (35 ∷ w) P → first_behind_all P.first ps ≡ true → has_no_newline w ≡ true → continued_at w ≡ Some n → is_include (take n w) ≡ true → (q : List ℕ) → NewlineNext q
+    → StuckAt P.base P.first 2 (s + 1 + n) (P.bytes q)
+directive_stuck s at P ps w n i first none k g =
+    let c = continued w n k in
+    line_stops Directive (35 ∷ []) (λ v r. refl) (λ v m. refl) (λ v r l. l) s at P ps w n i none c (first, ap is_include (sym (take_at c.own (92 ∷ c.gap) n c.count) ∙ ap (take n) (sym c.bytes)) ∙ g)
+
+-- no piece begins with the `#` of a directive that is no `#include`
+pub directive_refused : (s at : ℕ) (P : Front) (ps : List Piece) (w : List ℕ) → Part s at ps (35 ∷ w) P → first_behind_all P.first ps ≡ true → (q : List ℕ) → StuckAt P.base P.first 6 s (P.bytes q)
+directive_refused s at P ps w i first q = stuck_part s at ps 35 w P 6 i (λ r. ap (λ (c : Bool). cond c 6 2) first) q
 
 line_goes : (s end b at : ℕ) (P : Front) (ps : List Piece) (w : List ℕ) → Part s at ps (47 ∷ 47 ∷ w) P → has_no_newline w ≡ true → (b == 10) ≡ true → (o : Option ℕ) → continued_at w ≡ o
     → Goes (end_line s end (two_on o)) (at + 1) (onward P b)
-line_goes s end b at P ps w i none h None k = line_ended (Line w) s b at P ps (47 ∷ 47 ∷ w) i (λ r. refl) refl tt (line_is w b none k h) h
-line_goes s end b at P ps w i none h (Some n) k =
-    λ r. subst (λ (m : ℕ). StuckAt P.base P.first 2 m (P.bytes (b ∷ r))) (omega arith) (line_stops Line (47 ∷ 47 ∷ []) (λ v q. refl) (λ v m. refl) (λ v q l. l) s b at P ps w n i none h (continued w n k) tt r)
+line_goes s end b at P ps w i none h None k = line_ended (Line w) s b at P ps (47 ∷ 47 ∷ w) i (λ r. refl) refl tt (λ r. line_is w (b ∷ r) h none k) h
+line_goes s end b at P ps w i none h (Some n) k = λ r. line_stuck s at P ps w n i none k (b ∷ r) h
 
 directive_goes : (s end b at : ℕ) (P : Front) (ps : List Piece) (w : List ℕ) → Part s at ps (35 ∷ w) P → first_behind_all P.first ps ≡ true → has_no_newline w ≡ true → (b == 10) ≡ true → (o : Option ℕ) → continued_at w ≡ o
     → Goes (end_directive s end w o) (at + 1) (onward P b)
 directive_goes s end b at P ps w i first none h None k =
-    branch (is_include w) _ _ _ _ (λ g. line_ended (Directive w) s b at P ps (35 ∷ w) i (λ r. refl) refl (first, g) (line_is w b none k h) h)
-    (λ g r. stuck_part s at ps 35 w P 6 i (λ q. ap (λ (c : Bool). cond c 6 2) first) (b ∷ r))
+    branch (is_include w) _ _ _ _ (λ g. line_ended (Directive w) s b at P ps (35 ∷ w) i (λ r. refl) refl (first, g) (λ r. line_is w (b ∷ r) h none k) h) (λ g r. directive_refused s at P ps w i first (b ∷ r))
 directive_goes s end b at P ps w i first none h (Some n) k =
-    let c = continued w n k in
-    branch (is_include (take n w)) _ _ _ _
-    (λ g. line_stops Directive (35 ∷ []) (λ v q. refl) (λ v m. refl) (λ v q l. l) s b at P ps w n i none h c (first, ap is_include (sym (take_at c.own (92 ∷ c.gap) n c.count) ∙ ap (take n) (sym c.bytes)) ∙ g))
-    (λ g r. stuck_part s at ps 35 w P 6 i (λ q. ap (λ (c : Bool). cond c 6 2) first) (b ∷ r))
+    branch (is_include (take n w)) _ _ _ _ (λ g r. directive_stuck s at P ps w n i first none k g (b ∷ r) h) (λ g r. directive_refused s at P ps w i first (b ∷ r))
 
 -- ---- every state
 

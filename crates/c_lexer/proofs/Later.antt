@@ -126,18 +126,7 @@ step_moves t (InLine s end) b at h = move (b == 10) _ _ s (at + 1) (line_moves s
 
 finish_moves : (t : List ℕ) (s : State) (at : ℕ) → floor s at ≤ at → Moves (finish t s at) (floor s at) (at + 1)
 finish_moves t (InComment s star) at h = self s
-finish_moves t (Between first) at h = step_moves t (Between first) 10 at h
-finish_moves t (InWord s) at h = step_moves t (InWord s) 10 at h
-finish_moves t (InNumber s power) at h = step_moves t (InNumber s power) 10 at h
-finish_moves t (InMark s m) at h = step_moves t (InMark s m) 10 at h
-finish_moves t (Dots s) at h = step_moves t (Dots s) 10 at h
-finish_moves t (CharOpened s) at h = step_moves t (CharOpened s) 10 at h
-finish_moves t (CharEscape s e) at h = step_moves t (CharEscape s e) 10 at h
-finish_moves t (CharHeld s) at h = step_moves t (CharHeld s) 10 at h
-finish_moves t (InText s) at h = step_moves t (InText s) 10 at h
-finish_moves t (TextEscape s e) at h = step_moves t (TextEscape s e) 10 at h
-finish_moves t (InDirective s end) at h = directive_moves s end at (slice_range t (s + 1) at) None h
-finish_moves t (InLine s end) at h = line_moves s end at None h
+finish_moves t s at h = step_moves t s 10 at h
 
 up : (a b c : ℕ) → a ≤ b → b ≤ c → a ≤ c
 up a b c h k = omega arith

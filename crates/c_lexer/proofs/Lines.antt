@@ -22,12 +22,25 @@ no_newline (b ∷ w) r h =
 
 -- ---- what comes to a newline
 
-space_newline : (w r : List ℕ) → has_no_newline w ≡ true → comes_to_newline (w ++ 10 ∷ r) ≡ list_all is_space w
-space_newline [] r h = refl
-space_newline (b ∷ w) r h =
+-- a newline is next, or the end of the text
+abbrev pub NewlineNext : List ℕ → Type 0
+NewlineNext [] = Unit {0}
+NewlineNext (b ∷ r) = is_newline b ≡ true
+
+comes_at_once : (r : List ℕ) → NewlineNext r → comes_to_newline r ≡ true
+comes_at_once [] e = refl
+comes_at_once (b ∷ r) e = rw e
+
+pub ends_at_once : (r : List ℕ) → NewlineNext r → ends_line r ≡ true
+ends_at_once [] e = refl
+ends_at_once (b ∷ r) e = rw e
+
+space_newline : (w r : List ℕ) → NewlineNext r → has_no_newline w ≡ true → comes_to_newline (w ++ r) ≡ list_all is_space w
+space_newline [] r e h = comes_at_once r e
+space_newline (b ∷ w) r e h =
     let q = all_of_more (λ c. not (is_newline c)) b w h in
     let x = not_true (b == 10) q.0 in
-    let y = space_newline w r q.1 in
+    let y = space_newline w r e q.1 in
     rw (x, y)
 
 space_backslash : (w r : List ℕ) → has_no_newline w ≡ true → comes_to_newline (w ++ 92 ∷ r) ≡ false
@@ -38,84 +51,69 @@ space_backslash (b ∷ w) r h =
     let y = space_backslash w r q.1 in
     rw (x, y) (and_false (is_space b))
 
-space_end : (w : List ℕ) → has_no_newline w ≡ true → comes_to_newline (w ++ []) ≡ false
-space_end [] h = refl
-space_end (b ∷ w) h =
-    let q = all_of_more (λ c. not (is_newline c)) b w h in
-    let x = not_true (b == 10) q.0 in
-    let y = space_end w q.1 in
-    rw (x, y) (and_false (is_space b))
-
-pub white_newline : (w r : List ℕ) → list_all is_space w ≡ true → comes_to_newline (w ++ 10 ∷ r) ≡ true
-white_newline [] r h = refl
-white_newline (b ∷ w) r h =
+pub white_newline : (w r : List ℕ) → NewlineNext r → list_all is_space w ≡ true → comes_to_newline (w ++ r) ≡ true
+white_newline [] r e h = comes_at_once r e
+white_newline (b ∷ w) r e h =
     let q = all_of_more is_space b w h in
     let x = q.0 in
-    let y = white_newline w r q.1 in
+    let y = white_newline w r e q.1 in
     rw (x, y) (or_true (b == 10))
 
 both : (f : ℕ → Bool) (b : ℕ) (w : List ℕ) → f b ≡ true → list_all f w ≡ true → list_all f (b ∷ w) ≡ true
 both f b w h k = rw (h, k)
 
--- white space, and then a newline
+-- white space, and then a newline or the end of the text
 pub record ToNewline (r : List ℕ) : Type 0 where
   pub gap : List ℕ
   pub rest : List ℕ
-  pub bytes : r ≡ gap ++ 10 ∷ rest
+  pub bytes : r ≡ gap ++ rest
+  pub next : NewlineNext rest
   pub white : list_all is_space gap ≡ true
   pub line : has_no_newline gap ≡ true
 
 pub to_newline : (r : List ℕ) → comes_to_newline r ≡ true → ToNewline r
-to_newline [] h = absurd cc
+to_newline [] h = record { gap = []; rest = []; bytes = refl; next = tt; white = refl; line = refl }
 to_newline (b ∷ r) h = go (b == 10) refl (λ k. to_newline r k)
   where
     go : (c : Bool) → (b == 10) ≡ c → (comes_to_newline r ≡ true → ToNewline r) → ToNewline (b ∷ r)
-    go true e f = record { gap = []; rest = r; bytes = ap (λ (i : ℕ). i ∷ r) (eqb-true b 10 e); white = refl; line = refl }
+    go true e f = record { gap = []; rest = b ∷ r; bytes = refl; next = e; white = refl; line = refl }
     go false e f =
         let q = both_true (is_space b) (comes_to_newline r) (second_of (b == 10) _ e h) in
         let k = f q.1 in
-        record { gap = b ∷ k.gap; rest = k.rest; bytes = ap (λ (l : List ℕ). b ∷ l) k.bytes; white = both is_space b k.gap q.0 k.white; line = both (λ c. not (is_newline c)) b k.gap (ap not e) k.line }
+        record { gap = b ∷ k.gap; rest = k.rest; bytes = ap (λ (l : List ℕ). b ∷ l) k.bytes; next = k.next; white = both is_space b k.gap q.0 k.white; line = both (λ c. not (is_newline c)) b k.gap (ap not e) k.line }
 
 -- ---- lines that run on
 
 no_more : (b : ℕ) (c : Bool) (r : Bool) → (b == 10) ≡ false → (b == 92 && c) ≡ false → r ≡ true → (not (b == 10 || (b == 92 && c)) && r) ≡ true
 no_more b c r h k l = rw (h, k, l)
 
-on : (b : ℕ) (w r : List ℕ) → (b == 10) ≡ false → comes_to_newline (w ++ r) ≡ false → runs_on w r ≡ true → runs_on (b ∷ w) r ≡ true
-on b w r h k l = no_more b (comes_to_newline (w ++ r)) (runs_on w r) h (ap (λ (c : Bool). b == 92 && c) k ∙ and_false (b == 92)) l
-
--- up to the end of the text
-pub runs_last : (w : List ℕ) → has_no_newline w ≡ true → runs_on w [] ≡ true
-runs_last [] h = refl
-runs_last (b ∷ w) h =
-    let q = all_of_more (λ c. not (is_newline c)) b w h in on b w [] (not_true (b == 10) q.0) (space_end w q.1) (runs_last w q.1)
-
 -- up to a `\`
 pub runs_before : (w r : List ℕ) → has_no_newline w ≡ true → runs_on w (92 ∷ r) ≡ true
 runs_before [] r h = refl
 runs_before (b ∷ w) r h =
-    let q = all_of_more (λ c. not (is_newline c)) b w h in on b w (92 ∷ r) (not_true (b == 10) q.0) (space_backslash w r q.1) (runs_before w r q.1)
+    let q = all_of_more (λ c. not (is_newline c)) b w h in
+    no_more b (comes_to_newline (w ++ 92 ∷ r)) (runs_on w (92 ∷ r)) (not_true (b == 10) q.0) (ap (λ (c : Bool). b == 92 && c) (space_backslash w r q.1) ∙ and_false (b == 92)) (runs_before w r q.1)
 
 no_backslash : (c : Bool) (o : Option ℕ) → cond c (Some 0) (option_map (λ n. n + 1) o) ≡ None → (c ≡ false) × (o ≡ None)
 no_backslash true o h = absurd cc
 no_backslash false None h = (refl, refl)
 no_backslash false (Some n) h = absurd cc
 
--- up to the newline, where no `\` continues it
-pub runs_to_newline : (w r : List ℕ) → has_no_newline w ≡ true → continued_at w ≡ None → runs_on w (10 ∷ r) ≡ true
-runs_to_newline [] r h n = refl
-runs_to_newline (b ∷ w) r h n =
+-- up to the newline or the end of the text, where no `\` continues it
+pub runs_to_newline : (w r : List ℕ) → NewlineNext r → has_no_newline w ≡ true → continued_at w ≡ None → runs_on w r ≡ true
+runs_to_newline [] r e h n = refl
+runs_to_newline (b ∷ w) r e h n =
     let q = all_of_more (λ c. not (is_newline c)) b w h in
     let y = no_backslash (b == 92 && list_all is_space w) (continued_at w) n in
-    no_more b (comes_to_newline (w ++ 10 ∷ r)) (runs_on w (10 ∷ r)) (not_true (b == 10) q.0) (ap (λ (c : Bool). b == 92 && c) (space_newline w r q.1) ∙ y.0) (runs_to_newline w r q.1 y.1)
+    no_more b (comes_to_newline (w ++ r)) (runs_on w r) (not_true (b == 10) q.0) (ap (λ (c : Bool). b == 92 && c) (space_newline w r e q.1) ∙ y.0) (runs_to_newline w r e q.1 y.1)
 
-pub not_continued : (w r : List ℕ) → runs_on w (10 ∷ r) ≡ true → continued_at w ≡ None
-not_continued [] r h = refl
-not_continued (b ∷ w) r h =
-    let q = and_not (ends_line (b ∷ w ++ 10 ∷ r)) (runs_on w (10 ∷ r)) h in
-    let y = or_second (b == 10) (b == 92 && comes_to_newline (w ++ 10 ∷ r)) q.0 in
-    let x : (b == 92 && list_all is_space w) ≡ false = ap (λ (c : Bool). b == 92 && c) (sym (space_newline w r (no_newline w (10 ∷ r) q.1))) ∙ y in
-    let z = not_continued w r q.1 in
+pub not_continued : (w r : List ℕ) → NewlineNext r → runs_on w r ≡ true → continued_at w ≡ None
+not_continued [] r e h = refl
+not_continued (b ∷ w) r e h =
+    let q = and_not (ends_line (b ∷ w ++ r)) (runs_on w r) h in
+    let y = or_second (b == 10) (b == 92 && comes_to_newline (w ++ r)) q.0 in
+    let x : (b == 92 && list_all is_space w) ≡ false = ap (λ (c : Bool). b == 92 && c) (sym (space_newline w r e (no_newline w r q.1))) ∙ y in
+    let z = not_continued w r e q.1 in
     rw (x, z)
 
 -- ---- the `\` by which a line is continued

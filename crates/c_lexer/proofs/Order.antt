@@ -102,15 +102,4 @@ step_keeps t (InLine s end) b at h = either (b == 10) _ _ at (line_keeps s end a
 
 pub finish_keeps : (t : List ℕ) (s : State) (at : ℕ) → least s ≤ at → KeepsOrder at (finish t s at)
 finish_keeps t (InComment s star) at h = h
-finish_keeps t (Between first) at h = step_keeps t (Between first) 10 at h
-finish_keeps t (InWord s) at h = step_keeps t (InWord s) 10 at h
-finish_keeps t (InNumber s power) at h = step_keeps t (InNumber s power) 10 at h
-finish_keeps t (InMark s m) at h = step_keeps t (InMark s m) 10 at h
-finish_keeps t (Dots s) at h = step_keeps t (Dots s) 10 at h
-finish_keeps t (CharOpened s) at h = step_keeps t (CharOpened s) 10 at h
-finish_keeps t (CharEscape s e) at h = step_keeps t (CharEscape s e) 10 at h
-finish_keeps t (CharHeld s) at h = step_keeps t (CharHeld s) 10 at h
-finish_keeps t (InText s) at h = step_keeps t (InText s) 10 at h
-finish_keeps t (TextEscape s e) at h = step_keeps t (TextEscape s e) 10 at h
-finish_keeps t (InDirective s end) at h = directive_keeps s end at (slice_range t (s + 1) at) None (λ n k. absurd cc) h
-finish_keeps t (InLine s end) at h = line_keeps s end at None (λ n k. absurd cc) h
+finish_keeps t s at h = step_keeps t s 10 at h

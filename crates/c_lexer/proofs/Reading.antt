@@ -27,11 +27,11 @@ use Rattle.c_lexer.specs.Numbers.{continues, is_run, ends_with_power, value_from
 use Rattle.c_lexer.specs.Characters.{Character, Plain, Simple, OneDigit, TwoDigits, ThreeDigits, Hexadecimal, written, written_all, IsCharacter, TakesDigits, AreCharacters}
 use Rattle.c_lexer.specs.Marks.{mark_text, mark_at, is_slash, is_dot}
 use Rattle.c_lexer.specs.Pieces.{Piece, Space, Word, Number, Char, Text, Sign, Directive, Line, Block, spelled, text, comes_to_newline, ends_line, runs_on, is_include, Fits, Begins, Longest, first_behind, first_behind_all, Good, word_kind, span}
-use Rattle.c_lexer.specs.Machine.{begin, of_mark, found, mark, word, escape_step, char_escape, text_escape, line_end, continued_at, end_directive, end_line, closing_step, step, Lexed, Read, Faulty, go_on, run}
+use Rattle.c_lexer.specs.Machine.{begin, of_mark, found, mark, word, escape_step, char_escape, text_escape, line_end, continued_at, end_directive, end_line, closing_step, step, finish, Lexed, Read, Faulty, go_on, run}
 use Rattle.c_lexer.proofs.MarkLemmas.{none_longer, longer_newline}
 use Rattle.c_lexer.proofs.NumberLemmas.{value_up}
 use Rattle.c_lexer.proofs.Truths.{both_true, all_of_more, or_first, or_second, not_true, second_of}
-use Rattle.c_lexer.proofs.Lines.{has_no_newline, one_line, no_newline, to_newline, not_continued, continued_there}
+use Rattle.c_lexer.proofs.Lines.{has_no_newline, NewlineNext, one_line, no_newline, to_newline, not_continued, continued_there}
 use Rattle.c_lexer.proofs.Closings.{closes_from, goes_on, none_left, closes_on, last_slash, comment_on}
 use Rattle.c_lexer.proofs.PieceLemmas.{past, past_is, stands_along, past_character, past_characters, ends, ends_all, Stands, stands_past, slice_is, stands_behind, end_from}
 
@@ -233,16 +233,16 @@ mark_run t first Comma at out r = refl
 -- ---- comments and directives
 
 -- a line that ends in front of these bytes: with the text, at its newline, or at a `\` that continues it
-line_cases : (P : List ℕ → Type 0) (r : List ℕ) → ends_line r ≡ true → P [] → ((q : List ℕ) → P (10 ∷ q)) → ((g q : List ℕ) → list_all is_space g ≡ true → has_no_newline g ≡ true → P (92 ∷ g ++ 10 ∷ q)) → P r
-line_cases P [] h last newline backslash = last
-line_cases P (b ∷ r) h last newline backslash = go (b == 10) refl
+line_cases : (P : List ℕ → Type 0) (r : List ℕ) → ends_line r ≡ true → ((q : List ℕ) → NewlineNext q → P q) → ((g q : List ℕ) → NewlineNext q → list_all is_space g ≡ true → has_no_newline g ≡ true → P (92 ∷ g ++ q)) → P r
+line_cases P [] h newline backslash = newline [] tt
+line_cases P (b ∷ r) h newline backslash = go (b == 10) refl
   where
     go : (c : Bool) → (b == 10) ≡ c → P (b ∷ r)
-    go true e = subst (λ (i : ℕ). P (i ∷ r)) (sym (eqb-true b 10 e)) (newline r)
+    go true e = newline (b ∷ r) e
     go false e =
         let q = both_true (b == 92) (comes_to_newline r) (second_of (b == 10) _ e h) in
         let k = to_newline r q.1 in
-        subst (λ (i : ℕ). P (i ∷ r)) (sym (eqb-true b 92 q.0)) (subst (λ (v : List ℕ). P (92 ∷ v)) (sym k.bytes) (backslash k.gap k.rest k.white k.line))
+        subst (λ (i : ℕ). P (i ∷ r)) (sym (eqb-true b 92 q.0)) (subst (λ (v : List ℕ). P (92 ∷ v)) (sym k.bytes) (backslash k.gap k.rest k.next k.white k.line))
 
 -- its bytes are passed over
 line_passes : (t w : List ℕ) → has_no_newline w ≡ true → (s e at : ℕ) (out : List Ended) (r : List ℕ) → scan t (InLine s e) at out (w ++ r) ≡ scan t (InLine s (end_from e at w)) (past at w) out r
@@ -253,19 +253,34 @@ directive_passes : (t w : List ℕ) → has_no_newline w ≡ true → (s e at : 
 directive_passes t [] h s e at out r = refl
 directive_passes t (b ∷ w) h s e at out r = let q = all_of_more (λ c. not (is_newline c)) b w h in let x = not_true (b == 10) q.0 in rw x (directive_passes t w q.1 s (line_end e b at) (at + 1) out r)
 
--- what its newline does to it
-line_newline : (t w : List ℕ) (s e at : ℕ) (out : List Ended) (r : List ℕ) (o : Option ℕ) → slice_range t s at ≡ w → continued_at w ≡ o
-    → scan t (InLine s e) at out (10 ∷ r) ≡ go_on add_all (end_line s e o) out (λ z more. run add_all t z (at + 1) more r)
-line_newline t w s e at out r o h k = ap (λ (n : Option ℕ). go_on add_all (end_line s e n) out (λ z more. run add_all t z (at + 1) more r)) (ap continued_at h ∙ k)
+-- reading goes on from this, past the next byte if there is one
+abbrev go_past : List ℕ → ℕ → Taken → List Ended → List ℕ → Lexed (List Ended)
+go_past t at n out [] = go_on add_all n out all_read
+go_past t at n out (b ∷ r) = go_on add_all n out (λ z more. run add_all t z (at + 1) more r)
 
-directive_newline : (t w : List ℕ) (s e at : ℕ) (out : List Ended) (r : List ℕ) (o : Option ℕ) → slice_range t (s + 1) at ≡ w → continued_at w ≡ o
-    → scan t (InDirective s e) at out (10 ∷ r) ≡ go_on add_all (end_directive s e w o) out (λ z more. run add_all t z (at + 1) more r)
-directive_newline t w s e at out r o h k =
-    ap (λ (v : List ℕ). go_on add_all (end_directive s e v (continued_at v)) out (λ z more. run add_all t z (at + 1) more r)) h
-    ∙ ap (λ (n : Option ℕ). go_on add_all (end_directive s e w n) out (λ z more. run add_all t z (at + 1) more r)) k
+-- what its newline, or the end of the text, does to it
+at_newline : (t : List ℕ) (s : State) (at : ℕ) (out : List Ended) (r : List ℕ) (n : Taken) → NewlineNext r → finish t s at ≡ n → step t s 10 at ≡ n → scan t s at out r ≡ go_past t at n out r
+at_newline t s at out [] n next last h = ap (λ (m : Taken). go_on add_all m out all_read) last
+at_newline t s at out (b ∷ r) n next last h = taken t s b at out r n (ap (λ (i : ℕ). step t s i at) (eqb-true b 10 next) ∙ h)
+
+line_newline : (t w : List ℕ) (s e at : ℕ) (out : List Ended) (r : List ℕ) (o : Option ℕ) → NewlineNext r → slice_range t s at ≡ w → continued_at w ≡ o → scan t (InLine s e) at out r ≡ go_past t at (end_line s e o) out r
+line_newline t w s e at out r o next h k = let x = ap (end_line s e) (ap continued_at h ∙ k) in at_newline t (InLine s e) at out r (end_line s e o) next x x
+
+directive_newline : (t w : List ℕ) (s e at : ℕ) (out : List Ended) (r : List ℕ) (o : Option ℕ) → NewlineNext r → slice_range t (s + 1) at ≡ w → continued_at w ≡ o
+    → scan t (InDirective s e) at out r ≡ go_past t at (end_directive s e w o) out r
+directive_newline t w s e at out r o next h k =
+    let x = ap (λ (v : List ℕ). end_directive s e v (continued_at v)) h ∙ ap (end_directive s e w) k in at_newline t (InDirective s e) at out r (end_directive s e w o) next x x
+
+past_line : (t : List ℕ) (at : ℕ) (x : Ended) (out : List Ended) (r : List ℕ) → NewlineNext r → go_past t at (Go (Between true) x) out r ≡ scan t (Between false) at (add_all x out) r
+past_line t at x out [] next = refl
+past_line t at x out (b ∷ r) next = subst (λ (i : ℕ). go_past t at (Go (Between true) x) out (i ∷ r) ≡ scan t (Between false) at (add_all x out) (i ∷ r)) (sym (eqb-true b 10 next)) refl
 
 abbrev stopped : ℕ → Lexed (List Ended)
 stopped place = Faulty 2 place
+
+past_fault : (t : List ℕ) (at place : ℕ) (out : List Ended) (r : List ℕ) → go_past t at (Fault 2 place) out r ≡ stopped place
+past_fault t at place out [] = refl
+past_fault t at place out (b ∷ r) = refl
 
 -- two bytes further
 abbrev pub two_on : Option ℕ → Option ℕ
@@ -273,59 +288,54 @@ two_on o = option_map (λ n. n + 1) (option_map (λ n. n + 1) o)
 
 line_reads : (t w : List ℕ) (s : ℕ) (out : List Ended) (r : List ℕ) → runs_on w r ≡ true → ends_line r ≡ true → Stands t s (47 ∷ 47 ∷ w ++ r)
     → scan t (InLine s (s + 1 + 1)) (s + 1 + 1) out (w ++ r) ≡ scan t (Between false) (past (s + 1 + 1) w) (add_all (ended.Comment (span s (end_from (s + 1 + 1) (s + 1 + 1) w))) out) r
-line_reads t w s out r runs ends stands = line_cases Reads r ends last newline backslash runs stands
+line_reads t w s out r runs ends stands = line_cases Reads r ends newline backslash runs stands
   where
     Reads : List ℕ → Type 0
     Reads v =
         runs_on w v ≡ true → Stands t s (47 ∷ 47 ∷ w ++ v)
         → scan t (InLine s (s + 1 + 1)) (s + 1 + 1) out (w ++ v) ≡ scan t (Between false) (past (s + 1 + 1) w) (add_all (ended.Comment (span s (end_from (s + 1 + 1) (s + 1 + 1) w))) out) v
 
-    last : Reads []
-    last runs stands = line_passes t w (no_newline w [] runs) s (s + 1 + 1) (s + 1 + 1) out []
+    newline : (q : List ℕ) → NewlineNext q → Reads q
+    newline q next runs stands =
+        line_passes t w (no_newline w q runs) s (s + 1 + 1) (s + 1 + 1) out q
+        ∙ line_newline t (47 ∷ 47 ∷ w) s _ _ out q None next (slice_is t s (47 ∷ 47 ∷ w) q stands) (ap two_on (not_continued w q next runs))
+        ∙ past_line t (past (s + 1 + 1) w) (ended.Comment (span s (end_from (s + 1 + 1) (s + 1 + 1) w))) out q next
 
-    newline : (q : List ℕ) → Reads (10 ∷ q)
-    newline q runs stands =
-        line_passes t w (no_newline w (10 ∷ q) runs) s (s + 1 + 1) (s + 1 + 1) out (10 ∷ q)
-        ∙ line_newline t (47 ∷ 47 ∷ w) s _ _ out q None (slice_is t s (47 ∷ 47 ∷ w) (10 ∷ q) stands) (ap two_on (not_continued w q runs))
-
-    backslash : (g q : List ℕ) → list_all is_space g ≡ true → has_no_newline g ≡ true → Reads (92 ∷ g ++ 10 ∷ q)
-    backslash g q white line runs stands =
-        let all = append_assoc w (92 ∷ g) (10 ∷ q) in
+    backslash : (g q : List ℕ) → NewlineNext q → list_all is_space g ≡ true → has_no_newline g ≡ true → Reads (92 ∷ g ++ q)
+    backslash g q next white line runs stands =
+        let all = append_assoc w (92 ∷ g) q in
         let place : s + (length w + 1 + 1) ≡ past (s + 1 + 1) w = (let h = past_is w (s + 1 + 1) in omega arith) in
         ap (scan t (InLine s (s + 1 + 1)) (s + 1 + 1) out) (sym all)
-        ∙ line_passes t (w ++ 92 ∷ g) (one_line w g (no_newline w _ runs) line) s (s + 1 + 1) (s + 1 + 1) out (10 ∷ q)
-        ∙ line_newline t (47 ∷ 47 ∷ w ++ 92 ∷ g) s _ _ out q (Some (length w + 1 + 1)) (slice_is t s (47 ∷ 47 ∷ w ++ 92 ∷ g) (10 ∷ q) (stands_along t s _ _ (ap (λ (v : List ℕ). 47 ∷ 47 ∷ v) (sym all)) stands)) (ap two_on (continued_there w g white))
-        ∙ ap stopped place
+        ∙ line_passes t (w ++ 92 ∷ g) (one_line w g (no_newline w _ runs) line) s (s + 1 + 1) (s + 1 + 1) out q
+        ∙ line_newline t (47 ∷ 47 ∷ w ++ 92 ∷ g) s _ _ out q (Some (length w + 1 + 1)) next (slice_is t s (47 ∷ 47 ∷ w ++ 92 ∷ g) q (stands_along t s _ _ (ap (λ (v : List ℕ). 47 ∷ 47 ∷ v) (sym all)) stands)) (ap two_on (continued_there w g white))
+        ∙ past_fault t (past (s + 1 + 1) (w ++ 92 ∷ g)) (s + (length w + 1 + 1)) out q ∙ ap stopped place
 
 directive_reads : (t w : List ℕ) (s : ℕ) (out : List Ended) (r : List ℕ) → is_include w ≡ true → runs_on w r ≡ true → ends_line r ≡ true → Stands t (s + 1) (w ++ r)
     → scan t (InDirective s (s + 1)) (s + 1) out (w ++ r) ≡ scan t (Between false) (past (s + 1) w) (add_all (found k.Directive s (end_from (s + 1) (s + 1) w)) out) r
-directive_reads t w s out r include runs ends stands = line_cases Reads r ends last newline backslash runs stands
+directive_reads t w s out r include runs ends stands = line_cases Reads r ends newline backslash runs stands
   where
     Reads : List ℕ → Type 0
     Reads v =
         runs_on w v ≡ true → Stands t (s + 1) (w ++ v)
         → scan t (InDirective s (s + 1)) (s + 1) out (w ++ v) ≡ scan t (Between false) (past (s + 1) w) (add_all (found k.Directive s (end_from (s + 1) (s + 1) w)) out) v
 
-    last : Reads []
-    last runs stands =
-        directive_passes t w (no_newline w [] runs) s (s + 1) (s + 1) out []
-        ∙ ap (λ (v : List ℕ). go_on add_all (end_directive s (end_from (s + 1) (s + 1) w) v None) out all_read) (slice_is t (s + 1) w [] stands) ∙ rw include
+    newline : (q : List ℕ) → NewlineNext q → Reads q
+    newline q next runs stands =
+        directive_passes t w (no_newline w q runs) s (s + 1) (s + 1) out q
+        ∙ directive_newline t w s _ _ out q None next (slice_is t (s + 1) w q stands) (not_continued w q next runs)
+        ∙ ap (λ (n : Taken). go_past t (past (s + 1) w) n out q) (cond_true (is_include w) (Go (Between true) (found k.Directive s (end_from (s + 1) (s + 1) w))) (Fault 6 s) include)
+        ∙ past_line t (past (s + 1) w) (found k.Directive s (end_from (s + 1) (s + 1) w)) out q next
 
-    newline : (q : List ℕ) → Reads (10 ∷ q)
-    newline q runs stands =
-        directive_passes t w (no_newline w (10 ∷ q) runs) s (s + 1) (s + 1) out (10 ∷ q)
-        ∙ directive_newline t w s _ _ out q None (slice_is t (s + 1) w (10 ∷ q) stands) (not_continued w q runs) ∙ rw include
-
-    backslash : (g q : List ℕ) → list_all is_space g ≡ true → has_no_newline g ≡ true → Reads (92 ∷ g ++ 10 ∷ q)
-    backslash g q white line runs stands =
-        let all = append_assoc w (92 ∷ g) (10 ∷ q) in
+    backslash : (g q : List ℕ) → NewlineNext q → list_all is_space g ≡ true → has_no_newline g ≡ true → Reads (92 ∷ g ++ q)
+    backslash g q next white line runs stands =
+        let all = append_assoc w (92 ∷ g) q in
         let place : s + 1 + length w ≡ past (s + 1) w = (let h = past_is w (s + 1) in omega arith) in
         let own : is_include (take (length w) (w ++ 92 ∷ g)) ≡ true = ap is_include (take_at w (92 ∷ g) (length w) refl) ∙ include in
         ap (scan t (InDirective s (s + 1)) (s + 1) out) (sym all)
-        ∙ directive_passes t (w ++ 92 ∷ g) (one_line w g (no_newline w _ runs) line) s (s + 1) (s + 1) out (10 ∷ q)
-        ∙ directive_newline t (w ++ 92 ∷ g) s _ _ out q (Some (length w)) (slice_is t (s + 1) (w ++ 92 ∷ g) (10 ∷ q) (stands_along t (s + 1) _ _ (sym all) stands)) (continued_there w g white)
-        ∙ ap (λ (n : Taken). go_on add_all n out (λ z more. run add_all t z (past (s + 1) (w ++ 92 ∷ g) + 1) more q)) (cond_true (is_include (take (length w) (w ++ 92 ∷ g))) (Fault 2 (s + 1 + length w)) (Fault 6 s) own)
-        ∙ ap stopped place
+        ∙ directive_passes t (w ++ 92 ∷ g) (one_line w g (no_newline w _ runs) line) s (s + 1) (s + 1) out q
+        ∙ directive_newline t (w ++ 92 ∷ g) s _ _ out q (Some (length w)) next (slice_is t (s + 1) (w ++ 92 ∷ g) q (stands_along t (s + 1) _ _ (sym all) stands)) (continued_there w g white)
+        ∙ ap (λ (n : Taken). go_past t (past (s + 1) (w ++ 92 ∷ g)) n out q) (cond_true (is_include (take (length w) (w ++ 92 ∷ g))) (Fault 2 (s + 1 + length w)) (Fault 6 s) own)
+        ∙ past_fault t (past (s + 1) (w ++ 92 ∷ g)) (s + 1 + length w) out q ∙ ap stopped place
 
 block_run : (t w : List ℕ) (c : Closing) → closes_from c w ≡ true → (s at : ℕ) (out : List Ended) (r : List ℕ) → scan t (InComment s c) at out (w ++ r) ≡ scan t (Between false) (past at w) (add_all (ended.Comment (span s (past at w))) out) r
 block_run t [] c h s at out r = absurd (let y : true ≡ false = sym h ∙ none_left c in cc)

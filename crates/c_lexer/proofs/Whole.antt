@@ -1,6 +1,6 @@
 -- What the end of the text leaves, and so what reading a whole text gives.
 use Rattle.std.proofs.Common.{◌≡◌, ◌+◌, ℕ, Bool, true, false, ◌&&◌, ◌==◌, cond, List, [], ◌∷◌, ◌++◌, Option, Some, None, refl, ap, sym, ◌∙◌, subst}
-use Rattle.std.specs.Prelude.{slice_range, is_some}
+use Rattle.std.specs.Prelude.{slice_range, is_some, take}
 use Rattle.std.specs.List.{list_all}
 use Rattle.c_lexer.specs.declared.mark.Mark.{Mark}
 use Rattle.c_lexer.specs.declared.mark.Mark.TheVariants.{Dot}
@@ -16,14 +16,14 @@ use Rattle.c_lexer.specs.Bytes.{is_run_byte}
 use Rattle.c_lexer.specs.Numbers.{continues, integer_of}
 use Rattle.c_lexer.specs.Marks.{mark_text, longer, is_slash, is_dot}
 use Rattle.c_lexer.specs.Pieces.{Piece, Word, Number, Sign, Directive, Line, spelled, text, is_include, Fits, Longest, first_behind_all, Good}
-use Rattle.c_lexer.specs.Machine.{after_mark, escape_step, char_escape, text_escape, step, finish}
+use Rattle.c_lexer.specs.Machine.{after_mark, escape_step, char_escape, text_escape, continued_at, end_directive, end_line, step, finish}
 use Rattle.c_lexer.proofs.MarkLemmas.{mark_last}
 use Rattle.c_lexer.specs.Machine.{Lexed, Read, Faulty, go_on, run}
-use Rattle.c_lexer.proofs.Lines.{runs_last}
-use Rattle.c_lexer.proofs.Reading.{add_all, scan}
+use Rattle.c_lexer.proofs.Lines.{has_no_newline}
+use Rattle.c_lexer.proofs.Reading.{add_all, scan, two_on}
 use Rattle.c_lexer.proofs.Fronts.{Front, onward, text_more, good_more, Part, Ready, StuckAt, Goes, stuck_part, part_slice, part_slice_behind}
 use Rattle.c_lexer.proofs.PieceLemmas.{Stands}
-use Rattle.c_lexer.proofs.Growth.{digit_reason, dot_doubled, goes}
+use Rattle.c_lexer.proofs.Growth.{digit_reason, dot_doubled, line_is, line_stuck, directive_stuck, directive_refused, goes}
 
 -- all these bytes are pieces
 abbrev pub Spelled : Bool → List ℕ → Type 0
@@ -65,6 +65,16 @@ run_newline : (power : Bool) → is_run_byte power 10 ≡ false
 run_newline true = refl
 run_newline false = refl
 
+line_closes : (s end at : ℕ) (P : Front) (ps : List Piece) (w : List ℕ) → Part s at ps (47 ∷ 47 ∷ w) P → has_no_newline w ≡ true → (o : Option ℕ) → continued_at w ≡ o → Closes (end_line s end (two_on o)) P
+line_closes s end at P ps w i none None k = closed (Line w) s at P ps (47 ∷ 47 ∷ w) i refl tt (line_is w [] tt none k)
+line_closes s end at P ps w i none (Some n) k = line_stuck s at P ps w n i none k [] tt
+
+directive_closes : (s end at : ℕ) (P : Front) (ps : List Piece) (w : List ℕ) → Part s at ps (35 ∷ w) P → first_behind_all P.first ps ≡ true → has_no_newline w ≡ true → (o : Option ℕ) → continued_at w ≡ o → Closes (end_directive s end w o) P
+directive_closes s end at P ps w i first none None k =
+    closing (is_include w) _ _ _ (λ g. closed (Directive w) s at P ps (35 ∷ w) i refl (first, g) (line_is w [] tt none k)) (λ g. directive_refused s at P ps w i first [])
+directive_closes s end at P ps w i first none (Some n) k =
+    closing (is_include (take n w)) _ _ _ (λ g. directive_stuck s at P ps w n i first none k g [] tt) (λ g. directive_refused s at P ps w i first [])
+
 closes_at_end : (t : List ℕ) (s : State) (at : ℕ) (P : Front) → Ready s at P → Stands t P.base (P.bytes []) → Closes (finish t s at) P
 closes_at_end t (Between first) at P (ps, i, f) e = (ps, i.0 [], i.1 [])
 closes_at_end t (InWord s) at P (ps, x, w, i, letter, each) e = closed (Word (x ∷ w)) s at P ps (x ∷ w) i refl (both (is_letter x) (list_all is_word_byte w) letter each) tt
@@ -88,11 +98,10 @@ closes_at_end t (CharHeld s) at P (ps, c, w, i, k, f) e = stuck_part s at ps 39 
 closes_at_end t (InText s) at P (ps, cs, v, i, k, f) e = stuck_part s at ps 34 v P 4 i (λ q. refl) []
 closes_at_end t (TextEscape s x) at P (ps, cs, v, w, i, k, f, h) e = subst (λ (n : Taken). Closes n P) (sym (text_newline s x at)) (stuck_part s at ps 34 (v ++ w) P 4 i (λ q. refl) [])
 closes_at_end t (InDirective s end) at P (ps, w, i, first, none) e =
-    closing (is_include (slice_range t (s + 1) at)) _ _ _
-    (λ g. closed (Directive w) s at P ps (35 ∷ w) i refl (first, ap is_include (sym (part_slice_behind t s at ps 35 w P [] i e)) ∙ g) (runs_last w none, refl))
-    (λ g. stuck_part s at ps 35 w P 6 i (λ q. ap (λ (c : Bool). cond c 6 2) first) [])
+    subst (λ (v : List ℕ). Closes (end_directive s end v (continued_at v)) P) (sym (part_slice_behind t s at ps 35 w P [] i e)) (directive_closes s end at P ps w i first none (continued_at w) refl)
 closes_at_end t (InComment s star) at P (ps, w, i, o) e = stuck_part s at ps 47 (42 ∷ w) P 3 i (λ q. refl) []
-closes_at_end t (InLine s end) at P (ps, w, i, none) e = closed (Line w) s at P ps (47 ∷ 47 ∷ w) i refl tt (runs_last w none, refl)
+closes_at_end t (InLine s end) at P (ps, w, i, none) e =
+    subst (λ (v : List ℕ). Closes (end_line s end (continued_at v)) P) (sym (part_slice t s at ps (47 ∷ 47 ∷ w) P [] i e)) (line_closes s end at P ps w i none (continued_at w) refl)
 
 -- ---- whole texts
 

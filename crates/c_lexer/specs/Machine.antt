@@ -185,11 +185,9 @@ abbrev pub KeepsOrder : ℕ → Taken → Type 0
 KeepsOrder at (Go s ended) = least s ≤ at + 1
 KeepsOrder at (Fault reason place) = place ≤ at
 
--- the end of the text ends what a newline would end, but no comment `/*`, and it continues no line
+-- the end of the text does what a newline would, but that it leaves a comment `/*` without its end
 abbrev pub finish : List ℕ → State → ℕ → Taken
 finish t (InComment start c) at = Fault 3 start
-finish t (InDirective start end) at = end_directive start end (slice_range t (start + 1) at) None
-finish t (InLine start end) at = end_line start end None
 finish t s at = step t s 10 at
 
 abbrev pub add_token : Ended → List Token → List Token

@@ -45,9 +45,9 @@ abbrev pub text : List Piece → List ℕ → List ℕ
 text [] r = r
 text (p ∷ ps) r = spelled p (text ps r)
 
--- nothing but white space stands before the next newline
+-- nothing but white space stands before the next newline or the end of the text
 abbrev pub comes_to_newline : List ℕ → Bool
-comes_to_newline [] = false
+comes_to_newline [] = true
 comes_to_newline (b ∷ r) = is_newline b || (is_space b && comes_to_newline r)
 
 -- a line ends here: with the text, at its newline, or at a `\` by which it is continued

@@ -381,8 +381,8 @@ pub(crate) fn step(text: &[u8], state: State, byte: u8, at: u64) -> Taken
     }
 }
 
-/// What the end of the text does to the state: what a newline would, but that it closes no comment `/*`
-/// and continues no line.
+/// What the end of the text does to the state: what a newline would, but that it leaves a comment `/*`
+/// without its end.
 pub(crate) fn finish(text: &[u8], state: State, at: u64) -> Taken
     requires order { spec.least state ≤ at }
     requires within { at ≤ length text.now }
@@ -392,10 +392,6 @@ pub(crate) fn finish(text: &[u8], state: State, at: u64) -> Taken
 {
     match state {
         State::InComment(start, _) => Taken::Fault(3, start),
-        State::InDirective(start, end) => {
-            end_directive(start, end, &text[start as usize + 1..at as usize], None)
-        }
-        State::InLine(start, end) => end_line(start, end, None),
         other => step(text, other, b'\n', at),
     }
 }

@@ -1,7 +1,8 @@
 //! Reading: from a text to its resolved program, or its first fault.
 #![tactic(auto)]
 
-ghost use Rattle.std.specs.Prelude.{All};
+ghost use Rattle.std.specs.Prelude.{◌≤◌, length, All, IfOk};
+ghost use Rattle.c_lexer.specs.Answers.{scanning};
 ghost use Rattle.c_lexer.specs.Pieces.{IsWithin};
 ghost use Rattle.c_parser.specs.Answers.{parsed};
 ghost use Rattle.c_types.specs.Stop.{Gives};
@@ -23,8 +24,11 @@ fn read_scanned<C: FlatCounter>(
 ) -> Result<Program, ReadStop>
     requires tokens { All (λ token. IsWithin text.now token.start token.end) scanned.now.tokens }
     requires comments { All (λ comment. IsWithin text.now comment.start comment.end) scanned.now.comments }
-    ensures { Gives (λ program. program) result (spec.of_syntax (C.flat counter.now) text.now scanned.now (parsed text.now scanned.now.tokens)) }
+    ensures value { Gives (λ program. program) result (spec.of_syntax (C.flat counter.now) text.now scanned.now (parsed text.now scanned.now.tokens)) }
+    ensures few { length scanned.now.tokens ≤ 4294967295 }
 {
+    // the bound of a list, which its length tells
+    let _count = scanned.tokens.len();
     match parse(alloc, text, &scanned.tokens) {
         Ok(syntax) => resolve_with(
             alloc,
@@ -44,7 +48,9 @@ fn read_scanned<C: FlatCounter>(
 /// deeply, else the violation with the least place, then the least reason. Else the only failure is want
 /// of memory.
 pub fn read<C: FlatCounter>(alloc: Global, counter: &C, text: &[u8]) -> Result<Program, ReadStop>
-    ensures { Gives (λ program. program) result (spec.reading (C.flat counter.now) text.now) }
+    ensures value { Gives (λ program. program) result (spec.reading (C.flat counter.now) text.now) }
+    // A text with more tokens than a list holds is not read for want of memory.
+    ensures few { IfOk result (λ _. IfOk (scanning text.now) (λ scanned. length scanned.tokens ≤ 4294967295)) }
 {
     match scan(alloc, text) {
         Ok(scanned) => read_scanned(alloc, counter, text, &scanned),

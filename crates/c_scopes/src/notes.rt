@@ -5,10 +5,10 @@ ghost use Rattle.c_lexer.specs.Pieces.{IsWithin};
 ghost use Rattle.c_source.specs.Views.{words_of};
 ghost use Rattle.c_statements.specs.Context.{with_note};
 ghost use Rattle.c_statements.specs.NoteViews as views;
-ghost use Rattle.c_scopes.specs.NodeViews.{tops_in};
+ghost use Rattle.c_scopes.specs.NodeViews.{tops_in, IsPassed};
 ghost use Rattle.c_scopes.specs.Notes as spec;
 
-use crate::places::place_in;
+use crate::places::{place_in, top_after};
 use c_grammar::Syntax;
 use c_lexer::{Span, Token};
 use c_source::Words;
@@ -58,6 +58,38 @@ fn reach(tokens: &[Token], reached: Reached, start: u64) -> Reached
     }
 }
 
+/// How many nodes are passed at a token, where so many are at another.
+#[tactic(auto, using(crate::proofs::PassedNodes::passing))]
+fn passed_before(
+    words: &Words,
+    nodes: &[Syntax],
+    passed: usize,
+    other: usize,
+    token: usize,
+) -> usize
+    requires within { passed ≤ length nodes.now }
+    requires passed { IsPassed (words_of words.now) nodes.now passed other }
+    ensures within { result ≤ length nodes.now }
+    ensures passed { IsPassed (words_of words.now) nodes.now result token }
+{
+    if other <= token { passed } else { 0 }
+}
+
+/// How many nodes are passed at a token, of which so many are known to be.
+#[tactic(auto, using(crate::proofs::PassedNodes::passing))]
+fn pass(words: &Words, nodes: &[Syntax], passed: usize, token: usize) -> usize
+    requires within { passed ≤ length nodes.now }
+    requires passed { IsPassed (words_of words.now) nodes.now passed token }
+    ensures within { result ≤ length nodes.now }
+    ensures passed { IsPassed (words_of words.now) nodes.now result token }
+{
+    let mut count = passed;
+    while count < nodes.len() && top_after(words, &nodes[count]) as usize <= token {
+        count += 1;
+    }
+    count
+}
+
 /// Puts a comment before a token behind those of its place. 2^32 tokens are refused as for want of
 /// memory.
 fn add_comment<'a>(
@@ -92,9 +124,20 @@ pub fn place_notes<'a>(
 {
     let mut notes = Notes::new(alloc);
     let mut reached = Reached { start: 0, at: 0 };
+    let mut passed = 0;
     for comment in comments {
-        reached = reach(words.tokens, reached, comment.start);
-        add_comment(alloc, words, nodes, *comment, reached.at, &mut notes)?;
+        let next = reach(words.tokens, reached, comment.start);
+        let known = passed_before(words, nodes, passed, reached.at, next.at);
+        passed = pass(words, nodes, known, next.at);
+        reached = next;
+        add_comment(
+            alloc,
+            words,
+            &nodes[passed..],
+            *comment,
+            next.at,
+            &mut notes,
+        )?;
     }
     Ok(notes)
 }

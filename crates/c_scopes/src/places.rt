@@ -248,7 +248,7 @@ fn function_place(words: &Words, first: u32, f: FunctionLayer, token: u32) -> An
 
 /// The token behind what stands at file scope.
 #[tactic(auto, using(crate::proofs::PlaceLists::afters))]
-fn top_after(words: &Words, x: &Syntax) -> u32
+pub fn top_after(words: &Words, x: &Syntax) -> u32
     ensures { result ≡ spec.top_after (top_of (words_of words.now) x.now) }
 {
     x.after

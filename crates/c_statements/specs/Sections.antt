@@ -5,7 +5,7 @@ use Rattle.c_tree.specs.declared.tree.Item.{Item, out-Item}
 use Rattle.c_tree.specs.declared.tree.Item.TheOpen as Open
 use Rattle.c_tree.specs.declared.tree.Section.{Section, roll-Section, out-Section}
 
--- a section that is being read, or items in front of the first section, which has no cases and no default
+-- a section that is being read
 pub record Reading : Type 0 where
   pub cases : List Expression
   pub default : Bool
@@ -14,11 +14,10 @@ pub record Reading : Type 0 where
 abbrev pub section : List Expression → Bool → List Item → Bool → Section
 section cases default list ends = roll-Section (record { cases = cases; default = default; list = list; ends = ends })
 
--- these items at the end of the section; in front of the first section, where there are any, they are a section of their own
+-- these items at the end of the section; items in front of the first section are violations, or null statements, and give nothing
 abbrev pub extended : Option Reading → List Item → Option Reading
 extended (Some s) xs = Some (record { cases = s.cases; default = s.default; list = s.list ++ xs })
-extended None [] = None
-extended None (x ∷ xs) = Some (record { cases = []; default = false; list = x ∷ xs })
+extended None xs = None
 
 abbrev pub has_label : Reading → Bool
 has_label s = elim s.cases [ [] ↦ s.default | c ∷ cs ↦ true ]

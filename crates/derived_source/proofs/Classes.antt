@@ -57,7 +57,7 @@ is_word_class c.Const = true
 is_word_class c.Enum = true
 is_word_class _ = false
 
-word_class : (w : List ℕ) → is_word_class (keyword_class w) ≡ true
+pub word_class : (w : List ℕ) → is_word_class (keyword_class w) ≡ true
 word_class w =
     let b = branch is_word_class true in
     b (bytes_eq (codes "if") w) c.If _ refl (b (bytes_eq (codes "else") w) c.Else _ refl (b (bytes_eq (codes "while") w) c.While _ refl (b (bytes_eq (codes "do") w) c.Do _ refl
@@ -100,11 +100,11 @@ mark_prefix (Some _) h = refl
 
 -- ---- by class
 
-apart : {X : Type 0} (f : Class → Bool) (x y : Class) → f x ≡ false → f y ≡ true → x ≡ y → X
+pub apart : {X : Type 0} (f : Class → Bool) (x y : Class) → f x ≡ false → f y ≡ true → x ≡ y → X
 apart f x y g h e = absurd (true≢false (sym h ∙ ap f (sym e) ∙ g))
 
 -- no word of this class is a keyword
-from_keyword : {X : Type 0} (w : List ℕ) (y : Class) → is_word_class y ≡ false → keyword_class w ≡ y → X
+pub from_keyword : {X : Type 0} (w : List ℕ) (y : Class) → is_word_class y ≡ false → keyword_class w ≡ y → X
 from_keyword w y h e = absurd (true≢false (sym (word_class w) ∙ ap is_word_class e ∙ h))
 
 pub name_there : (w : List ℕ) → IsClassed c.Name w → IsName w

@@ -24,21 +24,21 @@ split : (a b : Option ℕ) → earlier a b ≡ None → (a ≡ None) × (b ≡ N
 split None b h = (refl, h)
 split (Some n) b h = absurd (true≢false (ap is_some h))
 
-back : (e : Event) (q : List Event) → first_over (e ∷ q) ≡ None → (first_over q ≡ None) × (over e q ≡ None)
+pub back : (e : Event) (q : List Event) → first_over (e ∷ q) ≡ None → (first_over q ≡ None) × (over e q ≡ None)
 back e q h = split (first_over q) (over e q) h
 
-before : (e : Event) (q : List Event) → first_over (e ∷ q) ≡ None → first_over q ≡ None
+pub before : (e : Event) (q : List Event) → first_over (e ∷ q) ≡ None → first_over q ≡ None
 before e q h = (back e q h).0
 
-none_given : (b : Bool) (n : ℕ) → cond b (Some n) None ≡ None → b ≡ false
+pub none_given : (b : Bool) (n : ℕ) → cond b (Some n) None ≡ None → b ≡ false
 none_given true n h = absurd (true≢false (ap is_some h))
 none_given false n h = refl
 
-level_low : (level : ℕ) (q : List Event) → over (Opened level) q ≡ None → level ≤ 400
+pub level_low : (level : ℕ) (q : List Event) → over (Opened level) q ≡ None → level ≤ 400
 level_low level q h = ltb-false 400 level (none_given (nat_lt 400 level) (number_of q) h)
 
 -- none is over a limit before these
-abbrev Back : (List Event → List Event) → Type 0
+abbrev pub Back : (List Event → List Event) → Type 0
 Back k = (q : List Event) → first_over (k q) ≡ None → first_over q ≡ None
 
 -- ---- expressions
@@ -49,7 +49,7 @@ base_back IntBase q h = before Uncounted q h
 base_back LongBase q h = before Uncounted q h
 base_back LongIntBase q h = before Uncounted q (before Uncounted (Uncounted ∷ q) h)
 
-type_back : (n : NumberType) → Back (type_events n)
+pub type_back : (n : NumberType) → Back (type_events n)
 type_back (OfBase b) q h = base_back b q h
 type_back Signed q h = before Uncounted q h
 type_back (SignedOf b) q h = before Uncounted q (base_back b (Uncounted ∷ q) h)
@@ -61,15 +61,15 @@ texts_back OneText q h = before Uncounted q h
 texts_back (MoreTexts n) q h = before Uncounted q (texts_back n (Uncounted ∷ q) h)
 
 mutual
-  expression_back : (e : Expression) → Back (expression_events e)
+  pub expression_back : (e : Expression) → Back (expression_events e)
   expression_back (One a) q h = assignment_back a q h
   expression_back (More a e) q h = let r = assignment_events a q in assignment_back a q (before Counted r (expression_back e (Counted ∷ r) h))
 
-  assignment_back : (a : Assignment) → Back (assignment_events a)
+  pub assignment_back : (a : Assignment) → Back (assignment_events a)
   assignment_back (To t m a) q h = let r = target_events t q in target_back t q (before Counted r (assignment_back a (Counted ∷ r) h))
   assignment_back (Value d) q h = conditional_back d q h
 
-  conditional_back : (d : Conditional) → Back (conditional_events d)
+  pub conditional_back : (d : Conditional) → Back (conditional_events d)
   conditional_back (Choose b e d) q h =
       let r = binary_events b q in
       let u = expression_events e (Counted ∷ r) in
@@ -109,52 +109,52 @@ mutual
 
 -- ---- declarations
 
-word_back : (given : Bool) → Back (word_events given)
+pub word_back : (given : Bool) → Back (word_events given)
 word_back false q h = h
 word_back true q h = before Outside q h
 
-optional_back : (o : Option Expression) → Back (optional_events o)
+pub optional_back : (o : Option Expression) → Back (optional_events o)
 optional_back None q h = h
 optional_back (Some e) q h = expression_back e q h
 
-more_back : {X : Type 0} (k : X → List Event → List Event) → ((x : X) → Back (k x)) → (xs : List X) → Back (more_events k xs)
+pub more_back : {X : Type 0} (k : X → List Event → List Event) → ((x : X) → Back (k x)) → (xs : List X) → Back (more_events k xs)
 more_back {X} k f [] q h = h
 more_back {X} k f (x ∷ xs) q h = before Outside q (f x (Outside ∷ q) (more_back k f xs (k x (Outside ∷ q)) h))
 
-rest_back : {X : Type 0} (k : X → List Event → List Event) → ((x : X) → Back (k x)) → (xs : List X) (trailing : Bool) → Back (rest_events k xs trailing)
+pub rest_back : {X : Type 0} (k : X → List Event → List Event) → ((x : X) → Back (k x)) → (xs : List X) (trailing : Bool) → Back (rest_events k xs trailing)
 rest_back {X} k f [] trailing q h = word_back trailing q (before Outside (word_events trailing q) h)
 rest_back {X} k f (x ∷ xs) trailing q h = before Outside q (f x (Outside ∷ q) (rest_back k f xs trailing (k x (Outside ∷ q)) h))
 
-size_back : (x : Size) → Back (size_events x)
+pub size_back : (x : Size) → Back (size_events x)
 size_back NoSize q h = h
 size_back Unsized q h = before Outside q (before Outside (Outside ∷ q) h)
 size_back (Sized d) q h = before Outside q (conditional_back d (Outside ∷ q) (before Outside (conditional_events d (Outside ∷ q)) h))
 
-initialiser_back : (i : Initialiser) → Back (initialiser_events i)
+pub initialiser_back : (i : Initialiser) → Back (initialiser_events i)
 initialiser_back (OneValue a) q h = assignment_back a q h
 initialiser_back (ValueList a xs trailing) q h =
     before Outside q (assignment_back a (Outside ∷ q) (rest_back assignment_events assignment_back xs trailing (assignment_events a (Outside ∷ q)) h))
 
-value_back : (o : Option Initialiser) → Back (value_events o)
+pub value_back : (o : Option Initialiser) → Back (value_events o)
 value_back None q h = h
 value_back (Some i) q h = before Outside q (initialiser_back i (Outside ∷ q) h)
 
-declarator_back : (d : Declarator) → Back (declarator_events d)
+pub declarator_back : (d : Declarator) → Back (declarator_events d)
 declarator_back (Declared size value) q h = before Outside q (size_back size (Outside ∷ q) (value_back value (size_events size (Outside ∷ q)) h))
 
-local_back : (x : Local) → Back (local_events x)
+pub local_back : (x : Local) → Back (local_events x)
 local_back (Locals constant n d ds) q h =
     let r = word_events constant q in
     let u = type_events n r in
     let v = declarator_events d u in
     word_back constant q (type_back n r (declarator_back d u (more_back declarator_events declarator_back ds v (before Outside (more_events declarator_events ds v) h))))
 
-label_back : (x : Label) → Back (label_events x)
+pub label_back : (x : Label) → Back (label_events x)
 label_back NameLabel q h = before Uncounted q (before Outside (Uncounted ∷ q) h)
 label_back (CaseLabel d) q h = before Outside q (conditional_back d (Outside ∷ q) (before Outside (conditional_events d (Outside ∷ q)) h))
 label_back DefaultLabel q h = before Outside q (before Outside (Outside ∷ q) h)
 
-start_back : (x : ForStart) → Back (for_start_events x)
+pub start_back : (x : ForStart) → Back (for_start_events x)
 start_back (StartLocal x) q h = local_back x q h
 start_back (StartValue o) q h = optional_back o q (before Outside (optional_events o q) h)
 
@@ -184,7 +184,7 @@ body_deep (Labelled x t) g level at q h = opened _ level q (g (level + 1) at (Op
 flat : (level : ℕ) (q : List Event) → first_over q ≡ None → Deep 0 level q
 flat level q h = record { none = h; low = λ l. omega (arith, l) }
 
-tested : (e : Expression) (q : List Event) → first_over (Outside ∷ expression_events e (Outside ∷ Outside ∷ q)) ≡ None → first_over q ≡ None
+pub tested : (e : Expression) (q : List Event) → first_over (Outside ∷ expression_events e (Outside ∷ Outside ∷ q)) ≡ None → first_over q ≡ None
 tested e q h = let r = Outside ∷ Outside ∷ q in before Outside q (before Outside (Outside ∷ q) (expression_back e r (before Outside (expression_events e r) h)))
 
 mutual
@@ -257,27 +257,27 @@ constant_back : (o : Option Conditional) → Back (constant_events o)
 constant_back None q h = h
 constant_back (Some d) q h = before Outside q (conditional_back d (Outside ∷ q) h)
 
-enumerator_back : (o : Option Conditional) → Back (enumerator_events o)
+pub enumerator_back : (o : Option Conditional) → Back (enumerator_events o)
 enumerator_back o q h = before Outside q (constant_back o (Outside ∷ q) h)
 
-enumeration_back : (x : Enumeration) → Back (enumeration_events x)
+pub enumeration_back : (x : Enumeration) → Back (enumeration_events x)
 enumeration_back (Enumerated o xs trailing) q h =
     let r = Outside ∷ Outside ∷ q in
     let u = enumerator_events o r in
     before Outside q (before Outside (Outside ∷ q) (enumerator_back o r (rest_back enumerator_events enumerator_back xs trailing u (before Outside (rest_events enumerator_events xs trailing u) h))))
 
-parameter_back : (x : Parameter) → Back (parameter_events x)
+pub parameter_back : (x : Parameter) → Back (parameter_events x)
 parameter_back (Typed constant n named size) q h =
     let r = word_events constant q in
     let u = type_events n r in
     word_back constant q (type_back n r (word_back named u (size_back size (word_events named u) h)))
 
-parameters_back : (xs : Parameters) → Back (parameters_events xs)
+pub parameters_back : (xs : Parameters) → Back (parameters_events xs)
 parameters_back NoParameters q h = h
 parameters_back VoidParameters q h = before Outside q h
 parameters_back (SomeParameters x xs) q h = parameter_back x q (more_back parameter_events parameter_back xs (parameter_events x q) h)
 
-result_back : (o : Option NumberType) → Back (result_events o)
+pub result_back : (o : Option NumberType) → Back (result_events o)
 result_back None q h = before Outside q h
 result_back (Some n) q h = type_back n q h
 
@@ -290,7 +290,7 @@ body_shallow (Some (Braces xs)) at q h =
     let a = d.low (level_low 1 q (m.1)) in
     (omega (arith, a), m.0)
 
-top_shallow : (x : Top) (word : ℕ → List ℕ) (at : ℕ) (q : List Event) → first_over (top_events x q) ≡ None → IsShallow (s.From at (top_end at x) (written_form word at x)) × (first_over q ≡ None)
+pub top_shallow : (x : Top) (word : ℕ → List ℕ) (at : ℕ) (q : List Event) → first_over (top_events x q) ≡ None → IsShallow (s.From at (top_end at x) (written_form word at x)) × (first_over q ≡ None)
 top_shallow Line word at q h = (tt, before Outside q h)
 top_shallow (OfEnum x) word at q h = (tt, enumeration_back x q h)
 top_shallow (OfDeclaration (Declares static x)) word at q h = (tt, word_back static q (local_back x (word_events static q) h))

@@ -1,24 +1,31 @@
--- The directives of a closed text are `#include` lines.
-use Rattle.std.proofs.Common.{◌≡◌, ◌+◌, ℕ, Bool, true, false, cond, not, ◌==◌, suc, List, [], ◌∷◌, ◌++◌, map, drop, get_or, refl, ap, sym, subst, ◌∙◌, arith}
+-- The directives of a text are `#include` lines.
+use Rattle.std.proofs.Common.{◌≡◌, ◌+◌, ℕ, Bool, true, false, cond, not, ◌==◌, suc, List, [], ◌∷◌, ◌++◌, drop, get_or, Option, Some, None, refl, ap, sym, ◌∙◌, arith}
 use Rattle.std.specs.Prelude.{codes, slice_range, nat_eq}
 use Rattle.std.specs.List.{prefix_len, starts_with}
 use Rattle.std.proofs.lemmas.Bool.Decides.{Decides-eqb}
 use Rattle.std.proofs.lemmas.Slice.Eq.{starts_is}
 use Rattle.c_types.specs.Words.{is_word_byte, is_keyword}
 use Rattle.c_lexer.specs.declared.token.Token.{Token}
+use Rattle.c_lexer.specs.declared.token.TokenKind.{TokenKind}
 use Rattle.c_lexer.specs.declared.token.TokenKind.TheVariants as k
+use Rattle.c_lexer.specs.declared.mark.Mark.{Mark}
+use Rattle.c_lexer.specs.declared.mark.Mark.TheVariants as m
+use Rattle.c_lexer.specs.Marks.{mark_of}
 use Rattle.c_lexer.specs.Bytes.{is_blank}
-use Rattle.c_lexer.specs.Pieces.{Piece, text, spelled, bare, onto_bare, begins_with_include, is_include, word_kind, tokens_of, first_behind, Good, Fits, Longest, Spells}
+use Rattle.c_lexer.specs.Pieces.{Piece, text, bare, onto_bare, begins_with_include, is_include, word_kind, tokens_of, Fits, Longest, Spells}
 use Rattle.c_lexer.specs.Pieces as l
-use Rattle.c_lexer.proofs.PieceLemmas.{spelled_split}
 use Rattle.c_lexer.proofs.Truths.{both_true}
+use Rattle.c_grammar.specs.declared.class.Class.{Class}
+use Rattle.c_grammar.specs.declared.class.Class.TheVariants as c
+use Rattle.c_grammar.specs.TokenClasses.{class_of, class_of_bytes, class_of_found, classes_of}
+use Rattle.c_source.specs.Words.{word_of}
 use Rattle.c_resolved.specs.Verbatims.{IsDirective, IsOneLine}
 use Rattle.c_resolved.specs.Within.{Each}
-use Rattle.printed_syntax.specs.Reread.{Spelling, spelling_of, spellings, read_at}
-use Rattle.printed_syntax.proofs.Tokens.{tokens_read}
-use Rattle.derived_source.specs.Closed.{is_closed, IsDirectiveToken}
-use Rattle.derived_source.proofs.Lines.{begins_with, closed_rest, one_line}
-use Rattle.derived_source.proofs.Comments.{text_first}
+use Rattle.printed_syntax.specs.Reread.{Spelling, spelling_of}
+use Rattle.derived_source.specs.Directives.{IsDirectiveToken}
+use Rattle.derived_source.proofs.Lines.{begins_with, one_line}
+use Rattle.derived_source.proofs.Numbered.{each_token, Along, along}
+use Rattle.derived_source.proofs.Classes.{apart, from_keyword}
 
 -- ---- the word `include` stands in the bare line too
 
@@ -82,31 +89,47 @@ of_word : (w v : List ℕ) (b : Bool) → IsDirectiveToken (cond b k.Keyword k.N
 of_word w v true = tt
 of_word w v false = tt
 
-piece_lines : (first : Bool) (p : Piece) (r : List ℕ) → Fits first p → Longest p r → begins_with 92 r ≡ false → is_closed (spelled p r) ≡ true → Each IsLineHere (spelling_of p)
-piece_lines first (l.Directive w) r f m n e = (directive_is (bare w) (one_line 35 refl w r m n e) (include_bare w (f.1)), tt)
-piece_lines first (l.Word w) r f m n e = (of_word w w (is_keyword w), tt)
-piece_lines first (l.Number w) r f m n e = (tt, tt)
-piece_lines first (l.Char x) r f m n e = (tt, tt)
-piece_lines first (l.Text xs) r f m n e = (tt, tt)
-piece_lines first (l.Sign x) r f m n e = (tt, tt)
-piece_lines first (l.Space b) r f m n e = tt
-piece_lines first (l.Line w) r f m n e = tt
-piece_lines first (l.Block w) r f m n e = tt
+piece_lines : (first : Bool) (p : Piece) (r : List ℕ) → Fits first p → Longest p r → begins_with 92 r ≡ false → Each IsLineHere (spelling_of p)
+piece_lines first (l.Directive w) r f m n = (directive_is (bare w) (one_line w r m n) (include_bare w (f.1)), tt)
+piece_lines first (l.Word w) r f m n = (of_word w w (is_keyword w), tt)
+piece_lines first (l.Number w) r f m n = (tt, tt)
+piece_lines first (l.Char x) r f m n = (tt, tt)
+piece_lines first (l.Text xs) r f m n = (tt, tt)
+piece_lines first (l.Sign x) r f m n = (tt, tt)
+piece_lines first (l.Space b) r f m n = tt
+piece_lines first (l.Line w) r f m n = tt
+piece_lines first (l.Block w) r f m n = tt
 
-both : (xs ys : List Spelling) → Each IsLineHere xs → Each IsLineHere ys → Each IsLineHere (xs ++ ys)
-both [] ys g h = h
-both (x ∷ xs) ys g h = (g.0, both xs ys (g.1) h)
+pub directives : (pieces : List Piece) (t : List ℕ) → Spells pieces t → Each (λ (x : Token). IsDirectiveToken x.kind (slice_range t x.start x.end)) (tokens_of pieces)
+directives pieces t s = each_token IsLineHere piece_lines pieces t s
 
-all_lines : (first : Bool) (ps : List Piece) → Good first ps [] → is_closed (text ps []) ≡ true → Each IsLineHere (spellings ps)
-all_lines first [] g e = tt
-all_lines first (p ∷ ps) g e =
-    both (spelling_of p) (spellings ps) (piece_lines first p (text ps []) (g.0) (g.1) (text_first (first_behind first p) ps (g.2)) e)
-    (all_lines (first_behind first p) ps (g.2) (closed_rest (spelled p []) (text ps []) (ap is_closed (sym (spelled_split p (text ps []))) ∙ e)))
+-- ---- by their classes
 
-unmapped : (t : List ℕ) (xs : List Token) → Each IsLineHere (map (read_at t) xs) → Each (λ (x : Token). IsDirectiveToken x.kind (slice_range t x.start x.end)) xs
-unmapped t [] h = tt
-unmapped t (x ∷ xs) h = (h.0, unmapped t xs (h.1))
+-- a token of the class of directives is an `#include` line
+abbrev pub IsLine : Class → List ℕ → Type 0
+IsLine class w = class ≡ c.Directive → IsDirective w
 
-pub directives : (pieces : List Piece) (t : List ℕ) → Spells pieces t → is_closed t ≡ true → Each (λ (x : Token). IsDirectiveToken x.kind (slice_range t x.start x.end)) (tokens_of pieces)
-directives pieces t s e =
-    unmapped t (tokens_of pieces) (subst (λ xs. Each IsLineHere xs) (sym (tokens_read t pieces (s.spells))) (all_lines true pieces (s.good) (ap is_closed (sym (s.spells)) ∙ e)))
+abbrev is_directive : Class → Bool
+is_directive c.Directive = true
+is_directive _ = false
+
+mark_no_directive : (o : Option Mark) → is_directive (class_of_found o) ≡ false
+mark_no_directive None = refl
+mark_no_directive (Some m.Dot) = refl
+mark_no_directive (Some _) = refl
+
+line_there : (kind : TokenKind) (w : List ℕ) → IsDirectiveToken kind w → IsLine (class_of_bytes kind w) w
+line_there k.Directive w h e = h
+line_there k.Mark w h e = apart is_directive (class_of_found (mark_of w)) c.Directive (mark_no_directive (mark_of w)) refl e
+line_there k.Keyword w h e = from_keyword w c.Directive refl e
+line_there k.Name w h e = apart is_directive c.Name c.Directive refl refl e
+line_there k.Number w h e = apart is_directive c.Number c.Directive refl refl e
+line_there k.Char w h e = apart is_directive c.Character c.Directive refl refl e
+line_there k.Text w h e = apart is_directive c.Text c.Directive refl refl e
+
+class_lines : (t : List ℕ) (xs : List Token) → Each (λ (x : Token). IsDirectiveToken x.kind (slice_range t x.start x.end)) xs → Each (λ x. IsLine (class_of t x) (slice_range t x.start x.end)) xs
+class_lines t [] h = tt
+class_lines t (x ∷ xs) h = (line_there x.kind (slice_range t x.start x.end) (h.0), class_lines t xs (h.1))
+
+pub lines : (pieces : List Piece) (t : List ℕ) → Spells pieces t → Along IsLine (word_of t (tokens_of pieces)) 0 (classes_of t (tokens_of pieces) ++ c.End ∷ [])
+lines pieces t s = along IsLine (λ e. apart is_directive c.End c.Directive refl refl e) pieces t s (class_lines t (tokens_of pieces) (directives pieces t s))

@@ -1,4 +1,4 @@
--- What is derived ends no earlier than it begins, and behind each of its cases.
+-- What is derived ends no earlier than it begins, and behind two tokens for each of its cases.
 use Rattle.std.proofs.Common.{◌≡◌, ◌≤◌, ◌<◌, ◌+◌, ℕ, Bool, true, false, List, [], ◌∷◌, Option, Some, None, refl, arith}
 use Rattle.c_grammar.specs.declared.class.Class.{Class}
 use Rattle.c_grammar.specs.Expressions.{Base, CharBase, IntBase, LongBase, LongIntBase, NumberType, OfBase, Signed, SignedOf, Unsigned, UnsignedOf, Expression, One, More, Assignment, To, Value, Conditional, Choose, Only, Binary, Single, Both, Unary, Prefixed, StepTo, CastTo, CastVoid, Place, StepAfter, CallNone, CallWith, Number, Character, Within, Target, Variable, Cell, Round, Arguments, Last, Then, Argument, Given, Written, Texts, OneText, MoreTexts}
@@ -118,29 +118,32 @@ start_on : (at : ℕ) (x : ForStart) → at ≤ for_start_end at x
 start_on at (StartLocal x) = local_on at x
 start_on at (StartValue o) = let h = optional_on at o in omega (arith, h)
 
--- ---- statements, with the cases in them
+-- ---- statements, with the cases in them, each of which has two tokens at least
+
+abbrev pub twice : ℕ → ℕ
+twice n = n + n
 
 body_is : (first after : ℕ) (ls : List s.Label) (p : s.Plain) → body_cases (list_of_plain first after ls p) ≡ label_cases ls + plain_cases p
 body_is first after [] (s.From a b (s.Block list)) = omega arith
 body_is first after [] (s.From a b _) = refl
 body_is first after (l ∷ ls) p = refl
 
-around : (t : Statement) (at : ℕ) → label_cases (written_labels at t) + plain_cases (behind_labels at t) + at ≤ statement_end at t → body_cases (written_body at t) + at ≤ statement_end at t
+around : (t : Statement) (at : ℕ) → twice (label_cases (written_labels at t) + plain_cases (behind_labels at t)) + at < statement_end at t → twice (body_cases (written_body at t)) + at < statement_end at t
 around t at h = let e = body_is at (statement_end at t) (written_labels at t) (behind_labels at t) in omega (arith, e, h)
 
 mutual
-  items_cases : (xs : Items) (at : ℕ) → list_cases (written_items at xs) + at ≤ items_end at xs
+  items_cases : (xs : Items) (at : ℕ) → twice (list_cases (written_items at xs)) + at ≤ items_end at xs
   items_cases NoItems at = omega arith
   items_cases (LocalItem x xs) at = let g = local_on at x in let h = items_cases xs (local_end at x) in omega (arith, g, h)
   items_cases (StatementItem t xs) at = let g = cases t at in let h = items_cases xs (statement_end at t) in omega (arith, g, h)
 
-  cases : (t : Statement) (at : ℕ) → label_cases (written_labels at t) + plain_cases (behind_labels at t) + at ≤ statement_end at t
+  cases : (t : Statement) (at : ℕ) → twice (label_cases (written_labels at t) + plain_cases (behind_labels at t)) + at < statement_end at t
   cases (Labelled NameLabel t) at = let h = cases t (at + 1 + 1) in omega (arith, h)
   cases (Labelled (CaseLabel d) t) at = let g = conditional_on (at + 1) d in let h = cases t (conditional_end (at + 1) d + 1) in omega (arith, g, h)
   cases (Labelled DefaultLabel t) at = let h = cases t (at + 1 + 1) in omega (arith, h)
   cases (Unlabelled x) at = let h = plain_few x at in omega (arith, h)
 
-  plain_few : (x : Plain) (at : ℕ) → statement_cases (written_plain at x) + at ≤ plain_end at x
+  plain_few : (x : Plain) (at : ℕ) → twice (statement_cases (written_plain at x)) + at < plain_end at x
   plain_few (Compound (Braces xs)) at = let h = items_cases xs (at + 1) in omega (arith, h)
   plain_few (Simple None) at = omega arith
   plain_few (Simple (Some e)) at = let h = expression_on at e in omega (arith, h)
@@ -161,9 +164,9 @@ mutual
   plain_few Continue at = omega arith
   plain_few (Return o) at = let h = optional_on (at + 1) o in omega (arith, h)
 
-pub body_few : (t : Statement) (at : ℕ) → body_cases (written_body at t) + at ≤ statement_end at t
+pub body_few : (t : Statement) (at : ℕ) → twice (body_cases (written_body at t)) + at < statement_end at t
 body_few t at = around t at (cases t at)
 
-pub stand_below : (word : ℕ → List ℕ) (r : List Class) (at : ℕ) → Stand word at r → at < 2147483648
+pub stand_below : (word : ℕ → List ℕ) (r : List Class) (at : ℕ) → Stand word at r → at ≤ 4294967296
 stand_below word [] at s = s
 stand_below word (k ∷ r) at s = let h = stand_below word r (at + 1) (s.1) in omega (arith, h)

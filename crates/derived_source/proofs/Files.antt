@@ -10,7 +10,6 @@ use Rattle.c_grammar.specs.StatementSyntax.{word_end, more_end, rest_end}
 use Rattle.c_grammar.specs.Files.{Parameter, Typed, Parameters, NoParameters, VoidParameters, SomeParameters, Enumeration, Enumerated, Declares, Function, Defined, Top, Line, OfEnum, OfDeclaration, OfFunction, parameter_tokens, parameters_tokens, constant_tokens, enumerator_tokens, enumeration_tokens, result_tokens, body_tokens, function_tokens, top_tokens, file_tokens, FitsParameter, FitsParameters, FitsConstant, FitsEnumeration, FitsBody, FitsFunction, FitsTop, FitsFile}
 use Rattle.c_grammar.specs.FileSyntax.{parameter_end, parameters_end, enumerator_end, enumeration_end, result_end, body_end, function_end, top_end}
 use Rattle.c_source.specs.Tops as s
-use Rattle.c_statements.specs.declared.anchors.Anchor.{Anchor}
 use Rattle.c_resolved.specs.PrintableExpressions.{AreBytes}
 use Rattle.c_resolved.specs.Within.{Each}
 use Rattle.reread_core.specs.Keywords.{BodyHasKeywords, FunctionHasKeywords}
@@ -19,24 +18,23 @@ use Rattle.reread_core.specs.WrittenFiles.{written_enumerator, further_enumerato
 use Rattle.resolving_core.specs.Read.{IsNameAt, IsReadParameter, IsReadBody}
 use Rattle.derived_source.specs.Classed.{Stand}
 use Rattle.derived_source.specs.Formed.{IsFormedEnumerator, IsFormedFunction, IsFormed, IsFormedTop}
-use Rattle.derived_source.specs.Quiet.{IsQuietBlock, IsQuietFunction, IsQuietTop, IsQuietFile}
 use Rattle.derived_source.proofs.Classes.{name_there}
 use Rattle.derived_source.proofs.Expressions.{type_read, conditional_read}
 use Rattle.derived_source.proofs.Declarations.{word_read, size_read, local_read}
 use Rattle.derived_source.proofs.Statements.{items_read}
 
-module _ (word : ℕ → List ℕ) (bytes : (at : ℕ) → AreBytes (word at)) (notes : Anchor → List (List ℕ)) where
+module _ (word : ℕ → List ℕ) (bytes : (at : ℕ) → AreBytes (word at)) where
   -- ---- enums
 
-  constant_read : (at : ℕ) (o : Option Conditional) (r : List Class) → FitsConstant o → Stand word (at + 1) (constant_tokens o r) → IsNameAt word at → IsFormedEnumerator word notes (written_enumerator at o) × Stand word (enumerator_end at o) r
+  constant_read : (at : ℕ) (o : Option Conditional) (r : List Class) → FitsConstant o → Stand word (at + 1) (constant_tokens o r) → IsNameAt word at → IsFormedEnumerator word (written_enumerator at o) × Stand word (enumerator_end at o) r
   constant_read at None r f s n = (record { named = n; value = tt }, s)
   constant_read at (Some d) r f s n = let x = conditional_read word bytes (at + 1 + 1) d r f (s.1) in (record { named = n; value = x.0 }, x.1)
 
-  enumerator_read : (at : ℕ) (o : Option Conditional) (r : List Class) → FitsConstant o → Stand word at (enumerator_tokens o r) → IsFormedEnumerator word notes (written_enumerator at o) × Stand word (enumerator_end at o) r
+  enumerator_read : (at : ℕ) (o : Option Conditional) (r : List Class) → FitsConstant o → Stand word at (enumerator_tokens o r) → IsFormedEnumerator word (written_enumerator at o) × Stand word (enumerator_end at o) r
   enumerator_read at o r f s = constant_read at o r f (s.1) (name_there (word at) (s.0))
 
   enumerators_read : (xs : List (Option Conditional)) (at : ℕ) (trailing : Bool) (r : List Class) → FitsMore FitsConstant xs → Stand word at (rest_tokens enumerator_tokens xs trailing r)
-      → Each (IsFormedEnumerator word notes) (further_enumerators at xs) × Stand word (rest_end enumerator_end at xs trailing) r
+      → Each (IsFormedEnumerator word) (further_enumerators at xs) × Stand word (rest_end enumerator_end at xs trailing) r
   enumerators_read [] at true r f s = (tt, (s.1).1)
   enumerators_read [] at false r f s = (tt, s.1)
   enumerators_read (o ∷ xs) at trailing r f s =
@@ -44,7 +42,7 @@ module _ (word : ℕ → List ℕ) (bytes : (at : ℕ) → AreBytes (word at)) (
       let y = enumerators_read xs (enumerator_end (at + 1) o) trailing r (f.1) (x.1) in
       ((x.0, y.0), y.1)
 
-  enumeration_read : (at : ℕ) (x : Enumeration) (r : List Class) → FitsEnumeration x → Stand word at (enumeration_tokens x r) → IsFormed word notes (s.Enum (written_enumeration at x)) × Stand word (enumeration_end at x) r
+  enumeration_read : (at : ℕ) (x : Enumeration) (r : List Class) → FitsEnumeration x → Stand word at (enumeration_tokens x r) → IsFormed word (s.Enum (written_enumeration at x)) × Stand word (enumeration_end at x) r
   enumeration_read at (Enumerated o xs trailing) r f s =
       let x = enumerator_read (at + 1 + 1) o (rest_tokens enumerator_tokens xs trailing (c.Semicolon ∷ r)) (f.0) ((s.1).1) in
       let y = enumerators_read xs (enumerator_end (at + 1 + 1) o) trailing (c.Semicolon ∷ r) (f.1) (x.1) in
@@ -86,14 +84,14 @@ module _ (word : ℕ → List ℕ) (bytes : (at : ℕ) → AreBytes (word at)) (
   result_read at None r s = s.1
   result_read at (Some n) r s = type_read word bytes at n r s
 
-  body_read : (at : ℕ) (b : Option Block) (r : List Class) → FitsBody b → IsQuietBlock word notes at b → Stand word at (body_tokens b r)
-      → IfSome (written_function_body at b) (IsReadBody word notes) × BodyHasKeywords word at b × Stand word (body_end at b) r
-  body_read at None r f q s = (tt, tt, s.1)
-  body_read at (Some (Braces xs)) r f q s = let m = items_read word bytes notes (at + 1) xs (c.CloseBlock ∷ r) f q (s.1) in (m.items, m.keywords, (m.behind).1)
+  body_read : (at : ℕ) (b : Option Block) (r : List Class) → FitsBody b → Stand word at (body_tokens b r)
+      → IfSome (written_function_body at b) (IsReadBody word) × BodyHasKeywords word at b × Stand word (body_end at b) r
+  body_read at None r f s = (tt, tt, s.1)
+  body_read at (Some (Braces xs)) r f s = let m = items_read word bytes (at + 1) xs (c.CloseBlock ∷ r) f (s.1) in (m.items, m.keywords, (m.behind).1)
 
-  function_read : (at : ℕ) (x : Function) (r : List Class) → FitsFunction x → IsQuietFunction word notes at x → Stand word at (function_tokens x r)
-      → IsFormedFunction word notes (written_function word at x) × FunctionHasKeywords word at x × Stand word (function_end at x) r
-  function_read at (Defined static n xs b) r f q s =
+  function_read : (at : ℕ) (x : Function) (r : List Class) → FitsFunction x → Stand word at (function_tokens x r)
+      → IsFormedFunction word (written_function word at x) × FunctionHasKeywords word at x × Stand word (function_end at x) r
+  function_read at (Defined static n xs b) r f s =
       let w = word_end at static in
       let x = result_end w n in
       let y = parameters_end (x + 1 + 1) xs in
@@ -101,22 +99,22 @@ module _ (word : ℕ → List ℕ) (bytes : (at : ℕ) → AreBytes (word at)) (
       let u = word_read word bytes at static c.Static (result_tokens n rest) s in
       let v = result_read w n rest u in
       let p = parameters_read (x + 1 + 1) xs (c.Close ∷ body_tokens b r) (f.0) ((v.1).1) in
-      let m = body_read (y + 1) b r (f.1) q ((p.1).1) in
+      let m = body_read (y + 1) b r (f.1) ((p.1).1) in
       (record { named = name_there (word x) (v.0); parameters = p.0; body = m.0 }, m.1, m.2)
 
   -- ---- files
 
-  top_read : (at : ℕ) (x : Top) (r : List Class) → FitsTop x → IsQuietTop word notes at x → Stand word at (top_tokens x r)
-      → IsFormed word notes (written_form word at x) × TopHasKeywords word at x × Stand word (top_end at x) r
-  top_read at Line r f q s = (tt, tt, s.1)
-  top_read at (OfEnum x) r f q s = let m = enumeration_read at x r f s in (m.0, tt, m.1)
-  top_read at (OfDeclaration (Declares static x)) r f q s =
+  top_read : (at : ℕ) (x : Top) (r : List Class) → FitsTop x → Stand word at (top_tokens x r)
+      → IsFormed word (written_form word at x) × TopHasKeywords word at x × Stand word (top_end at x) r
+  top_read at Line r f s = (tt, tt, s.1)
+  top_read at (OfEnum x) r f s = let m = enumeration_read at x r f s in (m.0, tt, m.1)
+  top_read at (OfDeclaration (Declares static x)) r f s =
       let m = local_read word bytes (word_end at static) x r f (word_read word bytes at static c.Static _ s) in (m.0, tt, m.1)
-  top_read at (OfFunction x) r f q s = function_read at x r f q s
+  top_read at (OfFunction x) r f s = function_read at x r f s
 
-  pub file_read : (xs : List Top) (at : ℕ) (r : List Class) → FitsFile xs → IsQuietFile word notes at xs → Stand word at (file_tokens xs r) → Each (IsFormedTop word notes) (written_tops word at xs) × FileHasKeywords word at xs
-  file_read [] at r f q s = (tt, tt)
-  file_read (x ∷ xs) at r f q s =
-      let m = top_read at x (file_tokens xs r) (f.0) (q.0) s in
-      let n = file_read xs (top_end at x) r (f.1) (q.1) (m.2) in
+  pub file_read : (xs : List Top) (at : ℕ) (r : List Class) → FitsFile xs → Stand word at (file_tokens xs r) → Each (IsFormedTop word) (written_tops word at xs) × FileHasKeywords word at xs
+  file_read [] at r f s = (tt, tt)
+  file_read (x ∷ xs) at r f s =
+      let m = top_read at x (file_tokens xs r) (f.0) s in
+      let n = file_read xs (top_end at x) r (f.1) (m.2) in
       ((m.0, n.0), (m.1, n.1))

@@ -1,11 +1,11 @@
 pub mod Bytes
 pub mod Classes
+pub mod Numbered
 pub mod Words
 pub mod Expressions
 pub mod Declarations
 pub mod Ends
 pub mod Statements
-pub mod Silence
 pub mod Files
 pub mod Depths
 pub mod Lines

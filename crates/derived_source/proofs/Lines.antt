@@ -2,16 +2,14 @@
 use Rattle.std.proofs.Common.{◌≡◌, ◌+◌, ℕ, Bool, true, false, cond, not, ◌&&◌, ◌==◌, List, [], ◌∷◌, ◌++◌, Option, Some, None, refl, ap, sym, ◌∙◌, true≢false}
 use Rattle.std.specs.Option.{option_map}
 use Rattle.std.proofs.lemmas.Bool.{eqb-true}
-use Rattle.std.proofs.lemmas.List.{append-nil}
 use Rattle.std.specs.List.{list_all}
 use Rattle.c_lexer.specs.Bytes.{is_space, is_newline}
 use Rattle.c_lexer.specs.Machine.{continued_at}
 use Rattle.c_lexer.specs.Pieces.{bare, onto_bare, runs_on, comes_to_newline, IsLine}
-use Rattle.c_lexer.proofs.Lines.{has_no_newline, no_newline, not_continued, runs_to_newline}
+use Rattle.c_lexer.proofs.Lines.{has_no_newline, NewlineNext, no_newline, not_continued, runs_to_newline}
 use Rattle.c_lexer.proofs.Truths.{both_true, second_of}
 use Rattle.c_resolved.specs.Verbatims.{IsOneLine}
 use Rattle.printed_syntax.proofs.Tokens.{bare_front}
-use Rattle.derived_source.specs.Closed.{is_closed}
 
 -- ---- what is bare stays so
 
@@ -73,37 +71,20 @@ bare_whole (b ∷ w) h =
     by_rest [] e g = by_return (b == 13) e
     by_rest (d ∷ v) e g = joined (b == 92 && list_all is_space (d ∷ v)) (continued_at (d ∷ v)) e g
 
-before_newline : (w r : List ℕ) → runs_on w (10 ∷ r) ≡ true → IsOneLine (bare w)
-before_newline w r h =
-    record { whole = runs_to_newline (bare w) [] (bare_line w (no_newline w (10 ∷ r) h)) (bare_whole w (not_continued w r h)); ended = bare_twice w }
+before_newline : (w r : List ℕ) → NewlineNext r → runs_on w r ≡ true → IsOneLine (bare w)
+before_newline w r n h =
+    record { whole = runs_to_newline (bare w) (10 ∷ []) refl (bare_line w (no_newline w r h)) (bare_whole w (not_continued w r n h)); ended = bare_twice w }
 
--- ---- a line of a closed text ends with a newline
+-- ---- a line that no `\` ends is one
 
 abbrev pub begins_with : ℕ → List ℕ → Bool
 begins_with n [] = false
 begins_with n (b ∷ w) = b == n
 
-pub closed_rest : (v r : List ℕ) → is_closed (v ++ r) ≡ true → is_closed r ≡ true
-closed_rest [] r h = h
-closed_rest (b ∷ []) [] h = refl
-closed_rest (b ∷ []) (d ∷ r) h = h
-closed_rest (b ∷ d ∷ v) r h = closed_rest (d ∷ v) r h
-
-open_line : (w : List ℕ) (b : ℕ) → has_no_newline (b ∷ w) ≡ true → is_closed (b ∷ w) ≡ false
-open_line [] b h = by_test (b == 10) (both_true (not (b == 10)) true h).0
-  where
-    by_test : (x : Bool) → not x ≡ true → x ≡ false
-    by_test true e = cc
-    by_test false e = refl
-open_line (d ∷ w) b h = open_line w d (both_true (not (is_newline b)) (has_no_newline (d ∷ w)) h).1
-
--- behind its first byte, which is `/` or `#`
-pub one_line : (b : ℕ) → (b == 10) ≡ false → (w r : List ℕ) → IsLine w r → begins_with 92 r ≡ false → is_closed (b ∷ w ++ r) ≡ true → IsOneLine (bare w)
-one_line b n w [] h g e =
-    let l : has_no_newline (b ∷ w) ≡ true = rw (n, no_newline w [] (h.0)) refl in
-    absurd (true≢false (sym e ∙ ap (λ v. is_closed (b ∷ v)) (append-nil w) ∙ open_line w b l))
-one_line b n w (d ∷ r) h g e = by_newline (d == 10) refl
+pub one_line : (w r : List ℕ) → IsLine w r → begins_with 92 r ≡ false → IsOneLine (bare w)
+one_line w [] h g = before_newline w [] tt (h.0)
+one_line w (d ∷ r) h g = by_newline (d == 10) refl
   where
     by_newline : (x : Bool) → (d == 10) ≡ x → IsOneLine (bare w)
-    by_newline true f = before_newline w r (ap (λ z. runs_on w (z ∷ r)) (sym (eqb-true d 10 f)) ∙ h.0)
+    by_newline true f = before_newline w (d ∷ r) f (h.0)
     by_newline false f = absurd (true≢false (sym (both_true (d == 92) (comes_to_newline r) (second_of (d == 10) _ f (h.1))).0 ∙ g))

@@ -8,20 +8,18 @@ use Rattle.c_grammar.specs.Statements.{Label, NameLabel, CaseLabel, DefaultLabel
 use Rattle.c_grammar.specs.StatementSyntax.{optional_end, local_end, label_end, for_start_end, items_end, statement_end, plain_end}
 use Rattle.c_source.specs.Items as s
 use Rattle.c_source.specs.Parts.{list_of_plain}
-use Rattle.c_statements.specs.declared.anchors.Anchor.{Anchor}
 use Rattle.c_resolved.specs.PrintableExpressions.{AreBytes}
 use Rattle.c_resolved.specs.Within.{Each}
 use Rattle.reread_core.specs.Keywords.{LabelHasKeyword, ItemsHaveKeywords, HasKeywords, PlainHasKeywords}
 use Rattle.reread_core.specs.WrittenStatements.{written_label, written_start, written_labels, written_items, behind_labels, written_plain, written_body}
 use Rattle.resolving_core.specs.Read.{IsReadLabel, IsReadStart, IsReadPlain, IsReadStatement, IsReadBody, AreReadItems, body_cases}
 use Rattle.derived_source.specs.Classed.{Stand}
-use Rattle.derived_source.specs.Quiet.{AreQuiet, IsQuiet, IsQuietPlain}
 use Rattle.derived_source.proofs.Classes.{name_there, name_foreign, keyword_there, semicolon_foreign}
 use Rattle.derived_source.proofs.Expressions.{expression_read, conditional_read}
 use Rattle.derived_source.proofs.Declarations.{optional_read, local_read}
 use Rattle.derived_source.proofs.Ends.{body_few, stand_below}
 
-module _ (word : ℕ → List ℕ) (bytes : (at : ℕ) → AreBytes (word at)) (notes : Anchor → List (List ℕ)) where
+module _ (word : ℕ → List ℕ) (bytes : (at : ℕ) → AreBytes (word at)) where
   label_read : (at : ℕ) (x : Label) (r : List Class) → FitsLabel x → Stand word at (label_tokens x r) → IsReadLabel word (written_label at x) × LabelHasKeyword word at x × Stand word (label_end at x) r
   label_read at NameLabel r f s = (name_there (word at) (s.0), name_foreign (word at) (s.0), (s.1).1)
   label_read at (CaseLabel d) r f s = let x = conditional_read word bytes (at + 1) d (c.Colon ∷ r) f (s.1) in (x.0, tt, (x.1).1)
@@ -35,107 +33,107 @@ module _ (word : ℕ → List ℕ) (bytes : (at : ℕ) → AreBytes (word at)) (
   -- what is known of a statement, and of the tokens behind it
   record StatementRead (at : ℕ) (t : Statement) (r : List Class) : Type 0 where
     pub labels : Each (IsReadLabel word) (written_labels at t)
-    pub plain : IsReadPlain word notes (behind_labels at t)
+    pub plain : IsReadPlain word (behind_labels at t)
     pub keywords : HasKeywords word at t
     pub behind : Stand word (statement_end at t) r
 
   record PlainRead (at : ℕ) (x : Plain) (r : List Class) : Type 0 where
-    pub statement : IsReadStatement word notes (written_plain at x)
+    pub statement : IsReadStatement word (written_plain at x)
     pub keywords : PlainHasKeywords word at x
     pub behind : Stand word (plain_end at x) r
 
   pub record ItemsRead (at : ℕ) (xs : Items) (r : List Class) : Type 0 where
-    pub items : AreReadItems word notes (written_items at xs)
+    pub items : AreReadItems word (written_items at xs)
     pub keywords : ItemsHaveKeywords word at xs
     pub behind : Stand word (items_end at xs) r
 
-  as_list : (first after : ℕ) (ls : List s.Label) (p : s.Plain) → Each (IsReadLabel word) ls → IsReadPlain word notes p → IsReadBody word notes (list_of_plain first after ls p)
+  as_list : (first after : ℕ) (ls : List s.Label) (p : s.Plain) → Each (IsReadLabel word) ls → IsReadPlain word p → IsReadBody word (list_of_plain first after ls p)
   as_list first after [] (s.From a b (s.Block list)) g h = h
   as_list first after [] (s.From a b _) g h = (g, h)
   as_list first after (l ∷ ls) p g h = (g, h)
 
-  body_read : (at : ℕ) (t : Statement) (r : List Class) → StatementRead at t r → IsReadBody word notes (written_body at t)
+  body_read : (at : ℕ) (t : Statement) (r : List Class) → StatementRead at t r → IsReadBody word (written_body at t)
   body_read at t r x = as_list at (statement_end at t) (written_labels at t) (behind_labels at t) (x.labels) (x.plain)
 
   cases_few : (at : ℕ) (t : Statement) (r : List Class) → Stand word (statement_end at t) r → body_cases (written_body at t) < 2147483648
   cases_few at t r s = let g = body_few t at in let h = stand_below word r (statement_end at t) s in omega (arith, g, h)
 
   mutual
-    pub items_read : (at : ℕ) (xs : Items) (r : List Class) → FitsItems xs → AreQuiet word notes at xs → Stand word at (items_tokens xs r) → ItemsRead at xs r
-    items_read at NoItems r f q s = record { items = tt; keywords = tt; behind = s }
-    items_read at (LocalItem x xs) r f q s =
+    pub items_read : (at : ℕ) (xs : Items) (r : List Class) → FitsItems xs → Stand word at (items_tokens xs r) → ItemsRead at xs r
+    items_read at NoItems r f s = record { items = tt; keywords = tt; behind = s }
+    items_read at (LocalItem x xs) r f s =
         let m = local_read word bytes at x (items_tokens xs r) (f.0) s in
-        let n = items_read (local_end at x) xs r (f.1) q (m.1) in
+        let n = items_read (local_end at x) xs r (f.1) (m.1) in
         record { items = (m.0, n.items); keywords = n.keywords; behind = n.behind }
-    items_read at (StatementItem t xs) r f q s =
-        let m = statement_read at t (items_tokens xs r) (f.0) (q.0) s in
-        let n = items_read (statement_end at t) xs r (f.1) (q.1) (m.behind) in
+    items_read at (StatementItem t xs) r f s =
+        let m = statement_read at t (items_tokens xs r) (f.0) s in
+        let n = items_read (statement_end at t) xs r (f.1) (m.behind) in
         record { items = ((m.labels, m.plain), n.items); keywords = (m.keywords, n.keywords); behind = n.behind }
 
-    statement_read : (at : ℕ) (t : Statement) (r : List Class) → FitsStatement t → IsQuiet word notes at t → Stand word at (statement_tokens t r) → StatementRead at t r
-    statement_read at (Labelled x t) r f q s =
+    statement_read : (at : ℕ) (t : Statement) (r : List Class) → FitsStatement t → Stand word at (statement_tokens t r) → StatementRead at t r
+    statement_read at (Labelled x t) r f s =
         let m = label_read at x (statement_tokens t r) (f.0) s in
-        let n = statement_read (label_end at x) t r (f.1) q (m.2) in
+        let n = statement_read (label_end at x) t r (f.1) (m.2) in
         record { labels = (m.0, n.labels); plain = n.plain; keywords = (m.1, n.keywords); behind = n.behind }
-    statement_read at (Unlabelled x) r f q s =
-        let m = plain_read at x r f q s in
+    statement_read at (Unlabelled x) r f s =
+        let m = plain_read at x r f s in
         record { labels = tt; plain = m.statement; keywords = m.keywords; behind = m.behind }
 
-    plain_read : (at : ℕ) (x : Plain) (r : List Class) → FitsPlain x → IsQuietPlain word notes at x → Stand word at (plain_tokens x r) → PlainRead at x r
-    plain_read at (Compound (Braces xs)) r f q s =
-        let m = items_read (at + 1) xs (c.CloseBlock ∷ r) f q (s.1) in
+    plain_read : (at : ℕ) (x : Plain) (r : List Class) → FitsPlain x → Stand word at (plain_tokens x r) → PlainRead at x r
+    plain_read at (Compound (Braces xs)) r f s =
+        let m = items_read (at + 1) xs (c.CloseBlock ∷ r) f (s.1) in
         record { statement = m.items; keywords = m.keywords; behind = (m.behind).1 }
-    plain_read at (Simple None) r f q s = record { statement = tt; keywords = semicolon_foreign (word at) (s.0); behind = s.1 }
-    plain_read at (Simple (Some e)) r f q s =
+    plain_read at (Simple None) r f s = record { statement = tt; keywords = semicolon_foreign (word at) (s.0); behind = s.1 }
+    plain_read at (Simple (Some e)) r f s =
         let x = expression_read word bytes at e (c.Semicolon ∷ r) f s in
         record { statement = x.0; keywords = tt; behind = (x.1).1 }
-    plain_read at (If e t) r f q s =
+    plain_read at (If e t) r f s =
         let y = expression_end (at + 1 + 1) e + 1 in
         let x = expression_read word bytes (at + 1 + 1) e (c.Close ∷ statement_tokens t r) (f.0) ((s.1).1) in
-        let m = statement_read y t r (f.1) q ((x.1).1) in
+        let m = statement_read y t r (f.1) ((x.1).1) in
         record { statement = (x.0, body_read y t r m); keywords = (keyword_there c.If (word at) refl (s.0), m.keywords); behind = m.behind }
-    plain_read at (IfElse e t u) r f q s =
+    plain_read at (IfElse e t u) r f s =
         let y = expression_end (at + 1 + 1) e + 1 in
         let z = statement_end y t + 1 in
         let x = expression_read word bytes (at + 1 + 1) e (c.Close ∷ statement_tokens t (c.Else ∷ statement_tokens u r)) (f.0) ((s.1).1) in
-        let m = statement_read y t (c.Else ∷ statement_tokens u r) (f.1) (q.0) ((x.1).1) in
-        let n = statement_read z u r (f.3) (q.1) ((m.behind).1) in
+        let m = statement_read y t (c.Else ∷ statement_tokens u r) (f.1) ((x.1).1) in
+        let n = statement_read z u r (f.3) ((m.behind).1) in
         record {
           statement = (x.0, body_read y t (c.Else ∷ statement_tokens u r) m, body_read z u r n);
           keywords = (keyword_there c.If (word at) refl (s.0), m.keywords, n.keywords);
           behind = n.behind;
         }
-    plain_read at (While e t) r f q s =
+    plain_read at (While e t) r f s =
         let y = expression_end (at + 1 + 1) e + 1 in
         let x = expression_read word bytes (at + 1 + 1) e (c.Close ∷ statement_tokens t r) (f.0) ((s.1).1) in
-        let m = statement_read y t r (f.1) q ((x.1).1) in
+        let m = statement_read y t r (f.1) ((x.1).1) in
         record { statement = (x.0, body_read y t r m); keywords = (keyword_there c.While (word at) refl (s.0), m.keywords); behind = m.behind }
-    plain_read at (DoWhile t e) r f q s =
+    plain_read at (DoWhile t e) r f s =
         let rest = c.While ∷ c.Open ∷ expression_tokens e (c.Close ∷ c.Semicolon ∷ r) in
-        let m = statement_read (at + 1) t rest (f.0) q (s.1) in
+        let m = statement_read (at + 1) t rest (f.0) (s.1) in
         let x = expression_read word bytes (statement_end (at + 1) t + 1 + 1) e (c.Close ∷ c.Semicolon ∷ r) (f.1) (((m.behind).1).1) in
         record { statement = (body_read (at + 1) t rest m, x.0); keywords = (keyword_there c.Do (word at) refl (s.0), m.keywords); behind = ((x.1).1).1 }
-    plain_read at (For h t u b) r f q s =
+    plain_read at (For h t u b) r f s =
         let i = for_start_end (at + 1 + 1) h in
         let j = optional_end i t + 1 in
         let y = optional_end j u + 1 in
         let v = start_read (at + 1 + 1) h (optional_tokens t (c.Semicolon ∷ optional_tokens u (c.Close ∷ statement_tokens b r))) (f.0) ((s.1).1) in
         let w = optional_read word bytes i t (c.Semicolon ∷ optional_tokens u (c.Close ∷ statement_tokens b r)) (f.1) (v.1) in
         let x = optional_read word bytes j u (c.Close ∷ statement_tokens b r) (f.2) ((w.1).1) in
-        let m = statement_read y b r (f.3) q ((x.1).1) in
+        let m = statement_read y b r (f.3) ((x.1).1) in
         record { statement = (v.0, w.0, x.0, body_read y b r m); keywords = (keyword_there c.For (word at) refl (s.0), m.keywords); behind = m.behind }
-    plain_read at (Switch e t) r f q s =
+    plain_read at (Switch e t) r f s =
         let y = expression_end (at + 1 + 1) e + 1 in
         let x = expression_read word bytes (at + 1 + 1) e (c.Close ∷ statement_tokens t r) (f.0) ((s.1).1) in
-        let m = statement_read y t r (f.1) (q.0) ((x.1).1) in
+        let m = statement_read y t r (f.1) ((x.1).1) in
         record {
-          statement = (x.0, body_read y t r m, q.1, cases_few y t r (m.behind));
+          statement = (x.0, body_read y t r m, cases_few y t r (m.behind));
           keywords = (keyword_there c.Switch (word at) refl (s.0), m.keywords);
           behind = m.behind;
         }
-    plain_read at Goto r f q s = record { statement = name_there (word (at + 1)) ((s.1).0); keywords = keyword_there c.Goto (word at) refl (s.0); behind = ((s.1).1).1 }
-    plain_read at Break r f q s = record { statement = tt; keywords = keyword_there c.Break (word at) refl (s.0); behind = (s.1).1 }
-    plain_read at Continue r f q s = record { statement = tt; keywords = keyword_there c.Continue (word at) refl (s.0); behind = (s.1).1 }
-    plain_read at (Return o) r f q s =
+    plain_read at Goto r f s = record { statement = name_there (word (at + 1)) ((s.1).0); keywords = keyword_there c.Goto (word at) refl (s.0); behind = ((s.1).1).1 }
+    plain_read at Break r f s = record { statement = tt; keywords = keyword_there c.Break (word at) refl (s.0); behind = (s.1).1 }
+    plain_read at Continue r f s = record { statement = tt; keywords = keyword_there c.Continue (word at) refl (s.0); behind = (s.1).1 }
+    plain_read at (Return o) r f s =
         let x = optional_read word bytes (at + 1) o (c.Semicolon ∷ r) f (s.1) in
         record { statement = x.0; keywords = keyword_there c.Return (word at) refl (s.0); behind = (x.1).1 }

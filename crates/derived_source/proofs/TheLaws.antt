@@ -1,5 +1,5 @@
 -- The laws of derivations.
-use Rattle.std.proofs.Common.{◌≡◌, ◌+◌, ◌<◌, ℕ, List, [], ◌∷◌, length, ap, sym, subst, ◌∙◌}
+use Rattle.std.proofs.Common.{◌≡◌, ◌≤◌, ℕ, List, [], ◌∷◌, length, ap, sym, subst, ◌∙◌}
 use Rattle.c_lexer.specs.Pieces.{Piece, Spells, tokens_of}
 use Rattle.c_grammar.specs.declared.class.Class.TheVariants as c
 use Rattle.c_grammar.specs.declared.syntax.Syntax.{Syntax}
@@ -8,14 +8,12 @@ use Rattle.c_grammar.specs.Derives.{Derives}
 use Rattle.c_grammar.specs.Files.{file_tokens}
 use Rattle.c_source.specs.Words.{word_of}
 use Rattle.c_source.specs.Parts.{file_of}
-use Rattle.c_statements.specs.declared.anchors.Anchor.{Anchor}
 use Rattle.c_resolved.specs.PrintableExpressions.{AreBytes}
 use Rattle.c_resolved.specs.Within.{Each}
 use Rattle.reread_core.specs.WrittenFiles.{written_tops, FileHasKeywords}
 use Rattle.reread_core.proofs.FileSources.{file_writes}
 use Rattle.derived_source.specs.Classed.{Stand}
 use Rattle.derived_source.specs.Formed.{IsFormedTop, IsShallow}
-use Rattle.derived_source.specs.Quiet.{IsQuietFile}
 use Rattle.derived_source.specs.Laws.{DerivedLaws}
 use Rattle.derived_source.proofs.Bytes.{word_bytes}
 use Rattle.derived_source.proofs.Words.{words}
@@ -25,23 +23,22 @@ use Rattle.derived_source.proofs.Files.{file_read}
 use Rattle.derived_source.proofs.Depths.{file_shallow}
 use Rattle.derived_source.proofs.Comments.{comments}
 use Rattle.derived_source.proofs.Directives.{directives}
-use Rattle.derived_source.proofs.Silence.{silent_file}
 
-module _ (pieces : List Piece) (t : List ℕ) (spells : Spells pieces t) (bytes : AreBytes t) (few : length t + 1 < 2147483648) (x : Syntax) (d : Derives (classes_of t (tokens_of pieces)) x) where
+module _ (pieces : List Piece) (t : List ℕ) (spells : Spells pieces t) (bytes : AreBytes t) (few : length (tokens_of pieces) ≤ 4294967295) (x : Syntax) (d : Derives (classes_of t (tokens_of pieces)) x) where
   abbrev the_word : ℕ → List ℕ
   the_word = word_of t (tokens_of pieces)
 
-  stands : Stand the_word 0 (file_tokens d.file (c.End ∷ []))
+  pub stands : Stand the_word 0 (file_tokens d.file (c.End ∷ []))
   stands = subst (Stand the_word 0) (sym (d.spelled)) (words pieces t spells few)
 
-  read : (notes : Anchor → List (List ℕ)) → IsQuietFile the_word notes 0 d.file → Each (IsFormedTop the_word notes) (written_tops the_word 0 d.file) × FileHasKeywords the_word 0 d.file
-  read notes q = file_read the_word (word_bytes t (tokens_of pieces) bytes) notes d.file 0 (c.End ∷ []) (d.formed) q stands
+  pub read : Each (IsFormedTop the_word) (written_tops the_word 0 d.file) × FileHasKeywords the_word 0 d.file
+  read = file_read the_word (word_bytes t (tokens_of pieces) bytes) d.file 0 (c.End ∷ []) (d.formed) stands
 
-  writes : file_of the_word x ≡ written_tops the_word 0 d.file
-  writes = ap (file_of the_word) (d.syntax_of) ∙ file_writes the_word d.file (read (λ a. []) (silent_file the_word (d.file) 0)).1
+  pub writes : file_of the_word x ≡ written_tops the_word 0 d.file
+  writes = ap (file_of the_word) (d.syntax_of) ∙ file_writes the_word d.file read.1
 
-  formed : (notes : Anchor → List (List ℕ)) → IsQuietFile the_word notes 0 d.file → Each (IsFormedTop the_word notes) (file_of the_word x)
-  formed notes q = subst (λ xs. Each (IsFormedTop the_word notes) xs) (sym writes) (read notes q).0
+  pub formed : Each (IsFormedTop the_word) (file_of the_word x)
+  formed = subst (λ xs. Each (IsFormedTop the_word) xs) (sym writes) read.0
 
   shallow : Each IsShallow (file_of the_word x)
   shallow = subst (λ xs. Each IsShallow xs) (sym writes) (file_shallow d.file the_word 0 [] (d.within)).0
@@ -51,7 +48,7 @@ derived_laws =
     record {
       words = words;
       expressions = expression_read;
-      items = λ word bytes notes at xs r f q s. let x = items_read word bytes notes at xs r f q s in (x.items, x.keywords, x.behind);
+      items = λ word bytes at xs r f s. let x = items_read word bytes at xs r f s in (x.items, x.keywords, x.behind);
       writes = writes;
       file = formed;
       shallow = shallow;

@@ -1,5 +1,5 @@
 -- The tokens of a text stand by their numbers: words of the classes that a derivation has there.
-use Rattle.std.specs.Prelude.{◌≡◌, ◌<◌, ℕ, ◌+◌, List, [], ◌∷◌, Option, Some, None}
+use Rattle.std.specs.Prelude.{◌≡◌, ◌≤◌, ℕ, ◌+◌, List, [], ◌∷◌, Option, Some, None}
 use Rattle.c_lexer.specs.declared.mark.Mark.{Mark}
 use Rattle.c_lexer.specs.declared.token.TokenKind.{TokenKind}
 use Rattle.c_lexer.specs.declared.token.TokenKind.TheVariants as k
@@ -31,5 +31,5 @@ pub record IsClassed (class : Class) (w : List ℕ) : Type 0 where
 
 -- words of these classes stand from this number on, and the tokens are not too many to be counted
 abbrev pub Stand : (ℕ → List ℕ) → ℕ → List Class → Type 0
-Stand word at [] = at < 2147483648
+Stand word at [] = at ≤ 4294967296
 Stand word at (class ∷ rest) = IsClassed class (word at) × Stand word (at + 1) rest

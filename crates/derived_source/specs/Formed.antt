@@ -1,12 +1,11 @@
 -- What is read of a file apart from its limits: each name is one, each body, value and size is read.
 use Rattle.std.specs.Prelude.{◌<◌, ◌≤◌, ℕ, List, IfSome, length}
 use Rattle.c_source.specs.Tops.{Enumerator, Function, Top, Form, Line, Enum, Globals, Defines, From, Unread}
-use Rattle.c_statements.specs.declared.anchors.Anchor.{Anchor}
 use Rattle.c_statements.specs.Measures.{body_depth}
 use Rattle.c_resolved.specs.Within.{Each}
 use Rattle.resolving_core.specs.Read.{IsNameAt, IsReadTerm, IsReadParameter, IsReadDeclaration, IsReadBody}
 
-module _ (word : ℕ → List ℕ) (notes : Anchor → List (List ℕ)) where
+module _ (word : ℕ → List ℕ) where
   pub record IsFormedEnumerator (e : Enumerator) : Type 0 where
     pub named : IsNameAt word e.name
     pub value : IfSome e.value (IsReadTerm word)
@@ -14,7 +13,7 @@ module _ (word : ℕ → List ℕ) (notes : Anchor → List (List ℕ)) where
   pub record IsFormedFunction (f : Function) : Type 0 where
     pub named : IsNameAt word f.name
     pub parameters : Each (IsReadParameter word) f.parameters
-    pub body : IfSome f.body (IsReadBody word notes)
+    pub body : IfSome f.body (IsReadBody word)
 
   abbrev pub IsFormed : Form → Type 0
   IsFormed Line = Unit {0}

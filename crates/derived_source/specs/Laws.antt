@@ -1,5 +1,5 @@
 -- The laws of this crate: the derivation of a text gives source trees as resolving reads them.
-use Rattle.std.specs.Prelude.{◌≡◌, ◌+◌, ◌<◌, ℕ, true, List, [], ◌∷◌, ◌++◌, length, slice_range}
+use Rattle.std.specs.Prelude.{◌≡◌, ◌≤◌, ℕ, List, [], ◌∷◌, ◌++◌, length, slice_range}
 use Rattle.c_lexer.specs.declared.token.Token.{Token}
 use Rattle.c_lexer.specs.Pieces.{Piece, Spells, tokens_of, comments_of}
 use Rattle.c_grammar.specs.declared.class.Class.{Class}
@@ -25,37 +25,36 @@ use Rattle.reread_core.specs.WrittenStatements.{written_items}
 use Rattle.reread_core.specs.WrittenFiles.{written_tops}
 use Rattle.resolving_core.specs.Read.{IsReadForm, AreReadItems}
 use Rattle.derived_source.specs.Classed.{Stand}
-use Rattle.derived_source.specs.Closed.{is_closed, IsDirectiveToken}
+use Rattle.derived_source.specs.Directives.{IsDirectiveToken}
 use Rattle.derived_source.specs.Formed.{IsFormedTop, IsShallow}
-use Rattle.derived_source.specs.Quiet.{AreQuiet, IsQuietFile}
 
 -- of words that are bytes
 abbrev pub OfBytes : ((ℕ → List ℕ) → Type 0) → Type 0
 OfBytes P = (word : ℕ → List ℕ) → ((at : ℕ) → AreBytes (word at)) → P word
 
--- of the derivation of a text, whose bytes are bytes and can be counted
+-- of the derivation of a text of bytes, whose tokens a list holds
 abbrev pub OfDerivation : ((word : ℕ → List ℕ) (tokens : List Class) (x : Syntax) → Derives tokens x → Type 0) → Type 0
 OfDerivation P =
-    (pieces : List Piece) (t : List ℕ) → Spells pieces t → AreBytes t → length t + 1 < 2147483648 →
+    (pieces : List Piece) (t : List ℕ) → Spells pieces t → AreBytes t → length (tokens_of pieces) ≤ 4294967295 →
     let tokens = tokens_of pieces in (x : Syntax) (d : Derives (classes_of t tokens) x) → P (word_of t tokens) (classes_of t tokens) x d
 
 pub record DerivedLaws : Type 0 where
   -- the tokens of a text stand by their numbers, as words of their classes
-  pub words : (pieces : List Piece) (t : List ℕ) → Spells pieces t → length t + 1 < 2147483648 → Stand (word_of t (tokens_of pieces)) 0 (classes_of t (tokens_of pieces) ++ c.End ∷ [])
+  pub words : (pieces : List Piece) (t : List ℕ) → Spells pieces t → length (tokens_of pieces) ≤ 4294967295 → Stand (word_of t (tokens_of pieces)) 0 (classes_of t (tokens_of pieces) ++ c.End ∷ [])
   -- what derives an expression there is read
   pub expressions : OfBytes (λ word.
       (at : ℕ) (e : Expression) (r : List Class) → FitsExpression e → Stand word at (expression_tokens e r) → IsReadForm word (expression_form at e) × Stand word (expression_end at e) r)
-  -- and what derives the items of a list, where the places of comments leave the front of each switch quiet
+  -- and what derives the items of a list
   pub items : OfBytes (λ word.
-      (notes : Anchor → List (List ℕ)) → (at : ℕ) (xs : Items) (r : List Class) → FitsItems xs → AreQuiet word notes at xs → Stand word at (items_tokens xs r)
-      → AreReadItems word notes (written_items at xs) × ItemsHaveKeywords word at xs × Stand word (items_end at xs) r)
+      (at : ℕ) (xs : Items) (r : List Class) → FitsItems xs → Stand word at (items_tokens xs r)
+      → AreReadItems word (written_items at xs) × ItemsHaveKeywords word at xs × Stand word (items_end at xs) r)
   -- what the syntax of a derived text writes
   pub writes : OfDerivation (λ word tokens x d. file_of word x ≡ written_tops word 0 d.file)
   -- a derived text is read, apart from its limits
-  pub file : OfDerivation (λ word tokens x d. (notes : Anchor → List (List ℕ)) → IsQuietFile word notes 0 d.file → Each (IsFormedTop word notes) (file_of word x))
+  pub file : OfDerivation (λ word tokens x d. Each (IsFormedTop word) (file_of word x))
   -- and the lists of each function stand at most so deep in each other as its limit says
   pub shallow : OfDerivation (λ word tokens x d. Each IsShallow (file_of word x))
-  -- at each place of a text that ends with a newline stand comments
-  pub comments : (pieces : List Piece) (t : List ℕ) → Spells pieces t → is_closed t ≡ true → (xs : List Top) (a : Anchor) → Each IsComment (notes_of t (tokens_of pieces) (comments_of pieces) xs a)
+  -- at each place of a text stand comments
+  pub comments : (pieces : List Piece) (t : List ℕ) → Spells pieces t → (xs : List Top) (a : Anchor) → Each IsComment (notes_of t (tokens_of pieces) (comments_of pieces) xs a)
   -- and its directives are `#include` lines
-  pub directives : (pieces : List Piece) (t : List ℕ) → Spells pieces t → is_closed t ≡ true → Each (λ (x : Token). IsDirectiveToken x.kind (slice_range t x.start x.end)) (tokens_of pieces)
+  pub directives : (pieces : List Piece) (t : List ℕ) → Spells pieces t → Each (λ (x : Token). IsDirectiveToken x.kind (slice_range t x.start x.end)) (tokens_of pieces)

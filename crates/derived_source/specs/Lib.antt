@@ -1,5 +1,4 @@
 pub mod Classed
-pub mod Closed
-pub mod Quiet
+pub mod Directives
 pub mod Formed
 pub mod Laws

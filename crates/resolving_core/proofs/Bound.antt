@@ -1,5 +1,5 @@
 -- Each name of a body without violations is bound to what the tree has there, and none is declared twice in a scope.
-use Rattle.std.proofs.Common.{ℕ, Bool, true, false, not, cond, ◌&&◌, ◌||◌, List, [], ◌∷◌, ◌++◌, map, length, Option, Some, None, option_map, is_some, slice_get, true≢false, ◌≡◌, refl, sym, ap, subst, ◌∙◌}
+use Rattle.std.proofs.Common.{ℕ, Bool, true, false, not, cond, ◌&&◌, ◌||◌, List, [], ◌∷◌, ◌++◌, map, length, Option, Some, None, option_map, slice_get, true≢false, ◌≡◌, refl, sym, ap, subst, ◌∙◌}
 use Rattle.std.specs.Prelude.{IfSome}
 use Rattle.std.specs.Option.{option_map_or}
 use Rattle.std.proofs.lemmas.List.{append-nil}
@@ -12,12 +12,10 @@ use Rattle.c_tree.specs.ExpressionTrees.{ExpressionTree, expression_tree}
 use Rattle.c_tree.specs.Trees.{Tree, Forest, SectionTree, Nil, join, expression_trees, tree_of, trees_of, section_tree, sections, sections_of}
 use Rattle.c_tree.specs.Trees as tree
 use Rattle.c_tree.proofs.ExpressionLaws.{test-Source, selector-Source}
-use Rattle.c_tree.proofs.TreeLaws.{tree-Evaluate, tree-Return, tree-If, tree-While, tree-Do, tree-For, tree-Switch, tree-Block, tree-Local, tree-Break, tree-Continue, tree-Goto, tree-Mark, tree-Arrival, tree-Note, trees-none, trees-more, trees-append}
-use Rattle.c_types.specs.declared.kinds.IntKind.{IntKind}
-use Rattle.c_source.specs.Terms.{Term}
+use Rattle.c_tree.proofs.TreeLaws.{tree-Evaluate, tree-Return, tree-If, tree-While, tree-Do, tree-For, tree-Switch, tree-Block, tree-Local, tree-Break, tree-Continue, tree-Goto, tree-Mark, tree-Arrival, tree-Note}
 use Rattle.c_source.specs.Items.{Declarator, Declaration, Label, Named, Case, Default, Start, NoStart, StartValue, StartNames, Item, Declares, States, Plain, From, Statement, Null, Evaluate, If, IfElse, While, DoWhile, For, Switch, Block, Goto, Break, Continue, Return, Unread, Body, Braces, Lone, Items, NoItem}
 use Rattle.c_source.specs.Items as items
-use Rattle.c_kinds.specs.Scopes.{Scope, fault_if}
+use Rattle.c_kinds.specs.Scopes.{fault_if}
 use Rattle.c_kinds.specs.Typing.{constant_faults}
 use Rattle.c_statements.specs.declared.extents.Kinded.{Kinded}
 use Rattle.c_statements.specs.declared.anchors.Anchor.{Anchor}
@@ -28,36 +26,28 @@ use Rattle.c_statements.specs.Labels.{has_case, mark, label_items, labels_items,
 use Rattle.c_statements.specs.Sections.{Reading, extended, closed, passed_on}
 use Rattle.c_statements.specs.Statements.{behind_start, behind_item, behind_plain, behind_body, behind_items, declared_by, dropped_at, test_at, start_items, begun, a_switch, item_items, plain_items, statement_items, body_items, list_items, switch_sections, sections_from, sections_at}
 use Rattle.c_statements.specs.Statements as statements
-use Rattle.c_statements.specs.Violations.{dropped_faults, optional_faults, start_faults, return_faults, item_faults, plain_faults, statement_faults, body_faults, list_faults, switch_body_faults, outside_faults, outside_fault}
+use Rattle.c_statements.specs.Violations.{start_faults, item_faults, plain_faults, statement_faults, body_faults, list_faults, switch_body_faults, outside_faults, outside_fault}
 use Rattle.c_resolved.specs.Form.{ends_with_break}
 use Rattle.c_resolved.specs.Within.{Each}
 use Rattle.resolving_core.proofs.Lists.{none_left, each_append}
-use Rattle.resolving_core.specs.Read.{IsReadTerm, IsReadDeclarator, IsReadLabel, IsReadStart, IsReadItem, IsReadPlain, IsReadStatement, IsReadBody, AreReadItems}
+use Rattle.resolving_core.specs.Read.{IsReadDeclarator, IsReadLabel, IsReadStart, IsReadItem, IsReadPlain, IsReadStatement, IsReadBody, AreReadItems}
 use Rattle.resolving_core.proofs.Empty.{constant_empty}
 use Rattle.resolving_core.proofs.Parts.{parted, locals_parts, labels_parts, states_parts, list_parts, if_parts, if_else_parts, while_parts, do_parts, for_parts, switch_parts, Outside, outside_declares, outside_parts, outside_one}
+use Rattle.resolving_core.proofs.Readings.{longer, beginning}
 use Rattle.resolving_core.proofs.Grown.{Grown, locals_grow, body_grows, list_grows, outside_grows}
 use Rattle.resolving_core.proofs.SectionTrees.{later_break, section_of, ended_tree, has_entry, without_end, passes, with_entries, passed_trees, passed_same, ended_same, sections_are}
 use Rattle.c_tree.specs.declared.tree.Home.TheVariants as H
 use Rattle.c_tree.specs.TextExpressions.{slot_name}
-use Rattle.c_kinds.specs.declared.binding.Binding.{Binding}
 use Rattle.c_kinds.specs.declared.binding.Binding.TheVariants as B
-use Rattle.c_kinds.specs.Scopes.{found, is_bound, bind}
 use Rattle.c_resolved.specs.Names.{Names}
 use Rattle.c_resolved.specs.Scopes as Scopes
 use Rattle.c_resolved.specs.Scopes.{AVariable, NameIsBound, IsBound, IsNew, ItemIsBound, AreBound, SectionsAreBound, behind, behind_all, inside}
-use Rattle.resolving_core.proofs.Bindings.{knows_inside}
 use Rattle.resolving_core.proofs.Declared.{knows_declared, slot_there, values_are}
 use Rattle.resolving_core.proofs.Empty.{value_empty}
-use Rattle.resolving_core.proofs.FileNames.{Same, meaning_of}
-use Rattle.resolving_core.proofs.FileScope.{same_new}
-use Rattle.resolving_core.proofs.ItemKinds.{within_map}
-use Rattle.resolving_core.proofs.Known.{Knows}
 use Rattle.resolving_core.proofs.Parts.{local_parts}
-use Rattle.resolving_core.proofs.Uses.{value_is, dropped_is, constant_is_value}
-use Rattle.resolving_core.proofs.Values.{IsSound, Sound}
 use Rattle.resolving_core.proofs.Walk.{Begins, Any, begins_before}
 use Rattle.resolving_core.proofs.Walked.{body_scopes, plain_scopes}
-use Rattle.resolving_core.proofs.BoundTerms.{Nearest, nearest_new, nearest_bound, At, at_inside, at_scopes, Binds, binds_none, bound-join, behind-join, binds_both, binds_one, names_bound, value_bound, dropped_bound, constant_bound, values_bound, drops_bound, returned_bound}
+use Rattle.resolving_core.proofs.BoundTerms.{nearest_new, nearest_bound, At, at_inside, at_scopes, Binds, binds_none, binds_both, binds_one, value_bound, dropped_bound, constant_bound, values_bound, drops_bound, returned_bound}
 
 module _ (ctx : Context) (n : Names) where
   -- ---- comments and labels
@@ -173,14 +163,11 @@ module _ (ctx : Context) (n : Names) where
   SectionsBound ss cs = TreesBound ss (map section_tree cs)
 
   -- a section that is being read: its scopes at its beginning, and by now
-  abbrev pub ReadingBound : List Scopes.Scope → List Scopes.Scope → Option Reading → Type 0
-  ReadingBound s t None = s ≡ t
-  ReadingBound s t (Some r) = Each (IsBound n.slots s) (expression_trees r.cases) × Binds ctx n s t r.list
+  abbrev pub ReadingBound : List Scopes.Scope → List Scopes.Scope → Reading → Type 0
+  ReadingBound s t r = Each (IsBound n.slots s) (expression_trees r.cases) × Binds ctx n s t r.list
 
-  extended_bound : (s t u : List Scopes.Scope) (o : Option Reading) (xs : List item.Item) → ReadingBound s t o → Binds ctx n t u xs → ReadingBound s u (extended o xs)
-  extended_bound s t u (Some r) xs h k = (h.0, binds_both ctx n s t u r.list xs h.1 k)
-  extended_bound s t u None [] h k = h ∙ (sym (ap (behind_all n.slots t) trees-none) ∙ k.behind_it)
-  extended_bound s t u None (x ∷ xs) h k = (tt, subst (λ z. Binds ctx n z u (x ∷ xs)) (sym h) k)
+  extended_bound : (s t u : List Scopes.Scope) (r : Reading) (xs : List item.Item) → ReadingBound s t r → Binds ctx n t u xs → ReadingBound s u (longer r xs)
+  extended_bound s t u r xs h k = (h.0, binds_both ctx n s t u r.list xs h.1 k)
 
   cut_bound : (ss : List Scopes.Scope) (a : Forest) → AreBound n.slots ss a → AreBound n.slots ss (without_end a)
   cut_bound ss Nil h = tt
@@ -203,9 +190,8 @@ module _ (ctx : Context) (n : Names) where
       by true false k = (c, h, subst (λ z. TreesBound z more) (sym e) m)
       by false f k = (c, h, subst (λ z. TreesBound z more) (sym e) m)
 
-  closed_bound : (s t : List Scopes.Scope) (o : Option Reading) (more : List Section) → ReadingBound s t o → SectionsBound t more → SectionsBound s (closed o ++ more)
-  closed_bound s t None more h m = subst (λ z. SectionsBound z more) (sym h) m
-  closed_bound s t (Some r) more h m =
+  closed_bound : (s t : List Scopes.Scope) (r : Reading) (more : List Section) → ReadingBound s t r → SectionsBound t more → SectionsBound s (closed (Some r) ++ more)
+  closed_bound s t r more h m =
       subst (λ x. TreesBound s (x ∷ map section_tree more)) (sym (ended_same r)) (ended_bound s t (expression_trees r.cases) r.default (trees_of r.list) (map section_tree more) h.0 h.1.bound h.1.behind_it m)
 
   passing_behind : (ss : List Scopes.Scope) (a : Forest) (ends : Bool) → ◌≡◌ {A = Bool} (elim a [ Nil ↦ not ends | tree.Then x xs ↦ false ]) true → behind_all n.slots ss a ≡ ss
@@ -230,36 +216,31 @@ module _ (ctx : Context) (n : Names) where
   switch_bound : (ss : List Scopes.Scope) (cs : List Section) → SectionsBound ss cs → SectionsAreBound n.slots ss (sections_of (passed_on [] false cs))
   switch_bound ss cs h = subst (SectionsAreBound n.slots ss) (sym (sections_are (passed_on [] false cs) ∙ ap sections (passed_same [] false cs))) (trees_bound ss (passed_trees [] false (map section_tree cs)) (passed_bound ss [] false (map section_tree cs) tt h))
 
-  end_bound : (s t : List Scopes.Scope) (o : Option Reading) (notes : List item.Item) → ReadingBound s t o → ((z : List Scopes.Scope) → Binds ctx n z z notes) → SectionsBound s (statements.sections_of o notes)
-  end_bound s t None notes h k = tt
-  end_bound s t (Some r) notes h k = subst (SectionsBound s) (append-nil (closed (extended (Some r) notes))) (closed_bound s t (extended (Some r) notes) [] (extended_bound s t t (Some r) notes h (k t)) tt)
+  end_bound : (s t : List Scopes.Scope) (r : Reading) (notes : List item.Item) → ReadingBound s t r → ((z : List Scopes.Scope) → Binds ctx n z z notes) → SectionsBound s (statements.sections_of (Some r) notes)
+  end_bound s t r notes h k = subst (SectionsBound s) (append-nil (closed (extended (Some r) notes))) (closed_bound s t (longer r notes) [] (extended_bound s t t r notes h (k t)) tt)
 
   begun_bound : (w : Walk) (ss : List Scopes.Scope) (switch : Bool) (ls : List Label) (xs : List item.Item) → At ctx n w ss → Each (IsReadLabel ctx.word) ls → labels_faults (env_at ctx w) switch ls [] ≡ [] → Binds ctx n ss ss xs
-      → ReadingBound ss ss (begun ctx (env_at ctx w) ls xs)
+      → ReadingBound ss ss (beginning ctx w ls xs)
   begun_bound w ss switch ls xs a r e h =
       (cases_bound w ss switch ls a r e, binds_both ctx n ss ss ss (notes_at ctx (AtSection (items.first_label ls)) ++ section_marks ctx ls) xs (behind_notes ss ss (AtSection (items.first_label ls)) (section_marks ctx ls) (marks_bind ss ls)) h)
 
-  inside_by : (b : Bool) (s t : List Scopes.Scope) (o : Option Reading) (xs ys : List Section) → ReadingBound s t o → SectionsBound t xs → SectionsBound s ys → SectionsBound s (elim b [ true ↦ closed o ++ xs | false ↦ ys ])
-  inside_by true s t o xs ys h f g = closed_bound s t o xs h f
-  inside_by false s t o xs ys h f g = g
+  inside_by : (b : Bool) (s t : List Scopes.Scope) (r : Reading) (xs ys : List Section) → ReadingBound s t r → SectionsBound t xs → SectionsBound s ys → SectionsBound s (elim b [ true ↦ closed (Some r) ++ xs | false ↦ ys ])
+  inside_by true s t r xs ys h f g = closed_bound s t r xs h f
+  inside_by false s t r xs ys h f g = g
 
-  outside_by : (around : Around) (w : Walk) (ls : List Label) (p : Plain) (xs : Items) (b : Bool) → Outside ctx around w b ls p xs → (s t : List Scopes.Scope) (o : Option Reading) (cs ds : List Section) → ReadingBound s t o
-      → (list_faults ctx around xs (behind_plain ctx p w) [] ≡ [] → SectionsBound t cs) → (outside_faults ctx around xs (behind_plain ctx p w) [] ≡ [] → SectionsBound s ds)
-      → SectionsBound s (elim b [ true ↦ closed o ++ cs | false ↦ ds ])
-  outside_by around w ls p xs true q s t o cs ds h f g = closed_bound s t o cs h (f q)
-  outside_by around w ls p xs false q s t o cs ds h f g = g q.1
+  outside_by : (around : Around) (w : Walk) (ls : List Label) (p : Plain) (xs : Items) (b : Bool) → Outside ctx around w b ls p xs → (s : List Scopes.Scope) (cs ds : List Section)
+      → (list_faults ctx around xs (behind_plain ctx p w) [] ≡ [] → SectionsBound s cs) → (outside_faults ctx around xs (behind_plain ctx p w) [] ≡ [] → SectionsBound s ds)
+      → SectionsBound s (elim b [ true ↦ cs | false ↦ ds ])
+  outside_by around w ls p xs true q s cs ds f g = f q
+  outside_by around w ls p xs false q s cs ds f g = g q.1
 
-  outside_later : (ls : List Label) (p : Plain) (xs : Items) (around : Around) (w : Walk) → AreReadItems ctx.word ctx.notes xs → (b : Bool) → Outside ctx around w b ls p xs
+  outside_later : (ls : List Label) (p : Plain) (xs : Items) (around : Around) (w : Walk) → AreReadItems ctx.word xs → (b : Bool) → Outside ctx around w b ls p xs
       → Grown Any (behind_plain ctx p w).slots (behind_items ctx xs (behind_plain ctx p w)).slots
   outside_later ls p xs around w r true o = list_grows ctx Any (λ k d w r e. tt) around xs (behind_plain ctx p w) r o
   outside_later ls p xs around w r false o = outside_grows ctx Any (λ k d w r e. tt) around xs (behind_plain ctx p w) r o.1
 
-  end_by : (b : Bool) (ss : List Scopes.Scope) (xs ys : List Section) → SectionsBound ss xs → SectionsBound ss ys → SectionsBound ss (elim b [ true ↦ xs | false ↦ ys ])
-  end_by true ss xs ys f g = f
-  end_by false ss xs ys f g = g
-
   mutual
-    pub item_binds : (around : Around) (x : Item) (w : Walk) (ss : List Scopes.Scope) → At ctx n w ss → IsReadItem ctx.word ctx.notes x → item_faults ctx around x w [] ≡ [] → Ends (behind_item ctx x w)
+    pub item_binds : (around : Around) (x : Item) (w : Walk) (ss : List Scopes.Scope) → At ctx n w ss → IsReadItem ctx.word x → item_faults ctx around x w [] ≡ [] → Ends (behind_item ctx x w)
         → Leads ss (item_items ctx x w) (behind_item ctx x w)
     item_binds around (Declares first after d) w ss a r e z =
         let l = locals_bind (kinded ctx.word d) d.names w ss a r e z in
@@ -268,10 +249,10 @@ module _ (ctx : Context) (n : Names) where
         let q = states_parts ctx around w ls p e in
         record { ss' = ss; binds = binds_both ctx n ss ss ss (labels_items ctx (env_at ctx w) ls) (plain_items ctx p w) (labels_bind w ss around.switch ls a r.0 q.0) (plain_binds around p w ss a r.1 q.1 z); at = at_scopes ctx n (behind_plain ctx p w) w ss (plain_scopes ctx p w) a }
 
-    plain_binds : (around : Around) (p : Plain) (w : Walk) (ss : List Scopes.Scope) → At ctx n w ss → IsReadPlain ctx.word ctx.notes p → plain_faults ctx around p w [] ≡ [] → Ends (behind_plain ctx p w) → Binds ctx n ss ss (plain_items ctx p w)
+    plain_binds : (around : Around) (p : Plain) (w : Walk) (ss : List Scopes.Scope) → At ctx n w ss → IsReadPlain ctx.word p → plain_faults ctx around p w [] ≡ [] → Ends (behind_plain ctx p w) → Binds ctx n ss ss (plain_items ctx p w)
     plain_binds around (From first after s) w ss a r e z = behind_notes ss ss (Before first) (statement_items ctx s w) (statement_binds around first s w ss a r e z)
 
-    statement_binds : (around : Around) (first : ℕ) (s : Statement) (w : Walk) (ss : List Scopes.Scope) → At ctx n w ss → IsReadStatement ctx.word ctx.notes s → statement_faults ctx around first s w [] ≡ [] → Ends (statements.behind_statement ctx s w)
+    statement_binds : (around : Around) (first : ℕ) (s : Statement) (w : Walk) (ss : List Scopes.Scope) → At ctx n w ss → IsReadStatement ctx.word s → statement_faults ctx around first s w [] ≡ [] → Ends (statements.behind_statement ctx s w)
         → Binds ctx n ss ss (statement_items ctx s w)
     statement_binds around first Null w ss a r e z = binds_none ctx n ss
     statement_binds around first (Evaluate t) w ss a r e z = let x = dropped_at (env_at ctx w) t in binds_one ctx n ss ss (item.Evaluate x) _ (tree-Evaluate x) (dropped_bound ctx n w ss t a r e) refl
@@ -330,7 +311,7 @@ module _ (ctx : Context) (n : Names) where
     statement_binds around first (Return t) w ss a r e z = let x = option_map (value_at (env_at ctx w)) t in binds_one ctx n ss ss (item.Return x) _ (tree-Return x) (returned_bound ctx n ctx.result w ss first t a r e) refl
     statement_binds around first Unread w ss a r e z = absurd r
 
-    body_bound : (around : Around) (b : Body) (w : Walk) (ss : List Scopes.Scope) → At ctx n w ss → IsReadBody ctx.word ctx.notes b → body_faults ctx around b w [] ≡ [] → Ends (behind_body ctx b w) → AreBound n.slots (inside ss) (trees_of (body_items ctx b w))
+    body_bound : (around : Around) (b : Body) (w : Walk) (ss : List Scopes.Scope) → At ctx n w ss → IsReadBody ctx.word b → body_faults ctx around b w [] ≡ [] → Ends (behind_body ctx b w) → AreBound n.slots (inside ss) (trees_of (body_items ctx b w))
     body_bound around (Braces first after xs) w ss a r e z =
         let l = list_binds around xs (enter w) (inside ss) (at_inside ctx n w ss a) r e z in
         (binds_both ctx n (inside ss) l.ss' l.ss' (list_items ctx xs (enter w)) (notes_at ctx (AtEnd first)) l.binds (place_binds l.ss' (AtEnd first))).bound
@@ -338,7 +319,7 @@ module _ (ctx : Context) (n : Names) where
         let l = item_binds around x (enter w) (inside ss) (at_inside ctx n w ss a) r e z in
         (binds_both ctx n (inside ss) l.ss' l.ss' (item_items ctx x (enter w)) (notes_at ctx (AtEnd first)) l.binds (place_binds l.ss' (AtEnd first))).bound
 
-    pub list_binds : (around : Around) (xs : Items) (w : Walk) (ss : List Scopes.Scope) → At ctx n w ss → AreReadItems ctx.word ctx.notes xs → list_faults ctx around xs w [] ≡ [] → Ends (behind_items ctx xs w) → Leads ss (list_items ctx xs w) (behind_items ctx xs w)
+    pub list_binds : (around : Around) (xs : Items) (w : Walk) (ss : List Scopes.Scope) → At ctx n w ss → AreReadItems ctx.word xs → list_faults ctx around xs w [] ≡ [] → Ends (behind_items ctx xs w) → Leads ss (list_items ctx xs w) (behind_items ctx xs w)
     list_binds around NoItem w ss a r e z = record { ss' = ss; binds = binds_none ctx n ss; at = a }
     list_binds around (items.Then x xs) w ss a r e z =
         let p = list_parts ctx around w x xs e in
@@ -348,31 +329,28 @@ module _ (ctx : Context) (n : Names) where
         let l = list_binds around xs v h.ss' h.at r.1 p.1 z in
         record { ss' = l.ss'; binds = binds_both ctx n ss h.ss' l.ss' (item_items ctx x w) (list_items ctx xs v) h.binds l.binds; at = l.at }
 
-    sections_bound : (around : Around) (b : Body) (w : Walk) (ss : List Scopes.Scope) → At ctx n w ss → IsReadBody ctx.word ctx.notes b → switch_body_faults ctx around b w [] ≡ [] → Ends (behind_body ctx b w) → SectionsBound (inside ss) (switch_sections ctx b w)
+    sections_bound : (around : Around) (b : Body) (w : Walk) (ss : List Scopes.Scope) → At ctx n w ss → IsReadBody ctx.word b → switch_body_faults ctx around b w [] ≡ [] → Ends (behind_body ctx b w) → SectionsBound (inside ss) (switch_sections ctx b w)
     sections_bound around (Braces first after xs) w ss a r e z =
-        outside_bound around None xs (notes_at ctx (AtEnd first)) (enter w) (inside ss) (inside ss) refl (λ q. place_binds q (AtEnd first)) (at_inside ctx n w ss a) r e z
+        outside_bound around xs (notes_at ctx (AtEnd first)) (enter w) (inside ss) (λ q. place_binds q (AtEnd first)) (at_inside ctx n w ss a) r e z
     sections_bound around (Lone first after x) w ss a r e z = lone_bound around x (notes_at ctx (AtEnd first)) (enter w) (inside ss) (λ q. place_binds q (AtEnd first)) (at_inside ctx n w ss a) r e z
 
-    outside_bound : (around : Around) (o : Option Reading) (xs : Items) (notes : List item.Item) (w : Walk) (s t : List Scopes.Scope) → ReadingBound s t o → ((q : List Scopes.Scope) → Binds ctx n q q notes) → At ctx n w t → AreReadItems ctx.word ctx.notes xs
-        → outside_faults ctx around xs w [] ≡ [] → Ends (behind_items ctx xs w) → SectionsBound s (sections_from ctx o xs notes w)
-    outside_bound around o NoItem notes w s t h k a r e z = end_bound s t o notes h k
-    outside_bound around o (items.Then (Declares first after d) xs) notes w s t h k a r e z = absurd (outside_declares ctx around w first after d xs e)
-    outside_bound around o (items.Then (States ls p) xs) notes w s t h k a r e z =
+    outside_bound : (around : Around) (xs : Items) (notes : List item.Item) (w : Walk) (s : List Scopes.Scope) → ((q : List Scopes.Scope) → Binds ctx n q q notes) → At ctx n w s → AreReadItems ctx.word xs
+        → outside_faults ctx around xs w [] ≡ [] → Ends (behind_items ctx xs w) → SectionsBound s (sections_from ctx None xs notes w)
+    outside_bound around NoItem notes w s k a r e z = tt
+    outside_bound around (items.Then (Declares first after d) xs) notes w s k a r e z = absurd (outside_declares ctx around w first after d xs e)
+    outside_bound around (items.Then (States ls p) xs) notes w s k a r e z =
         let q = outside_parts ctx around w ls p xs e in
         let f = states_parts ctx around w ls p q.0 in
         let v = behind_plain ctx p w in
-        let env = env_at ctx w in
+        let ps = plain_items ctx p w in
         let g = begins_before v.slots (behind_items ctx xs v).slots n.slots (outside_later ls p xs around w r.1 (has_case ls) q.1) z in
-        let m = plain_binds around p w t a r.0.1 f.1 g in
-        let new = labels_items ctx env ls ++ plain_items ctx p w in
-        let l = binds_both ctx n t t t (labels_items ctx env ls) (plain_items ctx p w) (labels_bind w t around.switch ls a r.0.0 f.0) m in
-        let b = at_scopes ctx n v w t (plain_scopes ctx p w) a in
-        outside_by around w ls p xs (has_case ls) q.1 s t o (sections_from ctx (begun ctx env ls (plain_items ctx p w)) xs notes v) (sections_from ctx (extended o new) xs notes v) h
-        (λ y. inside_bound around (begun ctx env ls (plain_items ctx p w)) xs notes v t t (begun_bound w t around.switch ls (plain_items ctx p w) a r.0.0 f.0 m) k b r.1 y z)
-        (λ y. outside_bound around (extended o new) xs notes v s t (extended_bound s t t o new h l) k b r.1 y z)
+        let b = at_scopes ctx n v w s (plain_scopes ctx p w) a in
+        outside_by around w ls p xs (has_case ls) q.1 s (sections_from ctx (begun ctx (env_at ctx w) ls ps) xs notes v) (sections_from ctx None xs notes v)
+        (λ y. inside_bound around (beginning ctx w ls ps) xs notes v s s (begun_bound w s around.switch ls ps a r.0.0 f.0 (plain_binds around p w s a r.0.1 f.1 g)) k b r.1 y z)
+        (λ y. outside_bound around xs notes v s k b r.1 y z)
 
-    inside_bound : (around : Around) (o : Option Reading) (xs : Items) (notes : List item.Item) (w : Walk) (s t : List Scopes.Scope) → ReadingBound s t o → ((q : List Scopes.Scope) → Binds ctx n q q notes) → At ctx n w t → AreReadItems ctx.word ctx.notes xs
-        → list_faults ctx around xs w [] ≡ [] → Ends (behind_items ctx xs w) → SectionsBound s (sections_from ctx o xs notes w)
+    inside_bound : (around : Around) (o : Reading) (xs : Items) (notes : List item.Item) (w : Walk) (s t : List Scopes.Scope) → ReadingBound s t o → ((q : List Scopes.Scope) → Binds ctx n q q notes) → At ctx n w t → AreReadItems ctx.word xs
+        → list_faults ctx around xs w [] ≡ [] → Ends (behind_items ctx xs w) → SectionsBound s (sections_from ctx (Some o) xs notes w)
     inside_bound around o NoItem notes w s t h k a r e z = end_bound s t o notes h k
     inside_bound around o (items.Then (Declares first after d) xs) notes w s t h k a r e z =
         let q = list_parts ctx around w (Declares first after d) xs e in
@@ -380,31 +358,29 @@ module _ (ctx : Context) (n : Names) where
         let g = begins_before v.slots (behind_items ctx xs v).slots n.slots (list_grows ctx Any (λ k d w r e. tt) around xs v r.1 q.1) z in
         let l = locals_bind (kinded ctx.word d) d.names w t a r.0 q.0 g in
         let ds = locals ctx.word (kinded ctx.word d) d.names w in
-        inside_bound around (extended o (notes_at ctx (Before first) ++ ds)) xs notes v s l.ss' (extended_bound s t l.ss' o (notes_at ctx (Before first) ++ ds) h (behind_notes t l.ss' (Before first) ds l.binds)) k l.at r.1 q.1 z
+        let new = notes_at ctx (Before first) ++ ds in
+        inside_bound around (longer o new) xs notes v s l.ss' (extended_bound s t l.ss' o new h (behind_notes t l.ss' (Before first) ds l.binds)) k l.at r.1 q.1 z
     inside_bound around o (items.Then (States ls p) xs) notes w s t h k a r e z =
         let q = list_parts ctx around w (States ls p) xs e in
         let f = states_parts ctx around w ls p q.0 in
         let v = behind_plain ctx p w in
         let env = env_at ctx w in
+        let ps = plain_items ctx p w in
         let g = begins_before v.slots (behind_items ctx xs v).slots n.slots (list_grows ctx Any (λ k d w r e. tt) around xs v r.1 q.1) z in
         let m = plain_binds around p w t a r.0.1 f.1 g in
-        let new = labels_items ctx env ls ++ plain_items ctx p w in
-        let l = binds_both ctx n t t t (labels_items ctx env ls) (plain_items ctx p w) (labels_bind w t around.switch ls a r.0.0 f.0) m in
+        let new = labels_items ctx env ls ++ ps in
+        let l = binds_both ctx n t t t (labels_items ctx env ls) ps (labels_bind w t around.switch ls a r.0.0 f.0) m in
         let b = at_scopes ctx n v w t (plain_scopes ctx p w) a in
-        inside_by (has_case ls) s t o (sections_from ctx (begun ctx env ls (plain_items ctx p w)) xs notes v) (sections_from ctx (extended o new) xs notes v) h
-        (inside_bound around (begun ctx env ls (plain_items ctx p w)) xs notes v t t (begun_bound w t around.switch ls (plain_items ctx p w) a r.0.0 f.0 m) k b r.1 q.1 z)
-        (inside_bound around (extended o new) xs notes v s t (extended_bound s t t o new h l) k b r.1 q.1 z)
+        inside_by (has_case ls) s t o (sections_from ctx (begun ctx env ls ps) xs notes v) (sections_from ctx (extended (Some o) new) xs notes v) h
+        (inside_bound around (beginning ctx w ls ps) xs notes v t t (begun_bound w t around.switch ls ps a r.0.0 f.0 m) k b r.1 q.1 z)
+        (inside_bound around (longer o new) xs notes v s t (extended_bound s t t o new h l) k b r.1 q.1 z)
 
-    lone_bound : (around : Around) (x : Item) (notes : List item.Item) (w : Walk) (ss : List Scopes.Scope) → ((q : List Scopes.Scope) → Binds ctx n q q notes) → At ctx n w ss → IsReadItem ctx.word ctx.notes x → outside_fault ctx around x w [] ≡ [] → Ends (behind_item ctx x w)
+    lone_bound : (around : Around) (x : Item) (notes : List item.Item) (w : Walk) (ss : List Scopes.Scope) → ((q : List Scopes.Scope) → Binds ctx n q q notes) → At ctx n w ss → IsReadItem ctx.word x → outside_fault ctx around x w [] ≡ [] → Ends (behind_item ctx x w)
         → SectionsBound ss (sections_at ctx None x notes w)
     lone_bound around (Declares first after d) notes w ss k a r e z = absurd (none_left _ _ e)
     lone_bound around (States ls p) notes w ss k a r e z =
         let q = outside_one ctx around w ls p e in
         let f = states_parts ctx around w ls p q.0 in
-        let env = env_at ctx w in
-        let m = plain_binds around p w ss a r.1 f.1 z in
-        let new = labels_items ctx env ls ++ plain_items ctx p w in
-        let l = binds_both ctx n ss ss ss (labels_items ctx env ls) (plain_items ctx p w) (labels_bind w ss around.switch ls a r.0 f.0) m in
-        end_by (has_case ls) ss (statements.sections_of (begun ctx env ls (plain_items ctx p w)) notes) (statements.sections_of (extended None new) notes)
-        (end_bound ss ss (begun ctx env ls (plain_items ctx p w)) notes (begun_bound w ss around.switch ls (plain_items ctx p w) a r.0 f.0 m) k)
-        (end_bound ss ss (extended None new) notes (extended_bound ss ss ss None new refl l) k)
+        let ps = plain_items ctx p w in
+        let o = beginning ctx w ls ps in
+        outside_by around w ls p NoItem (has_case ls) q.1 ss (statements.sections_of (Some o) notes) [] (λ y. end_bound ss ss o notes (begun_bound w ss around.switch ls ps a r.0 f.0 (plain_binds around p w ss a r.1 f.1 z)) k) (λ y. tt)

@@ -1,62 +1,33 @@
 -- A place by the scopes of the tree, and the names of its expressions.
-use Rattle.std.proofs.Common.{ℕ, Bool, true, false, not, cond, ◌&&◌, ◌||◌, List, [], ◌∷◌, ◌++◌, map, length, Option, Some, None, option_map, is_some, slice_get, true≢false, ◌≡◌, refl, sym, ap, subst, ◌∙◌}
+use Rattle.std.proofs.Common.{ℕ, true, false, List, [], ◌∷◌, ◌++◌, Option, Some, None, option_map, is_some, true≢false, ◌≡◌, refl, sym, ap, subst, ◌∙◌}
 use Rattle.std.specs.Prelude.{IfSome}
-use Rattle.std.specs.Option.{option_map_or}
-use Rattle.std.proofs.lemmas.List.{append-nil}
-use Rattle.c_tree.specs.declared.tree.Slot.{Slot}
 use Rattle.c_tree.specs.declared.tree.Item as item
-use Rattle.c_tree.specs.declared.tree.Section.{Section}
-use Rattle.c_tree.specs.declared.tree.Test as test
-use Rattle.c_tree.specs.declared.tree.Selector as selector
 use Rattle.c_tree.specs.ExpressionTrees.{ExpressionTree, expression_tree}
 use Rattle.c_tree.specs.Trees.{Tree, Forest, SectionTree, Nil, join, expression_trees, tree_of, trees_of, section_tree, sections, sections_of}
 use Rattle.c_tree.specs.Trees as tree
-use Rattle.c_tree.proofs.ExpressionLaws.{test-Source, selector-Source}
-use Rattle.c_tree.proofs.TreeLaws.{tree-Evaluate, tree-Return, tree-If, tree-While, tree-Do, tree-For, tree-Switch, tree-Block, tree-Local, tree-Break, tree-Continue, tree-Goto, tree-Mark, tree-Arrival, tree-Note, trees-none, trees-more, trees-append}
+use Rattle.c_tree.proofs.TreeLaws.{trees-none, trees-more, trees-append}
 use Rattle.c_types.specs.declared.kinds.IntKind.{IntKind}
 use Rattle.c_source.specs.Terms.{Term}
-use Rattle.c_source.specs.Items.{Declarator, Declaration, Label, Named, Case, Default, Start, NoStart, StartValue, StartNames, Item, Declares, States, Plain, From, Statement, Null, Evaluate, If, IfElse, While, DoWhile, For, Switch, Block, Goto, Break, Continue, Return, Unread, Body, Braces, Lone, Items, NoItem}
-use Rattle.c_source.specs.Items as items
-use Rattle.c_kinds.specs.Scopes.{Scope, fault_if}
+use Rattle.c_kinds.specs.Scopes.{Scope}
 use Rattle.c_kinds.specs.Typing.{constant_faults}
-use Rattle.c_statements.specs.declared.extents.Kinded.{Kinded}
-use Rattle.c_statements.specs.declared.anchors.Anchor.{Anchor}
-use Rattle.c_statements.specs.declared.anchors.Anchor.TheVariants.{Before, AtEnd, AtSection}
-use Rattle.c_statements.specs.Context.{Context, Walk, env_at, env_in, enter, notes_at, number_in, Around, in_loop, in_switch}
-use Rattle.c_statements.specs.Declarations.{shape_of, slot_of, kinded, declared, all_declared, local, locals, initial, value_at, constant_at, value_faults, local_faults, locals_faults}
-use Rattle.c_statements.specs.Labels.{has_case, mark, label_items, labels_items, section_marks, section_cases, label_faults, labels_faults}
-use Rattle.c_statements.specs.Sections.{Reading, extended, closed, passed_on}
-use Rattle.c_statements.specs.Statements.{behind_start, behind_item, behind_plain, behind_body, behind_items, declared_by, dropped_at, test_at, start_items, begun, a_switch, item_items, plain_items, statement_items, body_items, list_items, switch_sections, sections_from, sections_at}
-use Rattle.c_statements.specs.Statements as statements
-use Rattle.c_statements.specs.Violations.{dropped_faults, optional_faults, start_faults, return_faults, item_faults, plain_faults, statement_faults, body_faults, list_faults, switch_body_faults, outside_faults, outside_fault}
-use Rattle.c_resolved.specs.Form.{ends_with_break}
-use Rattle.c_resolved.specs.Within.{Each}
-use Rattle.resolving_core.proofs.Lists.{none_left, each_append}
-use Rattle.resolving_core.specs.Read.{IsReadTerm, IsReadDeclarator, IsReadLabel, IsReadStart, IsReadItem, IsReadPlain, IsReadStatement, IsReadBody, AreReadItems}
-use Rattle.resolving_core.proofs.Empty.{constant_empty}
-use Rattle.resolving_core.proofs.Parts.{parted, locals_parts, labels_parts, states_parts, list_parts, if_parts, if_else_parts, while_parts, do_parts, for_parts, switch_parts, Outside, outside_declares, outside_parts, outside_one}
-use Rattle.resolving_core.proofs.Grown.{Grown, locals_grow, body_grows, list_grows, outside_grows}
-use Rattle.resolving_core.proofs.SectionTrees.{later_break, section_of, ended_tree, has_entry, without_end, passes, with_entries, passed_trees, passed_same, ended_same, sections_are}
-use Rattle.c_tree.specs.declared.tree.Home.TheVariants as H
-use Rattle.c_tree.specs.TextExpressions.{slot_name}
+use Rattle.c_statements.specs.Context.{Context, Walk, env_at, enter}
+use Rattle.c_statements.specs.Declarations.{value_at, constant_at, value_faults}
+use Rattle.c_statements.specs.Statements.{dropped_at}
+use Rattle.c_statements.specs.Violations.{dropped_faults, optional_faults, return_faults}
+use Rattle.resolving_core.proofs.Lists.{none_left}
+use Rattle.resolving_core.specs.Read.{IsReadTerm}
 use Rattle.c_kinds.specs.declared.binding.Binding.{Binding}
-use Rattle.c_kinds.specs.declared.binding.Binding.TheVariants as B
 use Rattle.c_kinds.specs.Scopes.{found, is_bound, bind}
 use Rattle.c_resolved.specs.Names.{Names}
 use Rattle.c_resolved.specs.Scopes as Scopes
 use Rattle.c_resolved.specs.Scopes.{AVariable, NameIsBound, IsBound, IsNew, ItemIsBound, AreBound, SectionsAreBound, behind, behind_all, inside}
 use Rattle.resolving_core.proofs.Bindings.{knows_inside}
-use Rattle.resolving_core.proofs.Declared.{knows_declared, slot_there, values_are}
-use Rattle.resolving_core.proofs.Empty.{value_empty}
 use Rattle.resolving_core.proofs.FileNames.{Same, meaning_of}
 use Rattle.resolving_core.proofs.FileScope.{same_new}
 use Rattle.resolving_core.proofs.ItemKinds.{within_map}
 use Rattle.resolving_core.proofs.Known.{Knows}
-use Rattle.resolving_core.proofs.Parts.{local_parts}
 use Rattle.resolving_core.proofs.Uses.{value_is, dropped_is, constant_is_value}
 use Rattle.resolving_core.proofs.Values.{IsSound, Sound}
-use Rattle.resolving_core.proofs.Walk.{Begins, Any, begins_before}
-use Rattle.resolving_core.proofs.Walked.{body_scopes, plain_scopes}
 
 -- the nearest scopes have the same names
 abbrev pub Nearest : List Scope → List Scopes.Scope → Type 0

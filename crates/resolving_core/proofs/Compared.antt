@@ -1,18 +1,16 @@
 -- The labels of a switch, nested ones among them: constants, one default at most, and distinct after conversion.
-use Rattle.std.proofs.Common.{ℕ, Bool, true, false, not, cond, ◌&&◌, ◌||◌, List, [], ◌∷◌, ◌++◌, append_assoc, map, length, Option, Some, None, option_map, append_assoc, true≢false, arith, ◌≡◌, refl, sym, ap, subst, ◌∙◌}
+use Rattle.std.proofs.Common.{ℕ, Bool, true, false, cond, List, [], ◌∷◌, ◌++◌, append_assoc, map, length, Option, Some, None, option_map, append_assoc, true≢false, arith, ◌≡◌, refl, sym, ap, subst, ◌∙◌}
 use Rattle.std.specs.Prelude.{ℤ, ◌+◌, ◌≤◌}
 use Rattle.c_tree.specs.declared.tree.Item as item
 use Rattle.c_tree.specs.declared.tree.Section.{Section}
 use Rattle.c_tree.specs.declared.tree.Test as test
 use Rattle.c_tree.specs.declared.tree.Selector as selector
 use Rattle.c_tree.specs.ExpressionTrees.{ExpressionTree}
-use Rattle.c_tree.specs.Trees.{Tree, Forest, SectionTree, Nil, join, expression_trees, tree_of, trees_of, section_tree, sections, sections_of}
-use Rattle.c_tree.specs.Trees as tree
+use Rattle.c_tree.specs.Trees.{SectionTree, expression_trees, trees_of, section_tree, sections, sections_of}
 use Rattle.c_tree.proofs.TreeLaws.{tree-Evaluate, tree-Return, tree-If, tree-While, tree-Do, tree-For, tree-Switch, tree-Block, tree-Break, tree-Continue, tree-Goto, trees-none, trees-append}
 use Rattle.c_types.specs.declared.kinds.IntKind.{IntKind}
 use Rattle.c_source.specs.Items.{Declarator, Declaration, Label, Named, Case, Default, Start, NoStart, StartValue, StartNames, Item, Declares, States, Plain, From, Statement, Null, Evaluate, If, IfElse, While, DoWhile, For, Switch, Block, Goto, Break, Continue, Return, Unread, Body, Braces, Lone, Items, NoItem}
 use Rattle.c_source.specs.Items as items
-use Rattle.c_kinds.specs.Scopes.{fault_if}
 use Rattle.c_statements.specs.declared.anchors.Anchor.TheVariants.{Before, AtEnd, AtSection}
 use Rattle.c_statements.specs.Context.{Context, Walk, env_at, enter, notes_at, number_in, Around, in_loop}
 use Rattle.c_statements.specs.Declarations.{kinded, locals, value_at}
@@ -20,34 +18,25 @@ use Rattle.c_statements.specs.Labels.{has_case, labels_items, section_marks, sec
 use Rattle.c_statements.specs.Sections.{Reading, extended, closed, passed_on}
 use Rattle.c_statements.specs.Statements.{behind_start, behind_item, behind_plain, behind_body, behind_items, declared_by, dropped_at, test_at, start_items, begun, a_switch, item_items, plain_items, statement_items, body_items, list_items, switch_sections, sections_from, sections_at}
 use Rattle.c_statements.specs.Statements as statements
-use Rattle.c_statements.specs.Violations.{item_faults, plain_faults, statement_faults, body_faults, list_faults, switch_body_faults, outside_faults, outside_fault}
-use Rattle.c_resolved.specs.Form.{ends_with_break}
+use Rattle.c_statements.specs.Violations.{is_null, item_faults, plain_faults, statement_faults, body_faults, list_faults, switch_body_faults, outside_faults}
 use Rattle.c_resolved.specs.Within.{Each}
-use Rattle.resolving_core.proofs.Lists.{none_left, clean_if, each_map}
-use Rattle.resolving_core.proofs.Parts.{parted, states_parts, list_parts, if_parts, if_else_parts, while_parts, do_parts, for_parts, Outside, outside_declares, outside_parts, outside_one}
-use Rattle.resolving_core.proofs.SectionTrees.{later_break, section_of, ended_tree, has_entry, without_end, passes, with_entries, passed_trees, passed_same, ended_same, sections_are}
+use Rattle.resolving_core.proofs.Parts.{states_parts, list_parts, if_parts, if_else_parts, while_parts, do_parts, for_parts, Outside, outside_declares, outside_parts, outside_alone}
+use Rattle.resolving_core.proofs.Readings.{longer, beginning, sections_alone}
+use Rattle.resolving_core.proofs.SectionTrees.{ended_tree, passed_trees, passed_same, ended_same, sections_are}
 use Rattle.c_tree.specs.Constants.{constant_value}
 use Rattle.c_statements.specs.declared.entries.Entry.{Entry}
-use Rattle.c_statements.specs.declared.entries.Entry.TheVariants.{Value, Other}
 use Rattle.c_statements.specs.Cases.{label_entries, item_entries, plain_entries, statement_entries, body_entries, list_entries}
-use Rattle.c_resolved.specs.Switches.{arrivals, arrivals_of, section_labels, switch_labels, cases_among, defaults_among, IsConstantValue}
+use Rattle.c_resolved.specs.Switches.{arrivals, switch_labels, cases_among, defaults_among, IsConstantValue}
 use Rattle.resolving_core.specs.Read.{label_cases, item_cases, plain_cases, statement_cases, body_cases, list_cases}
 use Rattle.std.proofs.lemmas.List.{append-nil}
-use Rattle.std.specs.Prelude.{◌<ℤ◌, ◌≢◌, ◌<◌}
-use Rattle.std.specs.Cmp.{int_ranks}
-use Rattle.std.specs.declared.cmp.Ordering.{Ordering}
-use Rattle.std.specs.declared.cmp.Ordering.TheVariants.{Less, Equal, Greater}
-use Rattle.std.specs.Ordering.{int_cmp, is_eq, match_ordering, MatchOrdering}
-use Rattle.std.proofs.lemmas.Int.{ints}
+use Rattle.std.specs.Prelude.{◌≢◌, ◌<◌}
 use Rattle.c_types.specs.Numbers.{converted}
 use Rattle.c_tree.specs.Cases.{case_number}
-use Rattle.c_statements.specs.Cases.{is_among, with_value, entry_faults}
+use Rattle.c_statements.specs.Cases.{entry_faults}
 use Rattle.c_resolved.specs.Switches.{AreLabels}
 use Rattle.c_resolved.specs.Within.{AllDiffer}
-use Rattle.resolving_core.proofs.Empty.{entries_empty}
-use Rattle.resolving_core.proofs.Lists.{each_map, or_left, or_right}
-use Rattle.resolving_core.proofs.Entries.{vals, others, cases-append, defaults-append, arrivals-join, own_cases, own_defaults, Adds, adds_none, adds_both, adds_as, C, D, AddsItems, none_of, both_of, one_of, still, front, back, more_of, notes_of, behind_notes, marks_of, locals_of, labels_of, section_of_labels}
-use Rattle.resolving_core.proofs.Numbered.{not_itself, differs, equal_is, apart, flag, Compared, one_at_most, compared, CS, DS, CL, DL, cs_cons, ds_cons, either_default, Passes, front_section, empty_section, passed_by, passed_labels, cut_arrivals, Finished, finished}
+use Rattle.resolving_core.proofs.Entries.{cases-append, defaults-append, arrivals-join, Adds, adds_none, adds_both, adds_as, C, D, AddsItems, none_of, both_of, one_of, still, front, back, more_of, notes_of, behind_notes, marks_of, locals_of, labels_of, section_of_labels}
+use Rattle.resolving_core.proofs.Numbered.{flag, compared, CS, DS, cs_cons, ds_cons, Passes, passed_labels, finished}
 
 module _ (ctx : Context) where
   -- ---- readings
@@ -106,17 +95,13 @@ module _ (ctx : Context) where
   unfolding RD
   none_default = refl
 
-  extended_cases : (o : Option Reading) (xs : List item.Item) → RC (extended o xs) ≡ RC o ++ C ctx xs
+  extended_cases : (r : Reading) (xs : List item.Item) → RC (extended (Some r) xs) ≡ RC (Some r) ++ C ctx xs
   unfolding RC
-  extended_cases (Some r) xs = ap (λ l. expression_trees r.cases ++ l) (C_both r.list xs) ∙ sym (append_assoc (expression_trees r.cases) (C ctx r.list) (C ctx xs))
-  extended_cases None [] = sym C_none
-  extended_cases None (x ∷ xs) = refl
+  extended_cases r xs = ap (λ l. expression_trees r.cases ++ l) (C_both r.list xs) ∙ sym (append_assoc (expression_trees r.cases) (C ctx r.list) (C ctx xs))
 
-  extended_defaults : (o : Option Reading) (xs : List item.Item) → RD (extended o xs) ≡ RD o + D ctx xs
+  extended_defaults : (r : Reading) (xs : List item.Item) → RD (extended (Some r) xs) ≡ RD (Some r) + D ctx xs
   unfolding RD
-  extended_defaults (Some r) xs = let h = D_both r.list xs in omega arith
-  extended_defaults None [] = let h = D_none in omega arith
-  extended_defaults None (x ∷ xs) = omega arith
+  extended_defaults r xs = let h = D_both r.list xs in omega arith
 
   -- what sections have behind the one that is being read
   record Ahead (found es : List Entry) (o : Option Reading) (cs : List Section) (k : ℕ) : Type 0 where
@@ -149,19 +134,19 @@ module _ (ctx : Context) where
       record {
         more = [];
         d = 0;
-        cases = q ∙ ap (λ x. x ++ []) (extended_cases (Some r) notes ∙ (ap (λ x. RC (Some r) ++ x) (quiet_cases found notes h) ∙ append-nil (RC (Some r))));
-        defaults = let a = s in let b = extended_defaults (Some r) notes in let c = quiet_defaults found notes h in omega arith;
+        cases = q ∙ ap (λ x. x ++ []) (extended_cases r notes ∙ (ap (λ x. RC (Some r) ++ x) (quiet_cases found notes h) ∙ append-nil (RC (Some r))));
+        defaults = let a = s in let b = extended_defaults r notes in let c = quiet_defaults found notes h in omega arith;
         adds = adds_none found;
       }
 
   -- items at the end of the section
-  next_from : (found mid es : List Entry) (o : Option Reading) (new : List item.Item) (cs : List Section) (k l : ℕ) → AddsItems ctx found mid new k → Ahead mid es (extended o new) cs l → Ahead found es o cs (k + l)
-  next_from found mid es o new cs k l h r = record {
-    more = C ctx new ++ r.more;
-    d = D ctx new + r.d;
-    cases = r.cases ∙ (ap (λ x. x ++ r.more) (extended_cases o new) ∙ append_assoc (RC o) (C ctx new) r.more);
-    defaults = let a = r.defaults in let b = extended_defaults o new in omega arith;
-    adds = adds_both found mid es (C ctx new) r.more (D ctx new) r.d k l h r.adds;
+  next_from : (found mid es : List Entry) (r : Reading) (new : List item.Item) (cs : List Section) (k l : ℕ) → AddsItems ctx found mid new k → Ahead mid es (extended (Some r) new) cs l → Ahead found es (Some r) cs (k + l)
+  next_from found mid es r new cs k l h a = record {
+    more = C ctx new ++ a.more;
+    d = D ctx new + a.d;
+    cases = a.cases ∙ (ap (λ x. x ++ a.more) (extended_cases r new) ∙ append_assoc (RC (Some r)) (C ctx new) a.more);
+    defaults = let b = a.defaults in let c = extended_defaults r new in omega arith;
+    adds = adds_both found mid es (C ctx new) a.more (D ctx new) a.d k l h a.adds;
   }
 
   -- a new section
@@ -188,10 +173,6 @@ module _ (ctx : Context) where
       let front_items = notes_at ctx (AtSection (items.first_label ls)) ++ section_marks ctx ls in
       adds_both found mid es (expression_trees (section_cases (env_at ctx w) ls)) (C ctx (front_items ++ ps)) (cond (has_default ls) 1 0) (D ctx (front_items ++ ps)) k l h
       (front ctx mid es front_items ps l (behind_notes ctx mid mid (AtSection (items.first_label ls)) (section_marks ctx ls) 0 (marks_of ctx mid ls)) i)
-
-  lone_by : (found es : List Entry) (b : Bool) (xs ys : List Section) (k : ℕ) → Ahead found es None xs k → Ahead found es None ys k → Ahead found es None (elim b [ true ↦ xs | false ↦ ys ]) k
-  lone_by found es true xs ys k h i = h
-  lone_by found es false xs ys k h i = i
 
   -- ---- statements
 
@@ -265,85 +246,77 @@ module _ (ctx : Context) where
 
   -- ---- sections
 
-  -- a statement in front of, or in, sections
-  state_from : (around : Around) (ls : List Label) (p : Plain) (xs : Items) (notes : List item.Item) (w : Walk) (o : Option Reading) (found es : List Entry) → item_faults ctx around (States ls p) w [] ≡ [] → (l : ℕ)
-      → let v = behind_plain ctx p w in let env = env_at ctx w in let ps = plain_items ctx p w in let mid = item_entries ctx (States ls p) w found in
-      Ahead mid es (begun ctx env ls ps) (sections_from ctx (begun ctx env ls ps) xs notes v) l → Ahead mid es (extended o (labels_items ctx env ls ++ ps)) (sections_from ctx (extended o (labels_items ctx env ls ++ ps)) xs notes v) l
-      → Ahead found es o (sections_from ctx o (items.Then (States ls p) xs) notes w) (item_cases (States ls p) + l)
-  state_from around ls p xs notes w o found es e l f g =
+  -- a statement that begins a section
+  begins_from : (around : Around) (ls : List Label) (p : Plain) (w : Walk) (o : Option Reading) (found es : List Entry) (cs : List Section) (l : ℕ) → item_faults ctx around (States ls p) w [] ≡ []
+      → Ahead (item_entries ctx (States ls p) w found) es (Some (beginning ctx w ls (plain_items ctx p w))) cs l → Ahead found es o (closed o ++ cs) (item_cases (States ls p) + l)
+  begins_from around ls p w o found es cs l e f =
       let q = states_parts ctx around w ls p e in
-      let v = behind_plain ctx p w in
       let env = env_at ctx w in
       let ps = plain_items ctx p w in
       let one = label_entries env ls found in
       let mid = plain_entries ctx p w one in
-      let k = label_cases ls + plain_cases p in
-      let pa = plain_adds around p w one q.1 in
-      from_by found es o (has_case ls) (sections_from ctx (begun ctx env ls ps) xs notes v) (sections_from ctx (extended o (labels_items ctx env ls ++ ps)) xs notes v) (k + l)
-      (begun_from found mid es o (begun ctx env ls ps) (sections_from ctx (begun ctx env ls ps) xs notes v) k l (begun_adds found one mid w ls ps (label_cases ls) (plain_cases p) (section_of_labels ctx w around.switch ls found q.0) pa) f)
-      (next_from found mid es o (labels_items ctx env ls ++ ps) (sections_from ctx (extended o (labels_items ctx env ls ++ ps)) xs notes v) k l
-      (both_of ctx found one mid (labels_items ctx env ls) ps (label_cases ls) (plain_cases p) (labels_of ctx w around.switch ls found q.0) pa) g)
-
-  outside_step : (around : Around) (ls : List Label) (p : Plain) (xs : Items) (w : Walk) (b : Bool) → Outside ctx around w b ls p xs → (A : Type 0) → (list_faults ctx around xs (behind_plain ctx p w) [] ≡ [] → A) → (outside_faults ctx around xs (behind_plain ctx p w) [] ≡ [] → A) → A
-  outside_step around ls p xs w true o A f g = f o
-  outside_step around ls p xs w false o A f g = g o.1
+      begun_from found mid es o (begun ctx env ls ps) cs (label_cases ls + plain_cases p) l
+      (begun_adds found one mid w ls ps (label_cases ls) (plain_cases p) (section_of_labels ctx w around.switch ls found q.0) (plain_adds around p w one q.1)) f
 
   -- in sections
-  inside_from : (around : Around) (xs : Items) (o : Option Reading) (notes : List item.Item) (w : Walk) (found : List Entry) → ((es : List Entry) → AddsItems ctx es es notes 0) → list_faults ctx around xs w [] ≡ []
-      → Ahead found (list_entries ctx xs w found) o (sections_from ctx o xs notes w) (list_cases xs)
-  inside_from around NoItem o notes w found h e = end_from found o notes (h found)
-  inside_from around (items.Then (Declares first after d) xs) o notes w found h e =
+  inside_from : (around : Around) (xs : Items) (r : Reading) (notes : List item.Item) (w : Walk) (found : List Entry) → ((es : List Entry) → AddsItems ctx es es notes 0) → list_faults ctx around xs w [] ≡ []
+      → Ahead found (list_entries ctx xs w found) (Some r) (sections_from ctx (Some r) xs notes w) (list_cases xs)
+  inside_from around NoItem r notes w found h e = end_from found (Some r) notes (h found)
+  inside_from around (items.Then (Declares first after d) xs) r notes w found h e =
       let p = list_parts ctx around w (Declares first after d) xs e in
       let v = declared_by ctx d w in
       let l = locals ctx.word (kinded ctx.word d) d.names w in
       let new = notes_at ctx (Before first) ++ l in
-      next_from found found (list_entries ctx xs v found) o new (sections_from ctx (extended o new) xs notes v) 0 (list_cases xs) (behind_notes ctx found found (Before first) l 0 (locals_of ctx found (kinded ctx.word d) d.names w))
-      (inside_from around xs (extended o new) notes v found h p.1)
-  inside_from around (items.Then (States ls p) xs) o notes w found h e =
+      next_from found found (list_entries ctx xs v found) r new (sections_from ctx (extended (Some r) new) xs notes v) 0 (list_cases xs) (behind_notes ctx found found (Before first) l 0 (locals_of ctx found (kinded ctx.word d) d.names w))
+      (inside_from around xs (longer r new) notes v found h p.1)
+  inside_from around (items.Then (States ls p) xs) r notes w found h e =
       let q = list_parts ctx around w (States ls p) xs e in
       let v = behind_plain ctx p w in
       let env = env_at ctx w in
       let ps = plain_items ctx p w in
-      let mid = item_entries ctx (States ls p) w found in
-      state_from around ls p xs notes w o found (list_entries ctx xs v mid) q.0 (list_cases xs)
-      (inside_from around xs (begun ctx env ls ps) notes v mid h q.1) (inside_from around xs (extended o (labels_items ctx env ls ++ ps)) notes v mid h q.1)
-
-  -- in front of the first section
-  outside_from : (around : Around) (xs : Items) (o : Option Reading) (notes : List item.Item) (w : Walk) (found : List Entry) → ((es : List Entry) → AddsItems ctx es es notes 0) → outside_faults ctx around xs w [] ≡ []
-      → Ahead found (list_entries ctx xs w found) o (sections_from ctx o xs notes w) (list_cases xs)
-  outside_from around NoItem o notes w found h e = end_from found o notes (h found)
-  outside_from around (items.Then (Declares first after d) xs) o notes w found h e = absurd (outside_declares ctx around w first after d xs e)
-  outside_from around (items.Then (States ls p) xs) o notes w found h e =
-      let q = outside_parts ctx around w ls p xs e in
-      let v = behind_plain ctx p w in
-      let env = env_at ctx w in
-      let ps = plain_items ctx p w in
+      let new = labels_items ctx env ls ++ ps in
       let mid = item_entries ctx (States ls p) w found in
       let es = list_entries ctx xs v mid in
-      let a = begun ctx env ls ps in
-      let b = extended o (labels_items ctx env ls ++ ps) in
-      state_from around ls p xs notes w o found es q.0 (list_cases xs)
-      (outside_step around ls p xs w (has_case ls) q.1 (Ahead mid es a (sections_from ctx a xs notes v) (list_cases xs)) (λ y. inside_from around xs a notes v mid h y) (λ y. outside_from around xs a notes v mid h y))
-      (outside_step around ls p xs w (has_case ls) q.1 (Ahead mid es b (sections_from ctx b xs notes v) (list_cases xs)) (λ y. inside_from around xs b notes v mid h y) (λ y. outside_from around xs b notes v mid h y))
+      from_by found es (Some r) (has_case ls) (sections_from ctx (begun ctx env ls ps) xs notes v) (sections_from ctx (extended (Some r) new) xs notes v) (item_cases (States ls p) + list_cases xs)
+      (begins_from around ls p w (Some r) found es (sections_from ctx (begun ctx env ls ps) xs notes v) (list_cases xs) q.0 (inside_from around xs (beginning ctx w ls ps) notes v mid h q.1))
+      (next_from found mid es r new (sections_from ctx (extended (Some r) new) xs notes v) (item_cases (States ls p)) (list_cases xs) (item_adds around (States ls p) w found q.0) (inside_from around xs (longer r new) notes v mid h q.1))
 
-  lone_from : (around : Around) (x : Item) (notes : List item.Item) (w : Walk) → ((es : List Entry) → AddsItems ctx es es notes 0) → outside_fault ctx around x w [] ≡ []
-      → Ahead [] (item_entries ctx x w []) None (sections_at ctx None x notes w) (item_cases x)
-  lone_from around (Declares first after d) notes w h e = absurd (none_left _ _ e)
-  lone_from around (States ls p) notes w h e =
-      let q = outside_one ctx around w ls p e in
-      let mid = item_entries ctx (States ls p) w [] in
-      from_more [] mid None (sections_at ctx None (States ls p) notes w) (item_cases (States ls p) + 0) (item_cases (States ls p)) (omega arith)
-      (lone_state (has_case ls) refl
-      (state_from around ls p NoItem notes w None [] mid q.0 0
-      (end_from mid (begun ctx (env_at ctx w) ls (plain_items ctx p w)) notes (h mid)) (end_from mid (extended None (labels_items ctx (env_at ctx w) ls ++ plain_items ctx p w)) notes (h mid))))
+  -- a null statement without labels has no cases
+  null_from : (ls : List Label) (p : Plain) (xs : Items) (w : Walk) (found : List Entry) (cs : List Section) → is_null ls p ≡ true
+      → Ahead found (list_entries ctx xs (behind_plain ctx p w) found) None cs (list_cases xs) → Ahead found (list_entries ctx (items.Then (States ls p) xs) w found) None cs (list_cases (items.Then (States ls p) xs))
+  null_from [] (From first after Null) xs w found cs e a = from_more found (list_entries ctx xs w found) None cs (list_cases xs) (list_cases (items.Then (States [] (From first after Null)) xs)) (omega arith) a
+  null_from ls p xs w found cs e a = absurd (true≢false (sym e))
+
+  -- in front of the first section
+  outside_from : (around : Around) (xs : Items) (notes : List item.Item) (w : Walk) (found : List Entry) → ((es : List Entry) → AddsItems ctx es es notes 0) → outside_faults ctx around xs w [] ≡ []
+      → Ahead found (list_entries ctx xs w found) None (sections_from ctx None xs notes w) (list_cases xs)
+  outside_from around NoItem notes w found h e = end_from found None notes (h found)
+  outside_from around (items.Then (Declares first after d) xs) notes w found h e = absurd (outside_declares ctx around w first after d xs e)
+  outside_from around (items.Then (States ls p) xs) notes w found h e =
+      let q = outside_parts ctx around w ls p xs e in
+      let v = behind_plain ctx p w in
+      let mid = item_entries ctx (States ls p) w found in
+      by (has_case ls) (λ cs. Ahead found (list_entries ctx (items.Then (States ls p) xs) w found) None cs (list_cases (items.Then (States ls p) xs))) q.1
+      (λ y. begins_from around ls p w None found (list_entries ctx xs v mid) (sections_from ctx (begun ctx (env_at ctx w) ls (plain_items ctx p w)) xs notes v) (list_cases xs) q.0 (inside_from around xs (beginning ctx w ls (plain_items ctx p w)) notes v mid h y))
+      (λ n y. null_from ls p xs w found (sections_from ctx None xs notes v) n (outside_from around xs notes v found h y))
     where
-      lone_state : (b : Bool) → has_case ls ≡ b → Ahead [] (item_entries ctx (States ls p) w []) None (sections_from ctx None (items.Then (States ls p) NoItem) notes w) (item_cases (States ls p) + 0)
-          → Ahead [] (item_entries ctx (States ls p) w []) None (sections_at ctx None (States ls p) notes w) (item_cases (States ls p) + 0)
-      lone_state b i r = r
+      by : (b : Bool) (Here : List Section → Type 0) → Outside ctx around w b ls p xs → (list_faults ctx around xs (behind_plain ctx p w) [] ≡ [] → Here (sections_from ctx (begun ctx (env_at ctx w) ls (plain_items ctx p w)) xs notes (behind_plain ctx p w)))
+          → (is_null ls p ≡ true → outside_faults ctx around xs (behind_plain ctx p w) [] ≡ [] → Here (sections_from ctx None xs notes (behind_plain ctx p w)))
+          → Here (elim b [
+            | true ↦ sections_from ctx (begun ctx (env_at ctx w) ls (plain_items ctx p w)) xs notes (behind_plain ctx p w)
+            | false ↦ sections_from ctx None xs notes (behind_plain ctx p w)
+          ])
+      by true Here o f g = f o
+      by false Here o f g = g o.0 o.1
 
   switch_from : (around : Around) (b : Body) (w : Walk) → switch_body_faults ctx around b w [] ≡ [] → Ahead [] (body_entries ctx b w []) None (switch_sections ctx b w) (body_cases b)
-  switch_from around (Braces first after xs) w e = outside_from around xs None (notes_at ctx (AtEnd first)) (enter w) [] (λ es. notes_of ctx es (AtEnd first)) e
-  switch_from around (Lone first after x) w e = lone_from around x (notes_at ctx (AtEnd first)) (enter w) (λ es. notes_of ctx es (AtEnd first)) e
+  switch_from around (Braces first after xs) w e = outside_from around xs (notes_at ctx (AtEnd first)) (enter w) [] (λ es. notes_of ctx es (AtEnd first)) e
+  switch_from around (Lone first after x) w e =
+      let v = enter w in
+      let notes = notes_at ctx (AtEnd first) in
+      from_more [] (item_entries ctx x v []) None (switch_sections ctx (Lone first after x) w) (item_cases x + 0) (item_cases x) (omega arith)
+      (subst (λ cs. Ahead [] (item_entries ctx x v []) None cs (item_cases x + 0)) (sym (sections_alone ctx v x notes))
+      (outside_from around (items.Then x NoItem) notes v [] (λ es. notes_of ctx es (AtEnd first)) (outside_alone ctx around v x e)))
 
   -- ---- the labels of a switch
 

@@ -173,7 +173,7 @@ module _ (file : File) where
       later true b e = refl
       later false b e = e
 
-  pub file_once : (xs : List tops.Top) (s : State) (done : List Top) (p : Place file done s.scopes) → IsReadFile file.word file.notes xs → file_faults file xs s [] ≡ [] → Tracks done s → Once xs s
+  pub file_once : (xs : List tops.Top) (s : State) (done : List Top) (p : Place file done s.scopes) → IsReadFile file.word xs → file_faults file xs s [] ≡ [] → Tracks done s → Once xs s
   file_once [] s done p r e t = record { once = subst BodiesOnce (append-nil (notes_tops file Last)) (once_before (notes_tops file Last) [] (notes_none (file.notes Last)) tt); none = λ m h. bodiless m (notes_tops file Last) (notes_none (file.notes Last)) }
   file_once (tops.From first after form ∷ xs) s done p r e t =
       let q = file_parts file first after form xs s e in

@@ -31,7 +31,6 @@ use Rattle.c_statements.specs.declared.anchors.Anchor.TheVariants.{Before, Last}
 use Rattle.c_statements.specs.Declarations.{kinded, shape_of, constant_at, initial, initial_faults}
 use Rattle.resolving_core.proofs.Defined as the_function
 use Rattle.c_statements.specs.Functions.{result_kind, function_of}
-use Rattle.c_statements.specs.Functions as D
 use Rattle.c_resolved.specs.Files.{IsConstantOf, HasNextValue, HaveValues, IsGlobal, IsMainForm, AreNotMain, MainIsFormed}
 use Rattle.c_resolved.specs.Names.{Names}
 use Rattle.c_resolved.specs.Scopes as Scopes
@@ -281,7 +280,7 @@ module _ (file : File) (ts : List Top) (known : (slots : List Slot) → IsDefine
       head [] = []
       head (s ∷ ss) = s
 
-  form_holds : (done : List Top) (first : ℕ) (form : Form) (s : State) (p : Place file done s.scopes) → IsReadTopForm file.word file.notes form → IsReadLine file.word file.notes first form → (e : form_faults file form s [] ≡ [])
+  form_holds : (done : List Top) (first : ℕ) (form : Form) (s : State) (p : Place file done s.scopes) → IsReadTopForm file.word form → IsReadLine file.word first form → (e : form_faults file form s [] ≡ [])
       → (now : Scope) → Shaped (behind_form file form s).scopes now → (names : Scopes.Scope) → behind_tops (defined file) (tree_scopes p.rs) (form_tops file first form s) ≡ tree_scopes names → Same now names → (z : AtEnd file ts now)
       → HoldFrom (tree_scopes p.rs) (form_tops file first form s)
   form_holds done first Line s p r line e now h names tree same z = (((tt, tt), (tt, tt), (line, tt)), (tt, tt))
@@ -318,7 +317,7 @@ module _ (file : File) (ts : List Top) (known : (slots : List Slot) → IsDefine
       )
   form_holds done first Unread s p r line e now h names tree same z = absurd r
 
-  pub file_holds : (xs : List tops.Top) (s : State) (done : List Top) (p : Place file done s.scopes) → IsReadFile file.word file.notes xs → file_faults file xs s [] ≡ [] → ts ≡ done ++ tops_of file xs s → HoldFrom (tree_scopes p.rs) (tops_of file xs s)
+  pub file_holds : (xs : List tops.Top) (s : State) (done : List Top) (p : Place file done s.scopes) → IsReadFile file.word xs → file_faults file xs s [] ≡ [] → ts ≡ done ++ tops_of file xs s → HoldFrom (tree_scopes p.rs) (tops_of file xs s)
   file_holds [] s done p r e a = notes_hold (tree_scopes p.rs) (file.notes Last) (comments Last)
   file_holds (tops.From first after form ∷ xs) s done p r e a =
       let q = file_parts file first after form xs s e in

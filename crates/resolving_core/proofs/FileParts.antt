@@ -23,7 +23,7 @@ use Rattle.c_statements.specs.declared.anchors.Anchor.{Anchor}
 use Rattle.c_statements.specs.Context.{Context, Walk, env_at, has_label, no_construct}
 use Rattle.c_statements.specs.Declarations.{kinded, is_bad_array, size_faults, initial_faults}
 use Rattle.resolving_core.proofs.Defined.{prototype_context}
-use Rattle.c_statements.specs.Functions.{FlatCounts, bind_parameter, parameter_fault, parameters_faults, body_items, body_faults, context, result_kind, inside, tangle_fault, measures, faults_within}
+use Rattle.c_statements.specs.Functions.{FlatCounts, bind_parameter, parameter_fault, parameters_faults, body_items, body_faults, context, inside, tangle_fault, measures, faults_within}
 use Rattle.c_statements.specs.Labels.{body_labels, with_number, twice_from, twice_faults}
 use Rattle.c_statements.specs.Measures.{is_tangled}
 use Rattle.resolving_core.proofs.Empty.{Empties, constant_empty, size_empty, initial_empty, list_empty, item_empty}

@@ -51,7 +51,7 @@ module _ (file : File) where
   abbrev pub noted : (done : List Top) (scopes : List Scope) (bs : List (List ℕ)) → Place done scopes → Place (done ++ map T.Note bs) scopes
   noted done scopes bs p = record { fs = p.fs; rs = p.rs; shaped = p.shaped; inv = inv_neutral defined done (map T.Note bs) p.fs p.rs (λ m. notes_unnamed m bs) p.inv }
 
-  pub form_step : (done : List Top) (first : ℕ) (form : Form) (s : State) (p : Place done s.scopes) → IsReadTopForm file.word file.notes form → form_faults file form s [] ≡ []
+  pub form_step : (done : List Top) (first : ℕ) (form : Form) (s : State) (p : Place done s.scopes) → IsReadTopForm file.word form → form_faults file form s [] ≡ []
       → Stepped defined (done ++ form_tops file first form s) p.fs p.rs (behind_form file form s).scopes (behind_tops defined (tree_scopes p.rs) (form_tops file first form s))
   form_step done first Line s p r e =
       record { fs' = p.fs; rs' = p.rs; shaped = p.shaped; inv = inv_neutral defined done (T.Include (file.word first) ∷ []) p.fs p.rs (λ m. (tt, tt)) p.inv; grows = λ m x h. h; tree = refl }
@@ -76,14 +76,14 @@ module _ (file : File) where
     pub grows : Grows fs last
 
   -- the place behind a form
-  abbrev pub stepped_place : (done : List Top) (first : ℕ) (form : Form) (s : State) (p : Place done s.scopes) → IsReadTopForm file.word file.notes form → form_faults file form s [] ≡ []
+  abbrev pub stepped_place : (done : List Top) (first : ℕ) (form : Form) (s : State) (p : Place done s.scopes) → IsReadTopForm file.word form → form_faults file form s [] ≡ []
       → Place (done ++ (notes_tops file (Before first) ++ form_tops file first form s)) (behind_form file form s).scopes
   stepped_place done first form s p r e =
       let bs = file.notes (Before first) in
       let q = form_step (done ++ map T.Note bs) first form s (noted done s.scopes bs p) r e in
       record { fs = q.fs'; rs = q.rs'; shaped = q.shaped; inv = subst (λ l. Inv defined l q.fs' q.rs') (append_assoc done (map T.Note bs) (form_tops file first form s)) q.inv }
 
-  pub at_end : (xs : List tops.Top) (s : State) (done : List Top) (p : Place done s.scopes) → IsReadFile file.word file.notes xs → file_faults file xs s [] ≡ [] → AtEnd (done ++ tops_of file xs s) p.fs
+  pub at_end : (xs : List tops.Top) (s : State) (done : List Top) (p : Place done s.scopes) → IsReadFile file.word xs → file_faults file xs s [] ≡ [] → AtEnd (done ++ tops_of file xs s) p.fs
   at_end [] s done p r e = record { last = p.fs; names = p.rs; inv = inv_neutral defined done (notes_tops file Last) p.fs p.rs (λ m. notes_unnamed m (file.notes Last)) p.inv; grows = λ m x h. h }
   at_end (tops.From first after form ∷ xs) s done p r e =
       let q = file_parts file first after form xs s e in

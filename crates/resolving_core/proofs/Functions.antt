@@ -135,7 +135,7 @@ module _ (ctx : Context) (n : Names) where
 
 module _ (ctx : Context) (final : List Slot) (I : List Scope → Type 0) (P : Tree → Type 0) (C : ExpressionTree → Type 0) (c : Closed ctx final I P C) where
   -- a fact of each item of a body
-  pub body_holds : (b : Body) (w : Walk) → IsReadBody ctx.word ctx.notes b → body_faults ctx b w [] ≡ [] → I w.scopes → Begins (behind_body ctx b w).slots final → Holds P (body_items ctx b w)
+  pub body_holds : (b : Body) (w : Walk) → IsReadBody ctx.word b → body_faults ctx b w [] ≡ [] → I w.scopes → Begins (behind_body ctx b w).slots final → Holds P (body_items ctx b w)
   body_holds (Braces first after xs) w r e i z =
       hold_both P (list_items ctx xs w) (notes_at ctx (AtEnd first)) (list_holds ctx final I P C c no_construct xs w r e i z) (notes_hold ctx final I P C c (AtEnd first))
   body_holds (Lone first after x) w r e i z =
@@ -184,17 +184,21 @@ nothing a b e = ap (numbers_from a) (let h : b - a ≡ 0 = omega arith in h)
 
 -- the numbers of a body
 module _ (ctx : Context) where
-  body_slots : (b : Body) (w : Walk) → gathered declared_slot (trees_of (body_items ctx b w)) ≡ numbers_from (length w.slots) (length (behind_body ctx b w).slots - length w.slots)
-  body_slots (Braces first after xs) w =
-      before_notes ctx declared_slot slots_gather (list_items ctx xs w) (AtEnd first) ∙ (list_numbers ctx declared_slot slots_gather xs w ∙ run_is (length w.slots) (length (behind_items ctx xs w).slots) (of_list ctx declared_slot slots_gather xs w) (list_runs ctx xs w))
-  body_slots (Lone first after x) w =
-      before_notes ctx declared_slot slots_gather (item_items ctx x w) (AtEnd first) ∙ (item_numbers ctx declared_slot slots_gather x w ∙ run_is (length w.slots) (length (behind_item ctx x w).slots) (of_item ctx declared_slot slots_gather x w) (item_runs ctx x w))
+  body_slots : (b : Body) (w : Walk) → body_faults ctx b w [] ≡ [] → gathered declared_slot (trees_of (body_items ctx b w)) ≡ numbers_from (length w.slots) (length (behind_body ctx b w).slots - length w.slots)
+  body_slots (Braces first after xs) w e =
+      before_notes ctx declared_slot slots_gather (list_items ctx xs w) (AtEnd first)
+      ∙ (list_numbers ctx declared_slot slots_gather no_construct xs w e ∙ run_is (length w.slots) (length (behind_items ctx xs w).slots) (of_list ctx declared_slot slots_gather xs w) (list_runs ctx xs w))
+  body_slots (Lone first after x) w e =
+      before_notes ctx declared_slot slots_gather (item_items ctx x w) (AtEnd first)
+      ∙ (item_numbers ctx declared_slot slots_gather no_construct x w e ∙ run_is (length w.slots) (length (behind_item ctx x w).slots) (of_item ctx declared_slot slots_gather x w) (item_runs ctx x w))
 
-  body_marks : (b : Body) (w : Walk) → gathered marked_label (trees_of (body_items ctx b w)) ≡ map (number_at ctx) (body_labels b [])
-  body_marks (Braces first after xs) w =
-      before_notes ctx marked_label marks_gather (list_items ctx xs w) (AtEnd first) ∙ (list_numbers ctx marked_label marks_gather xs w ∙ sym (list_list ctx xs w [] ∙ append-nil (of_list ctx marked_label marks_gather xs w)))
-  body_marks (Lone first after x) w =
-      before_notes ctx marked_label marks_gather (item_items ctx x w) (AtEnd first) ∙ (item_numbers ctx marked_label marks_gather x w ∙ sym (item_list ctx x w [] ∙ append-nil (of_item ctx marked_label marks_gather x w)))
+  body_marks : (b : Body) (w : Walk) → body_faults ctx b w [] ≡ [] → gathered marked_label (trees_of (body_items ctx b w)) ≡ map (number_at ctx) (body_labels b [])
+  body_marks (Braces first after xs) w e =
+      before_notes ctx marked_label marks_gather (list_items ctx xs w) (AtEnd first)
+      ∙ (list_numbers ctx marked_label marks_gather no_construct xs w e ∙ sym (list_list ctx xs w [] ∙ append-nil (of_list ctx marked_label marks_gather xs w)))
+  body_marks (Lone first after x) w e =
+      before_notes ctx marked_label marks_gather (item_items ctx x w) (AtEnd first)
+      ∙ (item_numbers ctx marked_label marks_gather no_construct x w e ∙ sym (item_list ctx x w [] ∙ append-nil (of_item ctx marked_label marks_gather x w)))
 
   body_exits : (b : Body) (w : Walk) → body_faults ctx b w [] ≡ [] → Exits no_construct (trees_of (body_items ctx b w))
   body_exits (Braces first after xs) w e = has_both ctx Exits exits_surrounded no_construct (list_items ctx xs w) (notes_at ctx (AtEnd first)) (has_list ctx Exits exits_surrounded no_construct xs w e) (has_notes ctx Exits exits_surrounded no_construct (AtEnd first))
@@ -211,7 +215,7 @@ module _ (flat : FlatCounts) (word : ℕ → List ℕ) (notes : Anchor → List 
   abbrev pub KnownOutside : Type 0
   KnownOutside = (slots : List Slot) → (ss : List Scopes.Scope) × Knows (record { tops = ts; slots = slots }) ss (record { word = word; scopes = scopes })
 
-  resolves_by : (o : Option Body) → IfSome o (IsReadBody word notes) → IfSome o (IsFewBody word f.counted) → BodyParts flat word notes f o scopes → KnownOutside → Resolves flat ts (defined word notes f o scopes)
+  resolves_by : (o : Option Body) → IfSome o (IsReadBody word) → IfSome o (IsFewBody word f.counted) → BodyParts flat word notes f o scopes → KnownOutside → Resolves flat ts (defined word notes f o scopes)
   resolves_by None r few p k =
       let b = behind_parameters flat word notes f scopes None r p in
       let slots = (inside word f scopes).slots in
@@ -265,8 +269,8 @@ module _ (flat : FlatCounts) (word : ℕ → List ℕ) (notes : Anchor → List 
           parameters = begins_long (map (parameter_slot word) f.parameters) g.more slots (length f.parameters) q (length-map f.parameters (parameter_slot word));
           prototype = λ e. absurd (true≢false e);
           items = body_holds ctx slots Anywhere (HasSourceForm t) AnyConstant (forms_closed ctx t (λ m k h. subst (λ c. k < c) count (ls.below (λ q n e. absurd (true≢false (sym (ap is_some e)))) m k h))) b w r p.body tt all;
-          slots = body_slots ctx b w ∙ ap (λ k. numbers_from k (length slots - k)) start;
-          labels = body_marks ctx b w ∙ (ls.numbers ∙ ap (numbers_from 0) (sym (ap length ls.names ∙ length-map (body_labels b []) word)));
+          slots = body_slots ctx b w p.body ∙ ap (λ k. numbers_from k (length slots - k)) start;
+          labels = body_marks ctx b w p.body ∙ (ls.numbers ∙ ap (numbers_from 0) (sym (ap length ls.names ∙ length-map (body_labels b []) word)));
           cases = x.arriving refl;
           exits = λ i. x.breaking refl i + x.continuing refl i;
         };
@@ -279,7 +283,7 @@ module _ (flat : FlatCounts) (word : ℕ → List ℕ) (notes : Anchor → List 
         };
       }
 
-  pub resolves : IsReadFunction word notes f → BodyParts flat word notes f f.body scopes → KnownOutside → Resolves flat ts (function_of word notes f scopes)
+  pub resolves : IsReadFunction word f → BodyParts flat word notes f f.body scopes → KnownOutside → Resolves flat ts (function_of word notes f scopes)
   resolves r p k = resolves_by f.body r.body r.few p k
 
 -- ---- the names of a function
@@ -347,7 +351,7 @@ module _ (ctx : Context) (n : Names) (defines : Bool) where
       record { ss' = rest.ss'; same = rest.same; new = (one.new, rest.new); at = rest.at }
 
 -- the names of a body
-body_is_bound : (ctx : Context) (n : Names) (b : Body) (w : Walk) (ss : List Scopes.Scope) → At ctx n w ss → IsReadBody ctx.word ctx.notes b → body_faults ctx b w [] ≡ [] → Begins (behind_body ctx b w).slots n.slots → AreBound n.slots ss (trees_of (body_items ctx b w))
+body_is_bound : (ctx : Context) (n : Names) (b : Body) (w : Walk) (ss : List Scopes.Scope) → At ctx n w ss → IsReadBody ctx.word b → body_faults ctx b w [] ≡ [] → Begins (behind_body ctx b w).slots n.slots → AreBound n.slots ss (trees_of (body_items ctx b w))
 body_is_bound ctx n (Braces first after xs) w ss a r e z =
     let l = list_binds ctx n no_construct xs w ss a r e z in (binds_both ctx n ss l.ss' l.ss' (list_items ctx xs w) (notes_at ctx (AtEnd first)) l.binds (place_binds ctx n l.ss' (AtEnd first))).bound
 body_is_bound ctx n (Lone first after x) w ss a r e z =
@@ -361,7 +365,7 @@ module _ (flat : FlatCounts) (word : ℕ → List ℕ) (notes : Anchor → List 
   start_at : (ctx : Context) (n : Names) → ctx.word ≡ word → n.tops ≡ ts → Knows n ss (record { word = ctx.word; scopes = scopes }) → At ctx n at_start (Scopes.inside ss)
   start_at ctx n e t k = record { knows = knows_inside n ctx.word scopes ss k; nearest = λ m. refl }
 
-  bound_by : (o : Option Body) → IfSome o (IsReadBody word notes) → Each (IsReadParameter word) f.parameters → BodyParts flat word notes f o scopes
+  bound_by : (o : Option Body) → IfSome o (IsReadBody word) → Each (IsReadParameter word) f.parameters → BodyParts flat word notes f o scopes
       → let t = defined word notes f o scopes in AreNewParameters t.params 0 t.slots (Scopes.inside ss) × BodyIsBound t ss t.body
   bound_by None r q p =
       let ctx = prototype_context word f in
@@ -383,6 +387,6 @@ module _ (flat : FlatCounts) (word : ℕ → List ℕ) (notes : Anchor → List 
         subst (λ x. AreBound slots x (trees_of (body_items ctx b w))) (sym (ap (λ l. with_parameters (length f.parameters) 0 l (Scopes.inside ss)) whole ∙ a.same)) (body_is_bound ctx n b w a.ss' a.at r p.body all),
       )
 
-  pub function_is_bound : IsReadFunction word notes f → BodyParts flat word notes f f.body scopes
+  pub function_is_bound : IsReadFunction word f → BodyParts flat word notes f f.body scopes
       → let t = function_of word notes f scopes in AreNewParameters t.params 0 t.slots (Scopes.inside ss) × BodyIsBound t ss t.body
   function_is_bound r p = bound_by f.body r.body r.parameters p

@@ -13,14 +13,18 @@ use Rattle.c_source.specs.Items.{Declarator, Declaration, Label, Named, Case, De
 use Rattle.c_source.specs.Items as items
 use Rattle.c_statements.specs.declared.anchors.Anchor.{Anchor}
 use Rattle.c_statements.specs.declared.anchors.Anchor.TheVariants.{Before, AtEnd, AtSection}
-use Rattle.c_statements.specs.Context.{Context, Walk, env_at, enter, notes_at, number_in}
+use Rattle.c_statements.specs.Context.{Context, Walk, env_at, enter, notes_at, number_in, Around, in_loop, in_switch}
 use Rattle.c_statements.specs.Declarations.{kinded, locals, value_at, constant_at}
 use Rattle.c_statements.specs.Labels.{has_case, mark, labels_items, section_marks}
 use Rattle.c_statements.specs.Sections.{Reading, extended, closed, passed_on}
 use Rattle.c_statements.specs.Statements.{behind_start, behind_item, behind_plain, behind_body, behind_items, declared_by, dropped_at, test_at, start_items, begun, a_switch, item_items, plain_items, statement_items, body_items, list_items, switch_sections, sections_from, sections_at}
 use Rattle.c_statements.specs.Statements as statements
+use Rattle.c_statements.specs.Violations.{is_null, item_faults, plain_faults, statement_faults, body_faults, list_faults, switch_body_faults, outside_faults, outside_fault}
 use Rattle.c_resolved.specs.Form.{ends_with_break, gathered, gathered_of, gathered_in}
 use Rattle.resolving_core.proofs.SectionTrees.{later_break, section_of, ended_tree, has_entry, without_end, passes, with_entries, passed_trees, passed_same, ended_same, sections_are}
+use Rattle.resolving_core.proofs.Lists.{none_left}
+use Rattle.resolving_core.proofs.Parts.{states_parts, list_parts, if_parts, if_else_parts, while_parts, do_parts, for_parts, switch_parts, Outside, outside_declares, outside_parts, outside_one}
+use Rattle.resolving_core.proofs.Readings.{longer, beginning}
 
 -- a number that no comment, `break` or nested case label has
 pub record Gathers (f : Tree → List ℕ) : Type 0 where
@@ -141,10 +145,6 @@ module _ (ctx : Context) (f : Tree → List ℕ) (c : Gathers f) where
 
   -- ---- of sections
 
-  of_reading : Option Reading → List ℕ
-  of_reading None = []
-  of_reading (Some s) = numbers s.list
-
   abbrev in_trees : List SectionTree → List ℕ
   in_trees ss = gathered_in f (sections ss)
 
@@ -154,16 +154,6 @@ module _ (ctx : Context) (f : Tree → List ℕ) (c : Gathers f) where
   in_both : (a b : List Section) → in_sections (a ++ b) ≡ in_sections a ++ in_sections b
   in_both [] b = refl
   in_both (s ∷ a) b = ap (λ l. gathered f (section_tree s).list ++ l) (in_both a b) ∙ sym (append_assoc (gathered f (section_tree s).list) (in_sections a) (in_sections b))
-
-  none_first : (l : List ℕ) → of_reading None ++ l ≡ l
-  unfolding of_reading
-  none_first l = refl
-
-  reading_extended : (o : Option Reading) (xs : List item.Item) → of_reading (extended o xs) ≡ of_reading o ++ numbers xs
-  unfolding of_reading
-  reading_extended (Some s) xs = numbers_both s.list xs
-  reading_extended None [] = sym numbers_none
-  reading_extended None (x ∷ xs) = refl
 
   cut_numbers : (a : Forest) → ends_with_break a ≡ true → gathered f (without_end a) ≡ gathered f a
   cut_numbers Nil e = refl
@@ -179,10 +169,8 @@ module _ (ctx : Context) (f : Tree → List ℕ) (c : Gathers f) where
       by true false h = refl
       by false e h = refl
 
-  closed_numbers : (o : Option Reading) → in_sections (closed o) ≡ of_reading o
-  unfolding of_reading
-  closed_numbers None = refl
-  closed_numbers (Some s) = ap (λ (t : SectionTree). gathered f t.list ++ []) (ended_same s) ∙ (append-nil (gathered f (ended_tree (expression_trees s.cases) s.default (trees_of s.list)).list) ∙ ended_numbers (expression_trees s.cases) s.default (trees_of s.list))
+  closed_numbers : (s : Reading) → in_sections (closed (Some s)) ≡ numbers s.list
+  closed_numbers s = ap (λ (t : SectionTree). gathered f t.list ++ []) (ended_same s) ∙ (append-nil (gathered f (ended_tree (expression_trees s.cases) s.default (trees_of s.list)).list) ∙ ended_numbers (expression_trees s.cases) s.default (trees_of s.list))
 
   passing_none : (a : Forest) (ends : Bool) → ◌≡◌ {A = Bool} (elim a [ Nil ↦ not ends | tree.Then x xs ↦ false ]) true → gathered f a ≡ []
   passing_none Nil ends e = refl
@@ -201,104 +189,131 @@ module _ (ctx : Context) (f : Tree → List ℕ) (c : Gathers f) where
   switch_numbers : (ss : List Section) → gathered_in f (sections_of (passed_on [] false ss)) ≡ in_sections ss
   switch_numbers ss = ap (gathered_in f) (sections_are (passed_on [] false ss) ∙ ap sections (passed_same [] false ss)) ∙ passed_numbers [] false (map section_tree ss)
 
-  begun_numbers : (w : Walk) (ls : List Label) (xs : List item.Item) → of_reading (begun ctx (env_at ctx w) ls xs) ≡ of_labels ls ++ numbers xs
-  unfolding of_reading
+  begun_numbers : (w : Walk) (ls : List Label) (xs : List item.Item) → numbers (beginning ctx w ls xs).list ≡ of_labels ls ++ numbers xs
   begun_numbers w ls xs =
       numbers_two (notes_at ctx (AtSection (items.first_label ls)) ++ section_marks ctx ls) xs (of_labels ls) (numbers xs) (behind_notes (AtSection (items.first_label ls)) (section_marks ctx ls) ∙ marks_numbers ls) refl
 
-  end_numbers : (o : Option Reading) (notes : List item.Item) → numbers notes ≡ [] → in_sections (statements.sections_of o notes) ≡ of_reading o
-  unfolding of_reading
-  end_numbers None notes e = refl
-  end_numbers (Some s) notes e = closed_numbers (extended (Some s) notes) ∙ (numbers_both s.list notes ∙ (ap (λ l. numbers s.list ++ l) e ∙ append-nil (numbers s.list)))
+  end_numbers : (s : Reading) (notes : List item.Item) → numbers notes ≡ [] → in_sections (statements.sections_of (Some s) notes) ≡ numbers s.list
+  end_numbers s notes e = closed_numbers (longer s notes) ∙ (numbers_both s.list notes ∙ (ap (λ l. numbers s.list ++ l) e ∙ append-nil (numbers s.list)))
 
   -- by whether a statement begins a section
-  from_by : (b : Bool) (o : Option Reading) (xs ys : List Section) (l : List ℕ) → in_sections xs ≡ l → in_sections ys ≡ of_reading o ++ l → in_sections (elim b [ true ↦ closed o ++ xs | false ↦ ys ]) ≡ of_reading o ++ l
-  from_by true o xs ys l h k = in_both (closed o) xs ∙ (λ i. closed_numbers o i ++ h i)
-  from_by false o xs ys l h k = k
+  inside_by : (b : Bool) (s : Reading) (xs ys : List Section) (l : List ℕ) → in_sections xs ≡ l → in_sections ys ≡ numbers s.list ++ l → in_sections (elim b [ true ↦ closed (Some s) ++ xs | false ↦ ys ]) ≡ numbers s.list ++ l
+  inside_by true s xs ys l h k = in_both (closed (Some s)) xs ∙ (λ i. closed_numbers s i ++ h i)
+  inside_by false s xs ys l h k = k
 
-  end_by : (b : Bool) (xs ys : List Section) (l : List ℕ) → in_sections xs ≡ l → in_sections ys ≡ l → in_sections (elim b [ true ↦ xs | false ↦ ys ]) ≡ l
-  end_by true xs ys l h k = h
-  end_by false xs ys l h k = k
+  -- a null statement without labels has none
+  null_numbers : (ls : List Label) (p : Plain) (w : Walk) (l : List ℕ) → is_null ls p ≡ true → of_item (States ls p) w ++ l ≡ l
+  null_numbers [] (From first after Null) w l e = refl
+  null_numbers ls p w l e = absurd (true≢false (sym e))
+
+  outside_by : (around : Around) (w : Walk) (ls : List Label) (p : Plain) (xs : Items) (b : Bool) → Outside ctx around w b ls p xs → (ss ts : List Section) (l : List ℕ)
+      → (list_faults ctx around xs (behind_plain ctx p w) [] ≡ [] → in_sections ss ≡ of_item (States ls p) w ++ l) → (outside_faults ctx around xs (behind_plain ctx p w) [] ≡ [] → in_sections ts ≡ l)
+      → in_sections (elim b [ true ↦ ss | false ↦ ts ]) ≡ of_item (States ls p) w ++ l
+  outside_by around w ls p xs true o ss ts l h k = h o
+  outside_by around w ls p xs false o ss ts l h k = k o.1 ∙ sym (null_numbers ls p w l o.0)
 
   mutual
-    pub item_numbers : (x : Item) (w : Walk) → numbers (item_items ctx x w) ≡ of_item x w
-    item_numbers (Declares first after d) w = behind_notes (Before first) (locals ctx.word (kinded ctx.word d) d.names w)
-    item_numbers (States ls p) w = numbers_two (labels_items ctx (env_at ctx w) ls) (plain_items ctx p w) (of_labels ls) (of_plain p w) (labels_numbers w ls) (plain_numbers p w)
+    pub item_numbers : (around : Around) (x : Item) (w : Walk) → item_faults ctx around x w [] ≡ [] → numbers (item_items ctx x w) ≡ of_item x w
+    item_numbers around (Declares first after d) w e = behind_notes (Before first) (locals ctx.word (kinded ctx.word d) d.names w)
+    item_numbers around (States ls p) w e =
+        numbers_two (labels_items ctx (env_at ctx w) ls) (plain_items ctx p w) (of_labels ls) (of_plain p w) (labels_numbers w ls) (plain_numbers around p w (states_parts ctx around w ls p e).1)
 
-    plain_numbers : (p : Plain) (w : Walk) → numbers (plain_items ctx p w) ≡ of_plain p w
-    plain_numbers (From first after s) w = behind_notes (Before first) (statement_items ctx s w) ∙ statement_numbers s w
+    plain_numbers : (around : Around) (p : Plain) (w : Walk) → plain_faults ctx around p w [] ≡ [] → numbers (plain_items ctx p w) ≡ of_plain p w
+    plain_numbers around (From first after s) w e = behind_notes (Before first) (statement_items ctx s w) ∙ statement_numbers around first s w e
 
-    statement_numbers : (s : Statement) (w : Walk) → numbers (statement_items ctx s w) ≡ of_statement s w
-    statement_numbers Null w = numbers_none
-    statement_numbers (Evaluate t) w = let e = dropped_at (env_at ctx w) t in numbers_one (item.Evaluate e) _ (tree-Evaluate e) ∙ c.evaluates _
-    statement_numbers (If t b) w =
+    statement_numbers : (around : Around) (first : ℕ) (s : Statement) (w : Walk) → statement_faults ctx around first s w [] ≡ [] → numbers (statement_items ctx s w) ≡ of_statement s w
+    statement_numbers around first Null w h = numbers_none
+    statement_numbers around first (Evaluate t) w h = let e = dropped_at (env_at ctx w) t in numbers_one (item.Evaluate e) _ (tree-Evaluate e) ∙ c.evaluates _
+    statement_numbers around first (If t b) w h =
         let x = test.Source (value_at (env_at ctx w) t) in
         let a = body_items ctx b w in
-        numbers_one (item.If x a []) _ (tree-If x a []) ∙ ((λ i. body_numbers b w i ++ numbers_none i) ∙ append-nil (of_body b w))
-    statement_numbers (IfElse t b k) w =
+        let n = body_numbers around b w (if_parts ctx around w first t b h).1 in
+        numbers_one (item.If x a []) _ (tree-If x a []) ∙ ((λ i. n i ++ numbers_none i) ∙ append-nil (of_body b w))
+    statement_numbers around first (IfElse t b k) w h =
         let x = test.Source (value_at (env_at ctx w) t) in
         let u = behind_body ctx b w in
-        numbers_one (item.If x (body_items ctx b w) (body_items ctx k u)) _ (tree-If x (body_items ctx b w) (body_items ctx k u)) ∙ (λ i. body_numbers b w i ++ body_numbers k u i)
-    statement_numbers (While t b) w = let x = test.Source (value_at (env_at ctx w) t) in numbers_one (item.While x (body_items ctx b w)) _ (tree-While x (body_items ctx b w)) ∙ body_numbers b w
-    statement_numbers (DoWhile b t) w = let x = test.Source (value_at (env_at ctx w) t) in numbers_one (item.Do (body_items ctx b w) x) _ (tree-Do (body_items ctx b w) x) ∙ body_numbers b w
-    statement_numbers (For start t u b) w =
+        let p = if_else_parts ctx around w first t b k h in
+        let n = body_numbers around b w p.1 in
+        let m = body_numbers around k u p.2 in
+        numbers_one (item.If x (body_items ctx b w) (body_items ctx k u)) _ (tree-If x (body_items ctx b w) (body_items ctx k u)) ∙ (λ i. n i ++ m i)
+    statement_numbers around first (While t b) w h =
+        let x = test.Source (value_at (env_at ctx w) t) in
+        numbers_one (item.While x (body_items ctx b w)) _ (tree-While x (body_items ctx b w)) ∙ body_numbers (in_loop around) b w (while_parts ctx around w first t b h).1
+    statement_numbers around first (DoWhile b t) w h =
+        let x = test.Source (value_at (env_at ctx w) t) in numbers_one (item.Do (body_items ctx b w) x) _ (tree-Do (body_items ctx b w) x) ∙ body_numbers (in_loop around) b w (do_parts ctx around w first b t h).1
+    statement_numbers around first (For start t u b) w h =
         let inner = behind_start ctx start (enter w) in
         let env = env_at ctx inner in
         let s = start_items ctx start (enter w) in
         let x = option_map (value_at env) t in
         let y = option_map (dropped_at env) u in
-        numbers_one (item.For s x y (body_items ctx b inner)) _ (tree-For s x y (body_items ctx b inner)) ∙ (λ i. start_numbers start (enter w) i ++ body_numbers b inner i)
-    statement_numbers (Switch t b) w =
+        let n = body_numbers (in_loop around) b inner (for_parts ctx around w first start t u b h).3 in
+        numbers_one (item.For s x y (body_items ctx b inner)) _ (tree-For s x y (body_items ctx b inner)) ∙ (λ i. start_numbers start (enter w) i ++ n i)
+    statement_numbers around first (Switch t b) w h =
         let v = selector.Source (value_at (env_at ctx w) t) in
         let ss = switch_sections ctx b w in
-        numbers_one (item.Switch v (passed_on [] false ss)) _ (tree-Switch v (passed_on [] false ss)) ∙ (switch_numbers ss ∙ sections_numbers b w)
-    statement_numbers (Block b) w = numbers_one (item.Block (body_items ctx b w)) _ (tree-Block (body_items ctx b w)) ∙ body_numbers b w
-    statement_numbers (Goto at) w = let l = number_in ctx.labels (ctx.word at) in numbers_one (item.Goto l) _ (tree-Goto l) ∙ c.gotos l
-    statement_numbers Break w = numbers_one item.Break _ tree-Break ∙ c.breaks
-    statement_numbers Continue w = numbers_one item.Continue _ tree-Continue ∙ c.continues
-    statement_numbers (Return t) w = let x = option_map (value_at (env_at ctx w)) t in numbers_one (item.Return x) _ (tree-Return x) ∙ c.returns _
-    statement_numbers Unread w = numbers_none
+        numbers_one (item.Switch v (passed_on [] false ss)) _ (tree-Switch v (passed_on [] false ss)) ∙ (switch_numbers ss ∙ sections_numbers (in_switch around) b w (switch_parts ctx around w first t b h).1)
+    statement_numbers around first (Block b) w h = numbers_one (item.Block (body_items ctx b w)) _ (tree-Block (body_items ctx b w)) ∙ body_numbers around b w h
+    statement_numbers around first (Goto at) w h = let l = number_in ctx.labels (ctx.word at) in numbers_one (item.Goto l) _ (tree-Goto l) ∙ c.gotos l
+    statement_numbers around first Break w h = numbers_one item.Break _ tree-Break ∙ c.breaks
+    statement_numbers around first Continue w h = numbers_one item.Continue _ tree-Continue ∙ c.continues
+    statement_numbers around first (Return t) w h = let x = option_map (value_at (env_at ctx w)) t in numbers_one (item.Return x) _ (tree-Return x) ∙ c.returns _
+    statement_numbers around first Unread w h = numbers_none
 
-    body_numbers : (b : Body) (w : Walk) → numbers (body_items ctx b w) ≡ of_body b w
-    body_numbers (Braces first after xs) w = before_notes (list_items ctx xs (enter w)) (AtEnd first) ∙ list_numbers xs (enter w)
-    body_numbers (Lone first after x) w = before_notes (item_items ctx x (enter w)) (AtEnd first) ∙ item_numbers x (enter w)
+    body_numbers : (around : Around) (b : Body) (w : Walk) → body_faults ctx around b w [] ≡ [] → numbers (body_items ctx b w) ≡ of_body b w
+    body_numbers around (Braces first after xs) w e = before_notes (list_items ctx xs (enter w)) (AtEnd first) ∙ list_numbers around xs (enter w) e
+    body_numbers around (Lone first after x) w e = before_notes (item_items ctx x (enter w)) (AtEnd first) ∙ item_numbers around x (enter w) e
 
-    pub list_numbers : (xs : Items) (w : Walk) → numbers (list_items ctx xs w) ≡ of_list xs w
-    list_numbers NoItem w = numbers_none
-    list_numbers (items.Then x xs) w = let v = behind_item ctx x w in numbers_two (item_items ctx x w) (list_items ctx xs v) (of_item x w) (of_list xs v) (item_numbers x w) (list_numbers xs v)
+    pub list_numbers : (around : Around) (xs : Items) (w : Walk) → list_faults ctx around xs w [] ≡ [] → numbers (list_items ctx xs w) ≡ of_list xs w
+    list_numbers around NoItem w e = numbers_none
+    list_numbers around (items.Then x xs) w e =
+        let v = behind_item ctx x w in
+        let p = list_parts ctx around w x xs e in
+        numbers_two (item_items ctx x w) (list_items ctx xs v) (of_item x w) (of_list xs v) (item_numbers around x w p.0) (list_numbers around xs v p.1)
 
-    sections_numbers : (b : Body) (w : Walk) → in_sections (switch_sections ctx b w) ≡ of_body b w
-    sections_numbers (Braces first after xs) w = from_numbers None xs (notes_at ctx (AtEnd first)) (enter w) (notes_numbers (AtEnd first)) ∙ none_first (of_list xs (enter w))
-    sections_numbers (Lone first after x) w = at_numbers x (notes_at ctx (AtEnd first)) (enter w) (notes_numbers (AtEnd first))
+    sections_numbers : (around : Around) (b : Body) (w : Walk) → switch_body_faults ctx around b w [] ≡ [] → in_sections (switch_sections ctx b w) ≡ of_body b w
+    sections_numbers around (Braces first after xs) w e = outside_numbers around xs (notes_at ctx (AtEnd first)) (enter w) (notes_numbers (AtEnd first)) e
+    sections_numbers around (Lone first after x) w e = lone_numbers around x (notes_at ctx (AtEnd first)) (enter w) (notes_numbers (AtEnd first)) e
 
-    from_numbers : (o : Option Reading) (xs : Items) (notes : List item.Item) (w : Walk) → numbers notes ≡ [] → in_sections (sections_from ctx o xs notes w) ≡ of_reading o ++ of_list xs w
-    from_numbers o NoItem notes w e = end_numbers o notes e ∙ sym (append-nil (of_reading o))
-    from_numbers o (items.Then (Declares first after d) xs) notes w e =
+    outside_numbers : (around : Around) (xs : Items) (notes : List item.Item) (w : Walk) → numbers notes ≡ [] → outside_faults ctx around xs w [] ≡ [] → in_sections (sections_from ctx None xs notes w) ≡ of_list xs w
+    outside_numbers around NoItem notes w n e = refl
+    outside_numbers around (items.Then (Declares first after d) xs) notes w n e = absurd (outside_declares ctx around w first after d xs e)
+    outside_numbers around (items.Then (States ls p) xs) notes w n e =
+        let q = outside_parts ctx around w ls p xs e in
+        let v = behind_plain ctx p w in
+        let ps = plain_items ctx p w in
+        let m = plain_numbers around p w (states_parts ctx around w ls p q.0).1 in
+        outside_by around w ls p xs (has_case ls) q.1 (sections_from ctx (begun ctx (env_at ctx w) ls ps) xs notes v) (sections_from ctx None xs notes v) (of_list xs v)
+        (λ y. inside_numbers around (beginning ctx w ls ps) xs notes v n y ∙ ap (λ a. a ++ of_list xs v) (begun_numbers w ls ps ∙ ap (λ a. of_labels ls ++ a) m)) (λ y. outside_numbers around xs notes v n y)
+
+    inside_numbers : (around : Around) (s : Reading) (xs : Items) (notes : List item.Item) (w : Walk) → numbers notes ≡ [] → list_faults ctx around xs w [] ≡ [] → in_sections (sections_from ctx (Some s) xs notes w) ≡ numbers s.list ++ of_list xs w
+    inside_numbers around s NoItem notes w n e = end_numbers s notes n ∙ sym (append-nil (numbers s.list))
+    inside_numbers around s (items.Then (Declares first after d) xs) notes w n e =
         let v = declared_by ctx d w in
         let l = locals ctx.word (kinded ctx.word d) d.names w in
         let new = notes_at ctx (Before first) ++ l in
-        from_numbers (extended o new) xs notes v e
-        ∙ (ap (λ a. a ++ of_list xs v) (reading_extended o new ∙ ap (λ a. of_reading o ++ a) (behind_notes (Before first) l)) ∙ append_assoc (of_reading o) (numbers l) (of_list xs v))
-    from_numbers o (items.Then (States ls p) xs) notes w e =
+        inside_numbers around (longer s new) xs notes v n (list_parts ctx around w (Declares first after d) xs e).1
+        ∙ (ap (λ a. a ++ of_list xs v) (numbers_both s.list new ∙ ap (λ a. numbers s.list ++ a) (behind_notes (Before first) l)) ∙ append_assoc (numbers s.list) (numbers l) (of_list xs v))
+    inside_numbers around s (items.Then (States ls p) xs) notes w n e =
+        let q = list_parts ctx around w (States ls p) xs e in
         let v = behind_plain ctx p w in
         let env = env_at ctx w in
         let ps = plain_items ctx p w in
         let new = labels_items ctx env ls ++ ps in
         let here = of_labels ls ++ of_plain p w in
-        from_by (has_case ls) o (sections_from ctx (begun ctx env ls ps) xs notes v) (sections_from ctx (extended o new) xs notes v) (here ++ of_list xs v)
-        (from_numbers (begun ctx env ls ps) xs notes v e ∙ ap (λ a. a ++ of_list xs v) (begun_numbers w ls ps ∙ ap (λ a. of_labels ls ++ a) (plain_numbers p w)))
-        (from_numbers (extended o new) xs notes v e
-        ∙ (ap (λ a. a ++ of_list xs v) (reading_extended o new ∙ ap (λ a. of_reading o ++ a) (numbers_two (labels_items ctx env ls) ps (of_labels ls) (of_plain p w) (labels_numbers w ls) (plain_numbers p w))) ∙ append_assoc (of_reading o) here (of_list xs v)))
+        let m = plain_numbers around p w (states_parts ctx around w ls p q.0).1 in
+        inside_by (has_case ls) s (sections_from ctx (begun ctx env ls ps) xs notes v) (sections_from ctx (extended (Some s) new) xs notes v) (here ++ of_list xs v)
+        (inside_numbers around (beginning ctx w ls ps) xs notes v n q.1 ∙ ap (λ a. a ++ of_list xs v) (begun_numbers w ls ps ∙ ap (λ a. of_labels ls ++ a) m))
+        (inside_numbers around (longer s new) xs notes v n q.1
+        ∙ (ap (λ a. a ++ of_list xs v) (numbers_both s.list new ∙ ap (λ a. numbers s.list ++ a) (numbers_two (labels_items ctx env ls) ps (of_labels ls) (of_plain p w) (labels_numbers w ls) m)) ∙ append_assoc (numbers s.list) here (of_list xs v)))
 
-    at_numbers : (x : Item) (notes : List item.Item) (w : Walk) → numbers notes ≡ [] → in_sections (sections_at ctx None x notes w) ≡ of_item x w
-    at_numbers (Declares first after d) notes w e =
-        let l = locals ctx.word (kinded ctx.word d) d.names w in
-        let new = notes_at ctx (Before first) ++ l in
-        end_numbers (extended None new) notes e ∙ (reading_extended None new ∙ (none_first (numbers new) ∙ behind_notes (Before first) l))
-    at_numbers (States ls p) notes w e =
-        let env = env_at ctx w in
+    lone_numbers : (around : Around) (x : Item) (notes : List item.Item) (w : Walk) → numbers notes ≡ [] → outside_fault ctx around x w [] ≡ [] → in_sections (sections_at ctx None x notes w) ≡ of_item x w
+    lone_numbers around (Declares first after d) notes w n e = absurd (none_left _ _ e)
+    lone_numbers around (States ls p) notes w n e =
+        let q = outside_one ctx around w ls p e in
         let ps = plain_items ctx p w in
-        let new = labels_items ctx env ls ++ ps in
-        end_by (has_case ls) (statements.sections_of (begun ctx env ls ps) notes) (statements.sections_of (extended None new) notes) (of_labels ls ++ of_plain p w)
-        (end_numbers (begun ctx env ls ps) notes e ∙ (begun_numbers w ls ps ∙ ap (λ a. of_labels ls ++ a) (plain_numbers p w)))
-        (end_numbers (extended None new) notes e ∙ (reading_extended None new ∙ (none_first (numbers new) ∙ numbers_two (labels_items ctx env ls) ps (of_labels ls) (of_plain p w) (labels_numbers w ls) (plain_numbers p w))))
+        let here = of_labels ls ++ of_plain p w in
+        let s = beginning ctx w ls ps in
+        let m = plain_numbers around p w (states_parts ctx around w ls p q.0).1 in
+        outside_by around w ls p NoItem (has_case ls) q.1 (statements.sections_of (Some s) notes) [] [] (λ y. end_numbers s notes n ∙ (begun_numbers w ls ps ∙ (ap (λ a. of_labels ls ++ a) m ∙ sym (append-nil here)))) (λ y. refl)
+        ∙ append-nil here

@@ -57,14 +57,14 @@ module _ (ctx : Context) (Q : Slot → Type 0)
   later_grow around false ls p xs w f g h = g h.1
 
   mutual
-    pub item_grows : (around : Around) (x : Item) (w : Walk) → IsReadItem ctx.word ctx.notes x → item_faults ctx around x w [] ≡ [] → Grows w (behind_item ctx x w)
+    pub item_grows : (around : Around) (x : Item) (w : Walk) → IsReadItem ctx.word x → item_faults ctx around x w [] ≡ [] → Grows w (behind_item ctx x w)
     item_grows around (Declares first after d) w r e = locals_grow (kinded ctx.word d) d.names w r e
     item_grows around (States ls p) w r e = plain_grows around p w r.1 (states_parts ctx around w ls p e).1
 
-    pub plain_grows : (around : Around) (p : Plain) (w : Walk) → IsReadPlain ctx.word ctx.notes p → plain_faults ctx around p w [] ≡ [] → Grows w (behind_plain ctx p w)
+    pub plain_grows : (around : Around) (p : Plain) (w : Walk) → IsReadPlain ctx.word p → plain_faults ctx around p w [] ≡ [] → Grows w (behind_plain ctx p w)
     plain_grows around (From first after s) w r e = statement_grows around first s w r e
 
-    statement_grows : (around : Around) (first : ℕ) (s : Statement) (w : Walk) → IsReadStatement ctx.word ctx.notes s → statement_faults ctx around first s w [] ≡ [] → Grows w (behind_statement ctx s w)
+    statement_grows : (around : Around) (first : ℕ) (s : Statement) (w : Walk) → IsReadStatement ctx.word s → statement_faults ctx around first s w [] ≡ [] → Grows w (behind_statement ctx s w)
     statement_grows around first Null w r e = not_grown Q w.slots
     statement_grows around first (Evaluate t) w r e = not_grown Q w.slots
     statement_grows around first (If t b) w r e = body_grows around b w r.1 (if_parts ctx around w first t b e).1
@@ -86,22 +86,22 @@ module _ (ctx : Context) (Q : Slot → Type 0)
     statement_grows around first (Return t) w r e = not_grown Q w.slots
     statement_grows around first Unread w r e = absurd r
 
-    pub body_grows : (around : Around) (b : Body) (w : Walk) → IsReadBody ctx.word ctx.notes b → body_faults ctx around b w [] ≡ [] → Grows w (behind_body ctx b w)
+    pub body_grows : (around : Around) (b : Body) (w : Walk) → IsReadBody ctx.word b → body_faults ctx around b w [] ≡ [] → Grows w (behind_body ctx b w)
     body_grows around (Braces first after xs) w r e = list_grows around xs (enter w) r e
     body_grows around (Lone first after x) w r e = item_grows around x (enter w) r e
 
-    pub list_grows : (around : Around) (xs : Items) (w : Walk) → AreReadItems ctx.word ctx.notes xs → list_faults ctx around xs w [] ≡ [] → Grows w (behind_items ctx xs w)
+    pub list_grows : (around : Around) (xs : Items) (w : Walk) → AreReadItems ctx.word xs → list_faults ctx around xs w [] ≡ [] → Grows w (behind_items ctx xs w)
     list_grows around NoItem w r e = not_grown Q w.slots
     list_grows around (items.Then x xs) w r e =
         let p = list_parts ctx around w x xs e in
         let v = behind_item ctx x w in
         grown_twice Q w.slots v.slots (behind_items ctx xs v).slots (item_grows around x w r.0 p.0) (list_grows around xs v r.1 p.1)
 
-    pub switch_grows : (around : Around) (b : Body) (w : Walk) → IsReadBody ctx.word ctx.notes b → switch_body_faults ctx around b w [] ≡ [] → Grows w (behind_body ctx b w)
+    pub switch_grows : (around : Around) (b : Body) (w : Walk) → IsReadBody ctx.word b → switch_body_faults ctx around b w [] ≡ [] → Grows w (behind_body ctx b w)
     switch_grows around (Braces first after xs) w r e = outside_grows around xs (enter w) r e
     switch_grows around (Lone first after x) w r e = outside_one_grows around x (enter w) r e
 
-    pub outside_grows : (around : Around) (xs : Items) (w : Walk) → AreReadItems ctx.word ctx.notes xs → outside_faults ctx around xs w [] ≡ [] → Grows w (behind_items ctx xs w)
+    pub outside_grows : (around : Around) (xs : Items) (w : Walk) → AreReadItems ctx.word xs → outside_faults ctx around xs w [] ≡ [] → Grows w (behind_items ctx xs w)
     outside_grows around NoItem w r e = not_grown Q w.slots
     outside_grows around (items.Then (Declares first after d) xs) w r e = absurd (outside_declares ctx around w first after d xs e)
     outside_grows around (items.Then (States ls p) xs) w r e =
@@ -110,6 +110,6 @@ module _ (ctx : Context) (Q : Slot → Type 0)
         grown_twice Q w.slots v.slots (behind_items ctx xs v).slots (plain_grows around p w r.0.1 (states_parts ctx around w ls p q.0).1)
         (later_grow around (has_case ls) ls p xs w (list_grows around xs v r.1) (outside_grows around xs v r.1) q.1)
 
-    outside_one_grows : (around : Around) (x : Item) (w : Walk) → IsReadItem ctx.word ctx.notes x → outside_fault ctx around x w [] ≡ [] → Grows w (behind_item ctx x w)
+    outside_one_grows : (around : Around) (x : Item) (w : Walk) → IsReadItem ctx.word x → outside_fault ctx around x w [] ≡ [] → Grows w (behind_item ctx x w)
     outside_one_grows around (Declares first after d) w r e = absurd (none_left _ _ e)
     outside_one_grows around (States ls p) w r e = plain_grows around p w r.1 (states_parts ctx around w ls p (outside_one ctx around w ls p e).0).1

@@ -57,7 +57,7 @@ module _ (ctx : Context) (n : Names) where
     whiles = λ w t a i r e. tt;
     dos = λ w t a i r e. tt;
     fors = λ w start t u a i j b rs rt ru es et eu. tt;
-    switches = λ around w t b i r rb qb nb ev eb es cs. switch_has around w t b i r nb ev eb es;
+    switches = λ around w t b i r rb nb ev eb es cs. switch_has around w t b i r nb ev eb es;
     block = λ a. tt;
     locals = λ k d w r e b i j. tt;
     breaks = tt;

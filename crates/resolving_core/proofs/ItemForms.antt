@@ -76,7 +76,7 @@ module _ (ctx : Context) (f : Function) where
       whiles = λ w t a i r e. tt;
       dos = λ w t a i r e. tt;
       fors = λ w start t u a i j b rs rt ru es et eu. first_part start (enter w) rs es b;
-      switches = λ around w t b i r rb qb nb ev eb es cs. (are_sections ctx (in_switch around) b w eb qb, tt);
+      switches = λ around w t b i r rb nb ev eb es cs. (are_sections ctx (in_switch around) b w eb, tt);
       block = λ a. tt;
       locals = λ k d w r e b i j. tt;
       breaks = tt;

@@ -143,7 +143,7 @@ module _ (ctx : Context) (n : Names) where
           agrees = record { kinds = (some_map (GoodValue n) K (λ x h. h.0.kinds) _ g, some_map (GoodOperand n) K (λ x h. h.0.kinds) _ h); values = (some_map (GoodValue n) HasValue (λ x h. h.1) _ g, some_map (GoodOperand n) IsOperand (λ x h. h.1) _ h) };
           consts = (some_map (GoodValue n) W (λ x h. h.0.consts) _ g, some_map (GoodOperand n) W (λ x h. h.0.consts) _ h);
         };
-    switches = λ around w t b i r rb qb nb ev eb es cs.
+    switches = λ around w t b i r rb nb ev eb es cs.
         let g = value_good w t i r ev in
         let k = case_kinds n _ cs in
         record { agrees = record { kinds = (g.0.kinds, k.0); values = g.1 }; consts = (g.0.consts, k.1) };

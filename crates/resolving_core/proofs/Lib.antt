@@ -40,6 +40,7 @@ pub mod Sectioned
 pub mod ItemForms
 pub mod Entries
 pub mod Numbered
+pub mod Readings
 pub mod Compared
 pub mod ItemCases
 pub mod Counted

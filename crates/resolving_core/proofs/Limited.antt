@@ -23,32 +23,19 @@ use Rattle.c_resolved.specs.Form.{ends_with_break}
 use Rattle.c_resolved.specs.Within.{Each}
 use Rattle.resolving_core.proofs.Lists.{each_append}
 use Rattle.resolving_core.proofs.SectionTrees.{section_of, ended_tree, has_entry, without_end, passes, with_entries, passed_trees, passed_same, ended_same, sections_are}
-use Rattle.std.specs.Prelude.{IfSome, ℤ, pos, ◌+◌, ◌≤◌, max, nat_lt}
-use Rattle.std.proofs.lemmas.Bool.Decides.{nat_tests}
-use Rattle.c_types.specs.declared.kinds.IntKind.TheVariants.{Int}
-use Rattle.c_tree.specs.declared.tree.Node as node
-use Rattle.c_tree.specs.ExpressionTrees.{Typed}
+use Rattle.std.specs.Prelude.{IfSome, ◌+◌, ◌≤◌, max}
 use Rattle.c_tree.specs.TestTrees.{TestTree, test_tree, selector_tree}
 use Rattle.c_tree.specs.Cases.{selector_source}
-use Rattle.c_tree.specs.Constants.{constant_value}
-use Rattle.c_tree.proofs.ExpressionLaws.{node-Number, test-Source, selector-Source}
+use Rattle.c_tree.proofs.ExpressionLaws.{test-Source, selector-Source}
 use Rattle.c_source.specs.Terms.{Term}
 use Rattle.c_source.specs.Items.{Initialiser, NoValue, OneValue, ValueList}
-use Rattle.c_kinds.specs.declared.typed.Typed as kinds
-use Rattle.c_kinds.specs.declared.typed.Typed.TheVariants as T
-use Rattle.c_kinds.specs.Constants.{is_constant, constant_of}
 use Rattle.c_kinds.specs.Scopes.{Env}
-use Rattle.c_kinds.specs.Typing.{typed}
-use Rattle.c_kinds.specs.Values.{expression, expression_of, value_of, dropped}
-use Rattle.c_statements.specs.Declarations.{placeholder, or_placeholder, constant_or_placeholder}
 use Rattle.c_statements.specs.Measures.{item_depth, plain_depth, statement_depth, body_depth, list_depth}
-use Rattle.c_resolved.specs.PrintableExpressions.{bracket_count, counted, counted_at}
+use Rattle.c_resolved.specs.PrintableExpressions.{counted, counted_at}
 use Rattle.c_resolved.specs.PrintableStatements.{depth, depth_of, depth_in}
 use Rattle.c_resolved.specs.Limits.{most_of, most_if, most_listed, most_tested, most_counted, most_counted_of, most_counted_in}
-use Rattle.resolving_core.specs.Counts.{term_counted, term_level, IsFew, IsFewInitialiser, IsFewDeclarator, IsFewLabel, IsFewStart, IsFewItem, IsFewPlain, IsFewStatement, IsFewBody, AreFewItems}
-use Rattle.resolving_core.proofs.Counted.{Sized, Measured, measured}
-use Rattle.resolving_core.proofs.Values.{expression_rolls, value_rolls, void_rolls}
-use Rattle.resolving_core.proofs.LimitedTerms.{up_to, max_left, max_right, depth_join, most_join, depth_cut, most_cut, no_bracket, placeholder_few, measured_few, value_few, dropped_few, constant_few}
+use Rattle.resolving_core.specs.Counts.{IsFew, IsFewInitialiser, IsFewDeclarator, IsFewLabel, IsFewStart, IsFewItem, IsFewPlain, IsFewStatement, IsFewBody, AreFewItems}
+use Rattle.resolving_core.proofs.LimitedTerms.{up_to, max_left, max_right, depth_join, most_join, depth_cut, most_cut, value_few, dropped_few, constant_few}
 
 module _ (ctx : Context) (K : ℕ) where
   -- a list within a depth, whose expressions are short
@@ -160,8 +147,7 @@ module _ (ctx : Context) (K : ℕ) where
 
   short_extended : (d : ℕ) (o : Option Reading) (xs : List item.Item) → ShortReading d o → Short d xs → ShortReading d (extended o xs)
   short_extended d (Some r) xs h k = (short_both d r.list xs h.0 k, h.1)
-  short_extended d None [] h k = tt
-  short_extended d None (x ∷ xs) h k = (k, tt)
+  short_extended d None xs h k = tt
 
   within_cut : (d : ℕ) (a : Forest) → Within d a → Within d (without_end a)
   within_cut d a h = record { shallow = depth_cut a d h.shallow; few = most_cut a K h.few }
@@ -353,15 +339,8 @@ module _ (ctx : Context) (K : ℕ) where
         (from_short (extended o new) xs notes v d (short_extended d o new r (short_both d (labels_items ctx env ls) ps (short_labels d w ls h.0.0) m)) k h.1 rest)
 
     at_short : (x : Item) (notes : List item.Item) (w : Walk) (d : ℕ) → Short d notes → IsFewItem ctx.word K x → item_depth x ≤ d → ShortSections d (sections_at ctx None x notes w)
-    at_short (Declares first after x) notes w d k h q =
-        let l = locals ctx.word (kinded ctx.word x) x.names w in
-        let new = notes_at ctx (Before first) ++ l in
-        short_end d (extended None new) notes (short_extended d None new tt (behind_notes d (Before first) l (short_locals d (kinded ctx.word x) x.names w h))) k
+    at_short (Declares first after x) notes w d k h q = tt
     at_short (States ls p) notes w d k h q =
-        let env = env_at ctx w in
         let ps = plain_items ctx p w in
-        let m = plain_short p w d h.1 q in
-        let new = labels_items ctx env ls ++ ps in
-        lone_by d (has_case ls) (statements.sections_of (begun ctx env ls ps) notes) (statements.sections_of (extended None new) notes)
-        (short_end d (begun ctx env ls ps) notes (short_begun d w ls ps h.0 m) k)
-        (short_end d (extended None new) notes (short_extended d None new tt (short_both d (labels_items ctx env ls) ps (short_labels d w ls h.0) m)) k)
+        let sections = begun ctx (env_at ctx w) ls ps in
+        lone_by d (has_case ls) (statements.sections_of sections notes) [] (short_end d sections notes (short_begun d w ls ps h.0 (plain_short p w d h.1 q)) k) tt

@@ -1,39 +1,19 @@
 -- The counted tokens of full expressions are at most those of what is written.
-use Rattle.std.proofs.Common.{ℕ, Bool, true, false, cond, ◌&&◌, ◌||◌, List, [], ◌∷◌, ◌++◌, map, length, Option, Some, None, option_map, ◌≡◌, refl, sym, ap, subst, ◌∙◌, arith}
-use Rattle.c_tree.specs.declared.tree.Item as item
-use Rattle.c_tree.specs.declared.tree.Section.{Section}
-use Rattle.c_tree.specs.declared.tree.Test as test
-use Rattle.c_tree.specs.declared.tree.Selector as selector
+use Rattle.std.proofs.Common.{ℕ, Bool, true, false, cond, Option, Some, None, option_map, ◌≡◌, refl, sym, ap, subst, ◌∙◌, arith}
 use Rattle.c_tree.specs.ExpressionTrees.{ExpressionTree, expression_tree}
 use Rattle.c_tree.specs.Trees.{Tree, Forest, SectionTree, Nil, join, expression_trees, tree_of, trees_of, section_tree, sections, sections_of}
 use Rattle.c_tree.specs.Trees as tree
-use Rattle.c_tree.proofs.TreeLaws.{tree-Evaluate, tree-Return, tree-If, tree-While, tree-Do, tree-For, tree-Switch, tree-Block, tree-Local, tree-Break, tree-Continue, tree-Goto, tree-Mark, tree-Arrival, tree-Note, trees-none, trees-more, trees-append}
-use Rattle.c_source.specs.Items.{Declarator, Declaration, Label, Named, Case, Default, Start, NoStart, StartValue, StartNames, Item, Declares, States, Plain, From, Statement, Null, Evaluate, If, IfElse, While, DoWhile, For, Switch, Block, Goto, Break, Continue, Return, Unread, Body, Braces, Lone, Items, NoItem}
-use Rattle.c_source.specs.Items as items
-use Rattle.c_statements.specs.declared.extents.Kinded.{Kinded}
-use Rattle.c_statements.specs.declared.anchors.Anchor.{Anchor}
-use Rattle.c_statements.specs.declared.anchors.Anchor.TheVariants.{Before, AtEnd, AtSection}
-use Rattle.c_statements.specs.Context.{Context, Walk, env_at, env_in, enter, notes_at, number_in}
-use Rattle.c_statements.specs.Declarations.{kinded, declared, local, locals, initial, value_at, constant_at}
-use Rattle.c_statements.specs.Labels.{section_cases, has_case, mark, labels_items, section_marks}
-use Rattle.c_statements.specs.Sections.{Reading, extended, closed, passed_on}
-use Rattle.c_statements.specs.Statements.{behind_start, behind_item, behind_plain, behind_body, behind_items, declared_by, dropped_at, test_at, start_items, begun, a_switch, item_items, plain_items, statement_items, body_items, list_items, switch_sections, sections_from, sections_at}
-use Rattle.c_statements.specs.Statements as statements
-use Rattle.c_resolved.specs.Form.{ends_with_break}
-use Rattle.c_resolved.specs.Within.{Each}
-use Rattle.resolving_core.proofs.Lists.{each_append}
-use Rattle.resolving_core.proofs.SectionTrees.{section_of, ended_tree, has_entry, without_end, passes, with_entries, passed_trees, passed_same, ended_same, sections_are}
-use Rattle.std.specs.Prelude.{IfSome, ℤ, pos, ◌+◌, ◌≤◌, max, nat_lt}
+use Rattle.c_statements.specs.Declarations.{value_at, constant_at}
+use Rattle.c_statements.specs.Statements.{dropped_at}
+use Rattle.resolving_core.proofs.SectionTrees.{without_end}
+use Rattle.std.specs.Prelude.{ℤ, pos, ◌+◌, ◌≤◌, max, nat_lt}
 use Rattle.std.proofs.lemmas.Bool.Decides.{nat_tests}
 use Rattle.c_types.specs.declared.kinds.IntKind.TheVariants.{Int}
 use Rattle.c_tree.specs.declared.tree.Node as node
 use Rattle.c_tree.specs.ExpressionTrees.{Typed}
-use Rattle.c_tree.specs.TestTrees.{TestTree, test_tree, selector_tree}
-use Rattle.c_tree.specs.Cases.{selector_source}
 use Rattle.c_tree.specs.Constants.{constant_value}
-use Rattle.c_tree.proofs.ExpressionLaws.{node-Number, test-Source, selector-Source}
+use Rattle.c_tree.proofs.ExpressionLaws.{node-Number}
 use Rattle.c_source.specs.Terms.{Term}
-use Rattle.c_source.specs.Items.{Initialiser, NoValue, OneValue, ValueList}
 use Rattle.c_kinds.specs.declared.typed.Typed as kinds
 use Rattle.c_kinds.specs.declared.typed.Typed.TheVariants as T
 use Rattle.c_kinds.specs.Constants.{is_constant, constant_of}
@@ -41,11 +21,10 @@ use Rattle.c_kinds.specs.Scopes.{Env}
 use Rattle.c_kinds.specs.Typing.{typed}
 use Rattle.c_kinds.specs.Values.{expression, expression_of, value_of, dropped}
 use Rattle.c_statements.specs.Declarations.{placeholder, or_placeholder, constant_or_placeholder}
-use Rattle.c_statements.specs.Measures.{item_depth, plain_depth, statement_depth, body_depth, list_depth}
-use Rattle.c_resolved.specs.PrintableExpressions.{bracket_count, counted, counted_at}
-use Rattle.c_resolved.specs.PrintableStatements.{depth, depth_of, depth_in}
-use Rattle.c_resolved.specs.Limits.{most_of, most_if, most_listed, most_tested, most_counted, most_counted_of, most_counted_in}
-use Rattle.resolving_core.specs.Counts.{term_counted, term_level, IsFew, IsFewInitialiser, IsFewDeclarator, IsFewLabel, IsFewStart, IsFewItem, IsFewPlain, IsFewStatement, IsFewBody, AreFewItems}
+use Rattle.c_resolved.specs.PrintableExpressions.{bracket_count, counted_at}
+use Rattle.c_resolved.specs.PrintableStatements.{depth, depth_of}
+use Rattle.c_resolved.specs.Limits.{most_counted, most_counted_of}
+use Rattle.resolving_core.specs.Counts.{term_counted, term_level}
 use Rattle.resolving_core.proofs.Counted.{Sized, Measured, measured}
 use Rattle.resolving_core.proofs.Values.{expression_rolls, value_rolls, void_rolls}
 

@@ -1,52 +1,31 @@
 -- Numbers that differ, and the labels among sections of the tree.
-use Rattle.std.proofs.Common.{ℕ, Bool, true, false, not, cond, ◌&&◌, ◌||◌, List, [], ◌∷◌, ◌++◌, append_assoc, map, length, Option, Some, None, option_map, append_assoc, true≢false, arith, ◌≡◌, refl, sym, ap, subst, ◌∙◌}
+use Rattle.std.proofs.Common.{ℕ, Bool, true, false, not, cond, ◌&&◌, ◌||◌, List, [], ◌∷◌, ◌++◌, append_assoc, map, append_assoc, true≢false, arith, ◌≡◌, refl, sym, ap, ◌∙◌}
 use Rattle.std.specs.Prelude.{ℤ, ◌+◌, ◌≤◌}
-use Rattle.c_tree.specs.declared.tree.Item as item
-use Rattle.c_tree.specs.declared.tree.Section.{Section}
-use Rattle.c_tree.specs.declared.tree.Test as test
-use Rattle.c_tree.specs.declared.tree.Selector as selector
 use Rattle.c_tree.specs.ExpressionTrees.{ExpressionTree}
 use Rattle.c_tree.specs.Trees.{Tree, Forest, SectionTree, Nil, join, expression_trees, tree_of, trees_of, section_tree, sections, sections_of}
 use Rattle.c_tree.specs.Trees as tree
-use Rattle.c_tree.proofs.TreeLaws.{tree-Evaluate, tree-Return, tree-If, tree-While, tree-Do, tree-For, tree-Switch, tree-Block, tree-Break, tree-Continue, tree-Goto, trees-none, trees-append}
 use Rattle.c_types.specs.declared.kinds.IntKind.{IntKind}
-use Rattle.c_source.specs.Items.{Declarator, Declaration, Label, Named, Case, Default, Start, NoStart, StartValue, StartNames, Item, Declares, States, Plain, From, Statement, Null, Evaluate, If, IfElse, While, DoWhile, For, Switch, Block, Goto, Break, Continue, Return, Unread, Body, Braces, Lone, Items, NoItem}
-use Rattle.c_source.specs.Items as items
 use Rattle.c_kinds.specs.Scopes.{fault_if}
-use Rattle.c_statements.specs.declared.anchors.Anchor.TheVariants.{Before, AtEnd, AtSection}
-use Rattle.c_statements.specs.Context.{Context, Walk, env_at, enter, notes_at, number_in, Around, in_loop}
-use Rattle.c_statements.specs.Declarations.{kinded, locals, value_at}
-use Rattle.c_statements.specs.Labels.{has_case, labels_items, section_marks, section_cases, has_default}
-use Rattle.c_statements.specs.Sections.{Reading, extended, closed, passed_on}
-use Rattle.c_statements.specs.Statements.{behind_start, behind_item, behind_plain, behind_body, behind_items, declared_by, dropped_at, test_at, start_items, begun, a_switch, item_items, plain_items, statement_items, body_items, list_items, switch_sections, sections_from, sections_at}
-use Rattle.c_statements.specs.Statements as statements
-use Rattle.c_statements.specs.Violations.{item_faults, plain_faults, statement_faults, body_faults, list_faults, switch_body_faults, outside_faults, outside_fault}
 use Rattle.c_resolved.specs.Form.{ends_with_break}
 use Rattle.c_resolved.specs.Within.{Each}
-use Rattle.resolving_core.proofs.Lists.{none_left, clean_if, each_map}
-use Rattle.resolving_core.proofs.Parts.{parted, states_parts, list_parts, if_parts, if_else_parts, while_parts, do_parts, for_parts, Outside, outside_declares, outside_parts, outside_one}
-use Rattle.resolving_core.proofs.SectionTrees.{later_break, section_of, ended_tree, has_entry, without_end, passes, with_entries, passed_trees, passed_same, ended_same, sections_are}
-use Rattle.c_tree.specs.Constants.{constant_value}
+use Rattle.resolving_core.proofs.Lists.{clean_if, each_map}
+use Rattle.resolving_core.proofs.Parts.{parted}
+use Rattle.resolving_core.proofs.SectionTrees.{later_break, section_of, ended_tree, has_entry, without_end, passes, with_entries, passed_trees}
 use Rattle.c_statements.specs.declared.entries.Entry.{Entry}
 use Rattle.c_statements.specs.declared.entries.Entry.TheVariants.{Value, Other}
-use Rattle.c_statements.specs.Cases.{label_entries, item_entries, plain_entries, statement_entries, body_entries, list_entries}
-use Rattle.c_resolved.specs.Switches.{arrivals, arrivals_of, section_labels, switch_labels, cases_among, defaults_among, IsConstantValue}
-use Rattle.resolving_core.specs.Read.{label_cases, item_cases, plain_cases, statement_cases, body_cases, list_cases}
-use Rattle.std.proofs.lemmas.List.{append-nil}
-use Rattle.std.specs.Prelude.{◌<ℤ◌, ◌≢◌, ◌<◌}
+use Rattle.c_resolved.specs.Switches.{arrivals, arrivals_of, section_labels, switch_labels, cases_among, defaults_among}
+use Rattle.std.specs.Prelude.{◌<ℤ◌, ◌≢◌}
 use Rattle.std.specs.Cmp.{int_ranks}
 use Rattle.std.specs.declared.cmp.Ordering.{Ordering}
 use Rattle.std.specs.declared.cmp.Ordering.TheVariants.{Less, Equal, Greater}
 use Rattle.std.specs.Ordering.{int_cmp, is_eq, match_ordering, MatchOrdering}
 use Rattle.std.proofs.lemmas.Int.{ints}
 use Rattle.c_types.specs.Numbers.{converted}
-use Rattle.c_tree.specs.Cases.{case_number}
 use Rattle.c_statements.specs.Cases.{is_among, with_value, entry_faults}
-use Rattle.c_resolved.specs.Switches.{AreLabels}
 use Rattle.c_resolved.specs.Within.{AllDiffer}
 use Rattle.resolving_core.proofs.Empty.{entries_empty}
 use Rattle.resolving_core.proofs.Lists.{each_map, or_left, or_right}
-use Rattle.resolving_core.proofs.Entries.{vals, others, cases-append, defaults-append, arrivals-join, own_cases, own_defaults, Adds, adds_none, adds_both, adds_as, C, D, AddsItems, none_of, both_of, one_of, still, front, back, more_of, notes_of, behind_notes, marks_of, locals_of, labels_of, section_of_labels}
+use Rattle.resolving_core.proofs.Entries.{vals, others, cases-append, defaults-append, own_cases, own_defaults}
 
 -- ---- numbers that differ
 

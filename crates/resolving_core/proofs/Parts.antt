@@ -1,7 +1,7 @@
 -- A statement without a violation has none in any of its parts.
 use Rattle.std.proofs.Common.{ℕ, Bool, true, false, not, ◌||◌, List, [], ◌∷◌, Option, option_map, ◌≡◌, subst}
 use Rattle.c_source.specs.Terms.{Term}
-use Rattle.c_source.specs.Items.{Declarator, Declaration, Label, Start, Item, Declares, States, Plain, From, Statement, If, IfElse, While, DoWhile, For, Switch, Body, Items, stated_first}
+use Rattle.c_source.specs.Items.{Declarator, Declaration, Label, Start, Item, Declares, States, Plain, From, Statement, If, IfElse, While, DoWhile, For, Switch, Body, Items, NoItem, stated_first}
 use Rattle.c_source.specs.Items as items
 use Rattle.c_kinds.specs.Scopes.{Env, Faults, fault, fault_if, is_bound}
 use Rattle.c_kinds.specs.Typing.{typed}
@@ -115,5 +115,14 @@ module _ (ctx : Context) (around : Around) (w : Walk) where
           let c = clean_if (not (is_null ls p)) (stated_first ls p) 29 (item_faults ctx around (States ls p) w []) q.0 in
           (c.0, (not_true (is_null ls p) c.1, q.1))
 
-  pub outside_one : (ls : List Label) (p : Plain) → outside_fault ctx around (States ls p) w [] ≡ [] → (item_faults ctx around (States ls p) w [] ≡ []) × ((has_case ls || is_null ls p) ≡ true)
-  outside_one ls p e = let c = clean_if (not (has_case ls || is_null ls p)) (stated_first ls p) 29 (item_faults ctx around (States ls p) w []) e in (c.0, not_true (has_case ls || is_null ls p) c.1)
+  -- a statement alone
+  pub outside_alone : (x : Item) → outside_fault ctx around x w [] ≡ [] → outside_faults ctx around (items.Then x NoItem) w [] ≡ []
+  outside_alone (Declares first after d) e = e
+  outside_alone (States ls p) e = by (has_case ls) (item_faults ctx around (States ls p) w []) e
+    where
+      by : (b : Bool) (vs : Faults) → fault_if (not (b || is_null ls p)) (stated_first ls p) 29 vs ≡ [] → ◌≡◌ {A = Faults} (elim b [ true ↦ vs | false ↦ fault_if (not (is_null ls p)) (stated_first ls p) 29 vs ]) []
+      by true vs e = e
+      by false vs e = e
+
+  pub outside_one : (ls : List Label) (p : Plain) → outside_fault ctx around (States ls p) w [] ≡ [] → (item_faults ctx around (States ls p) w [] ≡ []) × Outside (has_case ls) ls p NoItem
+  outside_one ls p e = outside_parts ls p NoItem (outside_alone (States ls p) e)

@@ -147,7 +147,7 @@ module _ (ctx : Context) (n : Names) (comments : (a : Anchor) → Each IsComment
     whiles = λ w t a i r e. (value_prints n i.0 (env_at ctx w) i.1 t r, tt);
     dos = λ w t a i r e. (value_prints n i.0 (env_at ctx w) i.1 t r, tt);
     fors = λ w start t u a i j b rs rt ru es et eu. let inner = behind_start ctx start (enter w) in ((values_print n j.0 (env_at ctx inner) j.1 t rt, drops_print n j.0 (env_at ctx inner) j.1 u ru), tt);
-    switches = λ around w t b i r rb qb nb ev eb es cs. ((value_prints n i.0 (env_at ctx w) i.1 t r, cs), tt);
+    switches = λ around w t b i r rb nb ev eb es cs. ((value_prints n i.0 (env_at ctx w) i.1 t r, cs), tt);
     block = λ a. (tt, tt);
     locals = λ k d w r e b i j.
         let env = env_in ctx.word (declared ctx.word k d w) in

@@ -19,13 +19,13 @@ use Rattle.c_statements.specs.Labels.{has_case, mark, labels_items, section_mark
 use Rattle.c_statements.specs.Sections.{Reading, extended, closed, passed_on}
 use Rattle.c_statements.specs.Statements.{behind_start, behind_item, behind_plain, behind_body, behind_items, declared_by, dropped_at, test_at, start_items, begun, a_switch, item_items, plain_items, statement_items, body_items, list_items, switch_sections, sections_from, sections_at}
 use Rattle.c_statements.specs.Statements as statements
-use Rattle.c_statements.specs.Violations.{is_null, switch_body_faults, outside_faults, outside_fault}
+use Rattle.c_statements.specs.Violations.{switch_body_faults, outside_faults}
 use Rattle.c_resolved.specs.Form.{ends_with_break, IsKept, HasNoArrival, AreSections}
 use Rattle.c_resolved.specs.Within.{Each}
-use Rattle.resolving_core.proofs.Lists.{none_left, each_append}
-use Rattle.resolving_core.proofs.Parts.{Outside, outside_declares, outside_parts, outside_one}
+use Rattle.resolving_core.proofs.Lists.{each_append}
+use Rattle.resolving_core.proofs.Parts.{Outside, outside_declares, outside_parts, outside_alone}
+use Rattle.resolving_core.proofs.Readings.{longer, beginning, sections_alone}
 use Rattle.resolving_core.proofs.SectionTrees.{section_of, ended_tree, has_entry, without_end, passes, with_entries, passed_trees, passed_same, ended_same, sections_are}
-use Rattle.resolving_core.specs.Read.{IsQuietFront, IsQuietSwitch}
 
 -- ---- lists without nested case labels
 
@@ -199,12 +199,6 @@ module _ (ctx : Context) where
   begun_raw w ls xs e h =
       (cases_entered w ls e, free_both (notes_at ctx (AtSection (items.first_label ls)) ++ section_marks ctx ls) xs (behind_notes (AtSection (items.first_label ls)) (section_marks ctx ls) (free_marks ls)) h)
 
-  abbrev longer : Reading → List item.Item → Reading
-  longer r xs = record { cases = r.cases; default = r.default; list = r.list ++ xs }
-
-  abbrev beginning : Walk → List Label → List item.Item → Reading
-  beginning w ls xs = record { cases = section_cases (env_at ctx w) ls; default = has_default ls; list = notes_at ctx (AtSection (items.first_label ls)) ++ section_marks ctx ls ++ xs }
-
   inside_raw : (r : Reading) (xs : Items) (notes : List item.Item) (w : Walk) → RawReading (Some r) → Free notes → RawSections (sections_from ctx (Some r) xs notes w)
   inside_raw r NoItem notes w h k = end_raw (Some r) notes h k
   inside_raw r (items.Then (Declares first after d) xs) notes w h k =
@@ -214,7 +208,7 @@ module _ (ctx : Context) where
       let ps = plain_items ctx p w in
       let new = labels_items ctx (env_at ctx w) ls ++ ps in
       by (has_case ls) refl
-      (λ e. inside_raw (beginning w ls ps) xs notes (behind_plain ctx p w) (begun_raw w ls ps e (free_plain p w)) k)
+      (λ e. inside_raw (beginning ctx w ls ps) xs notes (behind_plain ctx p w) (begun_raw w ls ps e (free_plain p w)) k)
       (λ e. inside_raw (longer r new) xs notes (behind_plain ctx p w) (extended_raw r new h (free_both (labels_items ctx (env_at ctx w) ls) ps (free_labels w ls e) (free_plain p w))) k)
     where
       by : (b : Bool) → has_case ls ≡ b → (has_case ls ≡ true → RawSections (sections_from ctx (begun ctx (env_at ctx w) ls (plain_items ctx p w)) xs notes (behind_plain ctx p w)))
@@ -226,49 +220,35 @@ module _ (ctx : Context) where
       by true e f g = each_append _ (closed (Some r)) (sections_from ctx (begun ctx (env_at ctx w) ls (plain_items ctx p w)) xs notes (behind_plain ctx p w)) (closed_raw (Some r) h) (f e)
       by false e f g = g e
 
-  -- a null statement without labels and comments is no item
-  nothing : (ls : List Label) (p : Plain) (w : Walk) (xs : Items) → is_null ls p ≡ true → IsQuietFront ctx.word ctx.notes (items.Then (States ls p) xs) → (labels_items ctx (env_at ctx w) ls ++ plain_items ctx p w ≡ []) × IsQuietFront ctx.word ctx.notes xs
-  nothing [] (From first after Null) w xs e q = (ap (λ bs. map item.Note bs ++ []) q.0, q.1)
-  nothing ls p w xs e q = absurd (true≢false (sym e))
-
-  outside_raw : (around : Around) (xs : Items) (notes : List item.Item) (w : Walk) → Free notes → outside_faults ctx around xs w [] ≡ [] → IsQuietFront ctx.word ctx.notes xs → RawSections (sections_from ctx None xs notes w)
-  outside_raw around NoItem notes w k e q = tt
-  outside_raw around (items.Then (Declares first after d) xs) notes w k e q = absurd (outside_declares ctx around w first after d xs e)
-  outside_raw around (items.Then (States ls p) xs) notes w k e q =
-      outside_by (has_case ls) refl (outside_parts ctx around w ls p xs e).1
-      (λ c. inside_raw (beginning w ls (plain_items ctx p w)) xs notes (behind_plain ctx p w) (begun_raw w ls (plain_items ctx p w) c (free_plain p w)) k)
-      (λ o l. outside_raw around xs notes (behind_plain ctx p w) k o l)
+  outside_raw : (around : Around) (xs : Items) (notes : List item.Item) (w : Walk) → Free notes → outside_faults ctx around xs w [] ≡ [] → RawSections (sections_from ctx None xs notes w)
+  outside_raw around NoItem notes w k e = tt
+  outside_raw around (items.Then (Declares first after d) xs) notes w k e = absurd (outside_declares ctx around w first after d xs e)
+  outside_raw around (items.Then (States ls p) xs) notes w k e =
+      by (has_case ls) refl (outside_parts ctx around w ls p xs e).1
+      (λ c. inside_raw (beginning ctx w ls (plain_items ctx p w)) xs notes (behind_plain ctx p w) (begun_raw w ls (plain_items ctx p w) c (free_plain p w)) k)
+      (λ o. outside_raw around xs notes (behind_plain ctx p w) k o)
     where
-      outside_by : (b : Bool) → has_case ls ≡ b → Outside ctx around w b ls p xs → (has_case ls ≡ true → RawSections (sections_from ctx (begun ctx (env_at ctx w) ls (plain_items ctx p w)) xs notes (behind_plain ctx p w)))
-          → (outside_faults ctx around xs (behind_plain ctx p w) [] ≡ [] → IsQuietFront ctx.word ctx.notes xs → RawSections (sections_from ctx None xs notes (behind_plain ctx p w)))
+      by : (b : Bool) → has_case ls ≡ b → Outside ctx around w b ls p xs → (has_case ls ≡ true → RawSections (sections_from ctx (begun ctx (env_at ctx w) ls (plain_items ctx p w)) xs notes (behind_plain ctx p w)))
+          → (outside_faults ctx around xs (behind_plain ctx p w) [] ≡ [] → RawSections (sections_from ctx None xs notes (behind_plain ctx p w)))
           → RawSections (elim b [
-            | true ↦ closed None ++ sections_from ctx (begun ctx (env_at ctx w) ls (plain_items ctx p w)) xs notes (behind_plain ctx p w)
-            | false ↦ sections_from ctx (extended None (labels_items ctx (env_at ctx w) ls ++ plain_items ctx p w)) xs notes (behind_plain ctx p w)
+            | true ↦ sections_from ctx (begun ctx (env_at ctx w) ls (plain_items ctx p w)) xs notes (behind_plain ctx p w)
+            | false ↦ sections_from ctx None xs notes (behind_plain ctx p w)
           ])
-      outside_by true c o f g = f c
-      outside_by false c o f g =
-          let n = nothing ls p w xs o.0 q in
-          subst (λ l. RawSections (sections_from ctx (extended None l) xs notes (behind_plain ctx p w))) (sym n.0) (g o.1 n.1)
+      by true c o f g = f c
+      by false c o f g = g o.1
 
-  lone_raw : (around : Around) (x : Item) (notes : List item.Item) (w : Walk) → Free notes → outside_fault ctx around x w [] ≡ [] → IsQuietFront ctx.word ctx.notes (items.Then x NoItem) → RawSections (sections_at ctx None x notes w)
-  lone_raw around (Declares first after d) notes w k e q = absurd (none_left _ _ e)
-  lone_raw around (States ls p) notes w k e q = by (has_case ls) refl (outside_one ctx around w ls p e).1
-    where
-      by : (b : Bool) → has_case ls ≡ b → (b || is_null ls p) ≡ true
-          → RawSections (elim b [ true ↦ statements.sections_of (begun ctx (env_at ctx w) ls (plain_items ctx p w)) notes | false ↦ statements.sections_of (extended None (labels_items ctx (env_at ctx w) ls ++ plain_items ctx p w)) notes ])
-      by true c o = end_raw (begun ctx (env_at ctx w) ls (plain_items ctx p w)) notes (begun_raw w ls (plain_items ctx p w) c (free_plain p w)) k
-      by false c o = subst (λ l. RawSections (statements.sections_of (extended None l) notes)) (sym (nothing ls p w NoItem o q).0) tt
-
-  switch_raw : (around : Around) (b : Body) (w : Walk) → switch_body_faults ctx around b w [] ≡ [] → IsQuietSwitch ctx.word ctx.notes b → RawSections (switch_sections ctx b w)
-  switch_raw around (Braces first after xs) w e q = outside_raw around xs (notes_at ctx (AtEnd first)) (enter w) (free_notes (AtEnd first)) e q
-  switch_raw around (Lone first after x) w e q = lone_raw around x (notes_at ctx (AtEnd first)) (enter w) (free_notes (AtEnd first)) e q
+  switch_raw : (around : Around) (b : Body) (w : Walk) → switch_body_faults ctx around b w [] ≡ [] → RawSections (switch_sections ctx b w)
+  switch_raw around (Braces first after xs) w e = outside_raw around xs (notes_at ctx (AtEnd first)) (enter w) (free_notes (AtEnd first)) e
+  switch_raw around (Lone first after x) w e =
+      let notes = notes_at ctx (AtEnd first) in
+      subst RawSections (sym (sections_alone ctx (enter w) x notes)) (outside_raw around (items.Then x NoItem) notes (enter w) (free_notes (AtEnd first)) (outside_alone ctx around (enter w) x e))
 
   raw_trees : (cs : List Section) → RawSections cs → Each IsRaw (map section_tree cs)
   raw_trees [] h = tt
   raw_trees (c ∷ cs) h = (h.0, raw_trees cs h.1)
 
   -- the sections of a switch
-  pub are_sections : (around : Around) (b : Body) (w : Walk) → switch_body_faults ctx around b w [] ≡ [] → IsQuietSwitch ctx.word ctx.notes b → AreSections (sections_of (passed_on [] false (switch_sections ctx b w)))
-  are_sections around b w e q =
+  pub are_sections : (around : Around) (b : Body) (w : Walk) → switch_body_faults ctx around b w [] ≡ [] → AreSections (sections_of (passed_on [] false (switch_sections ctx b w)))
+  are_sections around b w e =
       subst AreSections (sym (sections_are (passed_on [] false (switch_sections ctx b w)) ∙ ap sections (passed_same [] false (switch_sections ctx b w))))
-      (passed_are [] false (map section_tree (switch_sections ctx b w)) (raw_trees (switch_sections ctx b w) (switch_raw around b w e q)))
+      (passed_are [] false (map section_tree (switch_sections ctx b w)) (raw_trees (switch_sections ctx b w) (switch_raw around b w e)))

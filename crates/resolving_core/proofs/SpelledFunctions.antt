@@ -51,14 +51,14 @@ module _ (word : ℕ → List ℕ) (notes : Anchor → List (List ℕ)) where
   named_are (Default at after ∷ ls) rest h r = named_are ls rest h.1 r
 
   mutual
-    item_are : (x : Item) (rest : List ℕ) → IsReadItem word notes x → Each Is rest → Each Is (item_labels x rest)
+    item_are : (x : Item) (rest : List ℕ) → IsReadItem word x → Each Is rest → Each Is (item_labels x rest)
     item_are (Declares first after d) rest h r = r
     item_are (States ls p) rest h r = named_are ls (plain_labels p rest) h.0 (plain_are p rest h.1 r)
 
-    plain_are : (p : Plain) (rest : List ℕ) → IsReadPlain word notes p → Each Is rest → Each Is (plain_labels p rest)
+    plain_are : (p : Plain) (rest : List ℕ) → IsReadPlain word p → Each Is rest → Each Is (plain_labels p rest)
     plain_are (From first after s) rest h r = statement_are s rest h r
 
-    statement_are : (s : Statement) (rest : List ℕ) → IsReadStatement word notes s → Each Is rest → Each Is (statement_labels s rest)
+    statement_are : (s : Statement) (rest : List ℕ) → IsReadStatement word s → Each Is rest → Each Is (statement_labels s rest)
     statement_are Null rest h r = r
     statement_are (Evaluate t) rest h r = r
     statement_are (If t b) rest h r = body_are b rest h.1 r
@@ -74,11 +74,11 @@ module _ (word : ℕ → List ℕ) (notes : Anchor → List (List ℕ)) where
     statement_are (Return t) rest h r = r
     statement_are Unread rest h r = r
 
-    pub body_are : (b : Body) (rest : List ℕ) → IsReadBody word notes b → Each Is rest → Each Is (body_labels b rest)
+    pub body_are : (b : Body) (rest : List ℕ) → IsReadBody word b → Each Is rest → Each Is (body_labels b rest)
     body_are (Braces first after xs) rest h r = list_are xs rest h r
     body_are (Lone first after x) rest h r = item_are x rest h r
 
-    list_are : (xs : Items) (rest : List ℕ) → AreReadItems word notes xs → Each Is rest → Each Is (list_labels xs rest)
+    list_are : (xs : Items) (rest : List ℕ) → AreReadItems word xs → Each Is rest → Each Is (list_labels xs rest)
     list_are NoItem rest h r = r
     list_are (items.Then x xs) rest h r = item_are x (list_labels xs rest) h.0 (list_are xs rest h.1 r)
 
@@ -120,7 +120,7 @@ module _ (ctx : Context) where
 -- ---- functions
 
 module _ (flat : FlatCounts) (word : ℕ → List ℕ) (notes : Anchor → List (List ℕ)) (f : Function) (scopes : List Scope) (ts : List Top) (comments : (a : Anchor) → Each IsComment (notes a)) where
-  spelled_by : (o : Option Body) → IsName (word f.name) → Each (IsReadParameter word) f.parameters → IfSome o (IsReadBody word notes) → IfSome o (IsFewBody word f.counted) → f.counted ≤ 400 → IfSome o (λ b. body_depth b ≤ 400)
+  spelled_by : (o : Option Body) → IsName (word f.name) → Each (IsReadParameter word) f.parameters → IfSome o (IsReadBody word) → IfSome o (IsFewBody word f.counted) → f.counted ≤ 400 → IfSome o (λ b. body_depth b ≤ 400)
       → BodyParts flat word notes f o scopes → KnownOutside flat word notes f scopes ts → Resolves flat ts (defined word notes f o scopes) → FunctionIsSpelled (defined word notes f o scopes)
   spelled_by None m q r few most shallow p k v =
       let ctx = prototype_context word f in
@@ -169,5 +169,5 @@ module _ (flat : FlatCounts) (word : ℕ → List ℕ) (notes : Anchor → List 
         };
       }
 
-  pub function_is_spelled : IsReadFunction word notes f → BodyParts flat word notes f f.body scopes → KnownOutside flat word notes f scopes ts → Resolves flat ts (function_of word notes f scopes) → FunctionIsSpelled (function_of word notes f scopes)
+  pub function_is_spelled : IsReadFunction word f → BodyParts flat word notes f f.body scopes → KnownOutside flat word notes f scopes ts → Resolves flat ts (function_of word notes f scopes) → FunctionIsSpelled (function_of word notes f scopes)
   function_is_spelled r p k v = spelled_by f.body r.named r.parameters r.body r.few r.most r.shallow p k v

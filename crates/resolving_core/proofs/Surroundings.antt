@@ -28,6 +28,7 @@ use Rattle.c_resolved.specs.Within.{Each}
 use Rattle.resolving_core.proofs.Lists.{none_left, clean_if, not_true, each_append}
 use Rattle.resolving_core.proofs.Empty.{constant_empty}
 use Rattle.resolving_core.proofs.Parts.{parted, labels_parts, states_parts, list_parts, if_parts, if_else_parts, while_parts, do_parts, for_parts, switch_parts, Outside, outside_declares, outside_parts, outside_one}
+use Rattle.resolving_core.proofs.Readings.{longer, beginning}
 use Rattle.resolving_core.proofs.SectionTrees.{section_of, ended_tree, has_entry, without_end, passes, with_entries, passed_trees, passed_same, ended_same, sections_are}
 
 -- a list of one item
@@ -132,10 +133,8 @@ module _ (ctx : Context) (R : Around → Forest → Type 0) (c : Surrounded R) w
   abbrev HasSections : Around → List Section → Type 0
   HasSections a ss = Each (λ s. R a (section_tree s).list) ss
 
-  has_extended : (a : Around) (o : Option Reading) (xs : List item.Item) → HasReading a o → Has a xs → HasReading a (extended o xs)
-  has_extended a (Some s) xs h k = has_both a s.list xs h k
-  has_extended a None [] h k = tt
-  has_extended a None (x ∷ xs) h k = k
+  has_extended : (a : Around) (s : Reading) (xs : List item.Item) → HasReading a (Some s) → Has a xs → HasReading a (extended (Some s) xs)
+  has_extended a s xs h k = has_both a s.list xs h k
 
   has_ended : (a : Around) (cs : List ExpressionTree) (d : Bool) (x : Forest) → R a x → R a (ended_tree cs d x).list
   has_ended a cs d x h = by (has_entry cs d && ends_with_break x)
@@ -172,21 +171,17 @@ module _ (ctx : Context) (R : Around → Forest → Type 0) (c : Surrounded R) w
 
   has_end : (a : Around) (o : Option Reading) (notes : List item.Item) → HasReading a o → Has a notes → HasSections a (statements.sections_of o notes)
   has_end a None notes h k = tt
-  has_end a (Some s) notes h k = has_closed a (extended (Some s) notes) (has_extended a (Some s) notes h k)
+  has_end a (Some s) notes h k = has_closed a (extended (Some s) notes) (has_extended a s notes h k)
 
   inside_by : (a : Around) (b : Bool) (reading : Option Reading) (xs ys : List Section) → HasReading a reading → HasSections a xs → HasSections a ys → HasSections a (elim b [ true ↦ closed reading ++ xs | false ↦ ys ])
   inside_by a true reading xs ys h f g = each_append _ (closed reading) xs (has_closed a reading h) f
   inside_by a false reading xs ys h f g = g
 
-  outside_by : (around : Around) (w : Walk) (ls : List Label) (p : Plain) (xs : Items) (b : Bool) → Outside ctx around w b ls p xs → (reading : Option Reading) (ss ts : List Section) → HasReading around reading
+  outside_by : (around : Around) (w : Walk) (ls : List Label) (p : Plain) (xs : Items) (b : Bool) → Outside ctx around w b ls p xs → (ss ts : List Section)
       → (list_faults ctx around xs (behind_plain ctx p w) [] ≡ [] → HasSections around ss) → (outside_faults ctx around xs (behind_plain ctx p w) [] ≡ [] → HasSections around ts)
-      → HasSections around (elim b [ true ↦ closed reading ++ ss | false ↦ ts ])
-  outside_by around w ls p xs true o reading ss ts h f g = each_append _ (closed reading) ss (has_closed around reading h) (f o)
-  outside_by around w ls p xs false o reading ss ts h f g = g o.1
-
-  end_by : (a : Around) (b : Bool) (xs ys : List Section) → HasSections a xs → HasSections a ys → HasSections a (elim b [ true ↦ xs | false ↦ ys ])
-  end_by a true xs ys f g = f
-  end_by a false xs ys f g = g
+      → HasSections around (elim b [ true ↦ ss | false ↦ ts ])
+  outside_by around w ls p xs true o ss ts f g = f o
+  outside_by around w ls p xs false o ss ts f g = g o.1
 
   mutual
     pub has_item : (around : Around) (x : Item) (w : Walk) → item_faults ctx around x w [] ≡ [] → Has around (item_items ctx x w)
@@ -257,54 +252,45 @@ module _ (ctx : Context) (R : Around → Forest → Type 0) (c : Surrounded R) w
         has_both around (item_items ctx x w) (list_items ctx xs v) (has_item around x w p.0) (has_list around xs v p.1)
 
     has_sections : (around : Around) (b : Body) (w : Walk) → switch_body_faults ctx around b w [] ≡ [] → HasSections around (switch_sections ctx b w)
-    has_sections around (Braces first after xs) w e = has_outside around None xs (notes_at ctx (AtEnd first)) (enter w) tt (has_notes around (AtEnd first)) e
+    has_sections around (Braces first after xs) w e = has_outside around xs (notes_at ctx (AtEnd first)) (enter w) (has_notes around (AtEnd first)) e
     has_sections around (Lone first after x) w e = has_lone around x (notes_at ctx (AtEnd first)) (enter w) (has_notes around (AtEnd first)) e
 
-    has_outside : (around : Around) (reading : Option Reading) (xs : Items) (notes : List item.Item) (w : Walk) → HasReading around reading → Has around notes → outside_faults ctx around xs w [] ≡ []
-        → HasSections around (sections_from ctx reading xs notes w)
-    has_outside around reading NoItem notes w h k e = has_end around reading notes h k
-    has_outside around reading (items.Then (Declares first after d) xs) notes w h k e = absurd (outside_declares ctx around w first after d xs e)
-    has_outside around reading (items.Then (States ls p) xs) notes w h k e =
+    has_outside : (around : Around) (xs : Items) (notes : List item.Item) (w : Walk) → Has around notes → outside_faults ctx around xs w [] ≡ [] → HasSections around (sections_from ctx None xs notes w)
+    has_outside around NoItem notes w k e = tt
+    has_outside around (items.Then (Declares first after d) xs) notes w k e = absurd (outside_declares ctx around w first after d xs e)
+    has_outside around (items.Then (States ls p) xs) notes w k e =
         let o = outside_parts ctx around w ls p xs e in
         let s = states_parts ctx around w ls p o.0 in
         let v = behind_plain ctx p w in
-        let env = env_at ctx w in
-        let m = has_plain around p w s.1 in
-        let new = labels_items ctx env ls ++ plain_items ctx p w in
-        let l = has_both around (labels_items ctx env ls) (plain_items ctx p w) (has_labels around w ls s.0) m in
-        outside_by around w ls p xs (has_case ls) o.1 reading (sections_from ctx (begun ctx env ls (plain_items ctx p w)) xs notes v) (sections_from ctx (extended reading new) xs notes v) h
-        (λ q. has_inside around (begun ctx env ls (plain_items ctx p w)) xs notes v (has_begun around w ls (plain_items ctx p w) m) k q)
-        (λ q. has_outside around (extended reading new) xs notes v (has_extended around reading new h l) k q)
+        let ps = plain_items ctx p w in
+        outside_by around w ls p xs (has_case ls) o.1 (sections_from ctx (begun ctx (env_at ctx w) ls ps) xs notes v) (sections_from ctx None xs notes v)
+        (λ q. has_inside around (beginning ctx w ls ps) xs notes v (has_begun around w ls ps (has_plain around p w s.1)) k q) (λ q. has_outside around xs notes v k q)
 
-    has_inside : (around : Around) (reading : Option Reading) (xs : Items) (notes : List item.Item) (w : Walk) → HasReading around reading → Has around notes → list_faults ctx around xs w [] ≡ []
-        → HasSections around (sections_from ctx reading xs notes w)
-    has_inside around reading NoItem notes w h k e = has_end around reading notes h k
-    has_inside around reading (items.Then (Declares first after d) xs) notes w h k e =
+    has_inside : (around : Around) (r : Reading) (xs : Items) (notes : List item.Item) (w : Walk) → HasReading around (Some r) → Has around notes → list_faults ctx around xs w [] ≡ []
+        → HasSections around (sections_from ctx (Some r) xs notes w)
+    has_inside around r NoItem notes w h k e = has_end around (Some r) notes h k
+    has_inside around r (items.Then (Declares first after d) xs) notes w h k e =
         let p = list_parts ctx around w (Declares first after d) xs e in
         let l = locals ctx.word (kinded ctx.word d) d.names w in
         let new = notes_at ctx (Before first) ++ l in
-        has_inside around (extended reading new) xs notes (declared_by ctx d w) (has_extended around reading new h (behind_notes around (Before first) l (has_locals around (kinded ctx.word d) d.names w))) k p.1
-    has_inside around reading (items.Then (States ls p) xs) notes w h k e =
+        has_inside around (longer r new) xs notes (declared_by ctx d w) (has_extended around r new h (behind_notes around (Before first) l (has_locals around (kinded ctx.word d) d.names w))) k p.1
+    has_inside around r (items.Then (States ls p) xs) notes w h k e =
         let q = list_parts ctx around w (States ls p) xs e in
         let s = states_parts ctx around w ls p q.0 in
         let v = behind_plain ctx p w in
         let env = env_at ctx w in
+        let ps = plain_items ctx p w in
         let m = has_plain around p w s.1 in
-        let new = labels_items ctx env ls ++ plain_items ctx p w in
-        let l = has_both around (labels_items ctx env ls) (plain_items ctx p w) (has_labels around w ls s.0) m in
-        inside_by around (has_case ls) reading (sections_from ctx (begun ctx env ls (plain_items ctx p w)) xs notes v) (sections_from ctx (extended reading new) xs notes v) h
-        (has_inside around (begun ctx env ls (plain_items ctx p w)) xs notes v (has_begun around w ls (plain_items ctx p w) m) k q.1)
-        (has_inside around (extended reading new) xs notes v (has_extended around reading new h l) k q.1)
+        let new = labels_items ctx env ls ++ ps in
+        let l = has_both around (labels_items ctx env ls) ps (has_labels around w ls s.0) m in
+        inside_by around (has_case ls) (Some r) (sections_from ctx (begun ctx env ls ps) xs notes v) (sections_from ctx (extended (Some r) new) xs notes v) h
+        (has_inside around (beginning ctx w ls ps) xs notes v (has_begun around w ls ps m) k q.1) (has_inside around (longer r new) xs notes v (has_extended around r new h l) k q.1)
 
     has_lone : (around : Around) (x : Item) (notes : List item.Item) (w : Walk) → Has around notes → outside_fault ctx around x w [] ≡ [] → HasSections around (sections_at ctx None x notes w)
     has_lone around (Declares first after d) notes w k e = absurd (none_left _ _ e)
     has_lone around (States ls p) notes w k e =
         let o = outside_one ctx around w ls p e in
         let s = states_parts ctx around w ls p o.0 in
-        let env = env_at ctx w in
-        let m = has_plain around p w s.1 in
-        let new = labels_items ctx env ls ++ plain_items ctx p w in
-        let l = has_both around (labels_items ctx env ls) (plain_items ctx p w) (has_labels around w ls s.0) m in
-        end_by around (has_case ls) (statements.sections_of (begun ctx env ls (plain_items ctx p w)) notes) (statements.sections_of (extended None new) notes)
-        (has_end around (begun ctx env ls (plain_items ctx p w)) notes (has_begun around w ls (plain_items ctx p w) m) k)
-        (has_end around (extended None new) notes (has_extended around None new tt l) k)
+        let ps = plain_items ctx p w in
+        let sections = begun ctx (env_at ctx w) ls ps in
+        outside_by around w ls p NoItem (has_case ls) o.1 (statements.sections_of sections notes) [] (λ q. has_end around sections notes (has_begun around w ls ps (has_plain around p w s.1)) k) (λ q. tt)

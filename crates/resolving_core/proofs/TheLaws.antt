@@ -62,7 +62,7 @@ answered text tokens q p (Some v) e = absurd (true≢false (sym (ap is_ok e)))
 -- ---- the whole file
 
 module _ (file : File) (xs : List tops.Top) (bodies : (m : List ℕ) → defined file m ≡ has_function (bodies_of file.word xs) m)
-    (r : IsReadFile file.word file.notes xs) (comments : (a : Anchor) → Each IsComment (file.notes a)) (e : file_faults file xs start [] ≡ []) where
+    (r : IsReadFile file.word xs) (comments : (a : Anchor) → Each IsComment (file.notes a)) (e : file_faults file xs start [] ≡ []) where
   abbrev all : List Top
   all = tops_of file xs start
 
@@ -109,7 +109,7 @@ module _ (file : File) (ts : List Top) (known : (slots : List Slot) → IsDefine
   one_function (T.Include bs) h = tt
   one_function (T.Note bs) h = tt
 
-file_answered : (file : File) (xs : List tops.Top) → ((m : List ℕ) → defined file m ≡ has_function (bodies_of file.word xs) m) → IsReadFile file.word file.notes xs → ((a : Anchor) → Each IsComment (file.notes a)) → file_faults file xs start [] ≡ [] → Answered file.flat (program_of file xs)
+file_answered : (file : File) (xs : List tops.Top) → ((m : List ℕ) → defined file m ≡ has_function (bodies_of file.word xs) m) → IsReadFile file.word xs → ((a : Anchor) → Each IsComment (file.notes a)) → file_faults file xs start [] ≡ [] → Answered file.flat (program_of file xs)
 file_answered file xs bodies r c e =
     let ts = tops_of file xs start in
     let k = known file xs bodies r c e in

@@ -27,7 +27,7 @@ use Rattle.c_statements.specs.Violations.{dropped_faults, optional_faults, start
 use Rattle.c_resolved.specs.Form.{ends_with_break}
 use Rattle.c_resolved.specs.Within.{Each, CaseExpressions}
 use Rattle.resolving_core.proofs.Lists.{each_append}
-use Rattle.resolving_core.specs.Read.{body_cases, IsQuietSwitch, IsReadTerm, IsReadDeclarator, IsReadStart, IsReadBody}
+use Rattle.resolving_core.specs.Read.{body_cases, IsReadTerm, IsReadDeclarator, IsReadStart, IsReadBody}
 use Rattle.resolving_core.proofs.Grown.{Grown}
 use Rattle.resolving_core.proofs.SectionTrees.{section_of, ended_tree, has_entry, without_end, passes, with_entries, passed_trees, passed_same, ended_same, sections_are}
 
@@ -55,7 +55,7 @@ pub record Closed (ctx : Context) (final : List Slot) (I : List Scope → Type 0
       I w.scopes → I inner.scopes → Begins inner.slots final → IsReadStart ctx.word start → IfSome t (IsReadTerm ctx.word) → IfSome u (IsReadTerm ctx.word)
       → start_faults ctx start (enter w) [] ≡ [] → optional_faults (value_faults env) t [] ≡ [] → optional_faults (dropped_faults env) u [] ≡ []
       → P (tree.For (trees_of (start_items ctx start (enter w))) (option_map expression_tree (option_map (value_at env) t)) (option_map expression_tree (option_map (dropped_at env) u)) a)
-  pub switches : (around : Around) (w : Walk) (t : Term) (b : Body) → I w.scopes → IsReadTerm ctx.word t → IsReadBody ctx.word ctx.notes b → IsQuietSwitch ctx.word ctx.notes b → body_cases b < 2147483648 → value_faults (env_at ctx w) t [] ≡ []
+  pub switches : (around : Around) (w : Walk) (t : Term) (b : Body) → I w.scopes → IsReadTerm ctx.word t → IsReadBody ctx.word b → body_cases b < 2147483648 → value_faults (env_at ctx w) t [] ≡ []
       → switch_body_faults ctx (in_switch around) b w [] ≡ [] → switch_faults (option_map (λ v. v.kind) (value_of (typed (env_at ctx w) t))) (body_entries ctx b w []) [] ≡ []
       → CaseExpressions C (sections_of (passed_on [] false (switch_sections ctx b w)))
       → P (tree.Switch (Selects (expression_tree (value_at (env_at ctx w) t))) (sections_of (passed_on [] false (switch_sections ctx b w))))
@@ -113,10 +113,8 @@ module _ (P : Tree → Type 0) (C : ExpressionTree → Type 0) where
   abbrev pub SectionsHold : List Section → Type 0
   SectionsHold ss = Each (λ s. SectionHolds (section_tree s)) ss
 
-  pub extended_holds : (o : Option Reading) (xs : List item.Item) → ReadingHolds o → Holds P xs → ReadingHolds (extended o xs)
-  extended_holds (Some s) xs h k = (hold_both P s.list xs h.0 k, h.1)
-  extended_holds None [] h k = tt
-  extended_holds None (x ∷ xs) h k = (k, tt)
+  pub extended_holds : (s : Reading) (xs : List item.Item) → ReadingHolds (Some s) → Holds P xs → ReadingHolds (extended (Some s) xs)
+  extended_holds s xs h k = (hold_both P s.list xs h.0 k, h.1)
 
   ended_holds : (cs : List ExpressionTree) (d : Bool) (a : Forest) → Each C cs → Everywhere P a → SectionHolds (ended_tree cs d a)
   ended_holds cs d a c h = by (has_entry cs d && ends_with_break a)

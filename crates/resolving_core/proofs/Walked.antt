@@ -29,6 +29,7 @@ use Rattle.resolving_core.proofs.Lists.{none_left, clean_if, not_true, each_appe
 use Rattle.resolving_core.specs.Read.{IsReadDeclarator, IsReadLabel, IsReadStart, IsReadItem, IsReadPlain, IsReadStatement, IsReadBody, AreReadItems}
 use Rattle.resolving_core.proofs.Empty.{constant_empty}
 use Rattle.resolving_core.proofs.Parts.{parted, locals_parts, labels_parts, states_parts, list_parts, if_parts, if_else_parts, while_parts, do_parts, for_parts, switch_parts, Outside, outside_declares, outside_parts, outside_one}
+use Rattle.resolving_core.proofs.Readings.{longer, beginning}
 use Rattle.resolving_core.proofs.Grown.{Grown, locals_grow, body_grows, list_grows, outside_grows}
 use Rattle.resolving_core.proofs.Walk.{Begins, Any, begins_before, Closed, Holds, hold_none, hold_more, hold_one, hold_both, hold_as, SectionsHold, ReadingHolds, extended_holds, closed_holds, switch_holds}
 
@@ -145,7 +146,7 @@ module _ (ctx : Context) (final : List Slot) (I : List Scope → Type 0) (P : Tr
 
   sections_end : (reading : Option Reading) (notes : List item.Item) → ReadingHolds P C reading → Holds P notes → SectionsHold P C (statements.sections_of reading notes)
   sections_end None notes h k = tt
-  sections_end (Some s) notes h k = closed_holds P C (extended (Some s) notes) (extended_holds P C (Some s) notes h k)
+  sections_end (Some s) notes h k = closed_holds P C (extended (Some s) notes) (extended_holds P C s notes h k)
 
   -- ---- items in front of the first section, and in sections, by whether a statement begins one
 
@@ -154,23 +155,19 @@ module _ (ctx : Context) (final : List Slot) (I : List Scope → Type 0) (P : Tr
   sections_by true reading xs ys h f g = each_append _ (closed reading) xs (closed_holds P C reading h) (f refl)
   sections_by false reading xs ys h f g = g refl
 
-  outside_by : (ls : List Label) (p : Plain) (xs : Items) (around : Around) (w : Walk) (b : Bool) → Outside ctx around w b ls p xs → (reading : Option Reading) (ss ts : List Section) → ReadingHolds P C reading
+  outside_by : (ls : List Label) (p : Plain) (xs : Items) (around : Around) (w : Walk) (b : Bool) → Outside ctx around w b ls p xs → (ss ts : List Section)
       → (list_faults ctx around xs (behind_plain ctx p w) [] ≡ [] → SectionsHold P C ss) → (outside_faults ctx around xs (behind_plain ctx p w) [] ≡ [] → SectionsHold P C ts)
-      → SectionsHold P C (elim b [ true ↦ closed reading ++ ss | false ↦ ts ])
-  outside_by ls p xs around w true o reading ss ts h f g = each_append _ (closed reading) ss (closed_holds P C reading h) (f o)
-  outside_by ls p xs around w false o reading ss ts h f g = g o.1
+      → SectionsHold P C (elim b [ true ↦ ss | false ↦ ts ])
+  outside_by ls p xs around w true o ss ts f g = f o
+  outside_by ls p xs around w false o ss ts f g = g o.1
 
-  outside_later : (ls : List Label) (p : Plain) (xs : Items) (around : Around) (w : Walk) → AreReadItems ctx.word ctx.notes xs → (b : Bool) → Outside ctx around w b ls p xs
+  outside_later : (ls : List Label) (p : Plain) (xs : Items) (around : Around) (w : Walk) → AreReadItems ctx.word xs → (b : Bool) → Outside ctx around w b ls p xs
       → Grown Any (behind_plain ctx p w).slots (behind_items ctx xs (behind_plain ctx p w)).slots
   outside_later ls p xs around w r true o = list_grows ctx Any (λ k d w r e. tt) around xs (behind_plain ctx p w) r o
   outside_later ls p xs around w r false o = outside_grows ctx Any (λ k d w r e. tt) around xs (behind_plain ctx p w) r o.1
 
-  end_by : (b : Bool) (xs ys : List Section) → SectionsHold P C xs → SectionsHold P C ys → SectionsHold P C (elim b [ true ↦ xs | false ↦ ys ])
-  end_by true xs ys f g = f
-  end_by false xs ys f g = g
-
   mutual
-    pub item_holds : (around : Around) (x : Item) (w : Walk) → IsReadItem ctx.word ctx.notes x → item_faults ctx around x w [] ≡ [] → Here w → Ends (behind_item ctx x w)
+    pub item_holds : (around : Around) (x : Item) (w : Walk) → IsReadItem ctx.word x → item_faults ctx around x w [] ≡ [] → Here w → Ends (behind_item ctx x w)
         → Holds P (item_items ctx x w) × Here (behind_item ctx x w)
     item_holds around (Declares first after d) w r e i z =
         let h = locals_hold (kinded ctx.word d) d.names w r e i z in
@@ -179,10 +176,10 @@ module _ (ctx : Context) (final : List Slot) (I : List Scope → Type 0) (P : Tr
         let q = states_parts ctx around w ls p e in
         (hold_both P (labels_items ctx (env_at ctx w) ls) (plain_items ctx p w) (labels_hold w around.switch ls r.0 i q.0) (plain_holds around p w r.1 q.1 i z), plain_here p w i)
 
-    pub plain_holds : (around : Around) (p : Plain) (w : Walk) → IsReadPlain ctx.word ctx.notes p → plain_faults ctx around p w [] ≡ [] → Here w → Ends (behind_plain ctx p w) → Holds P (plain_items ctx p w)
+    pub plain_holds : (around : Around) (p : Plain) (w : Walk) → IsReadPlain ctx.word p → plain_faults ctx around p w [] ≡ [] → Here w → Ends (behind_plain ctx p w) → Holds P (plain_items ctx p w)
     plain_holds around (From first after s) w r e i z = behind_notes (Before first) (statement_items ctx s w) (statement_holds around first s w r e i z)
 
-    statement_holds : (around : Around) (first : ℕ) (s : Statement) (w : Walk) → IsReadStatement ctx.word ctx.notes s → statement_faults ctx around first s w [] ≡ [] → Here w → Ends (statements.behind_statement ctx s w)
+    statement_holds : (around : Around) (first : ℕ) (s : Statement) (w : Walk) → IsReadStatement ctx.word s → statement_faults ctx around first s w [] ≡ [] → Here w → Ends (statements.behind_statement ctx s w)
         → Holds P (statement_items ctx s w)
     statement_holds around first Null w r e i z = hold_none P
     statement_holds around first (Evaluate t) w r e i z =
@@ -233,7 +230,7 @@ module _ (ctx : Context) (final : List Slot) (I : List Scope → Type 0) (P : Tr
         let ss = passed_on [] false (switch_sections ctx b w) in
         let h = switch_holds P C (switch_sections ctx b w) (sections_hold around b w r.1 p.1 i z) in
         hold_one P (item.Switch (selector.Source v) ss) (hold_as P _ _ (tree-Switch (selector.Source v) ss ∙ ap (λ x. tree.Switch x (sections_of ss)) (selector-Source v))
-        (c.switches around w t b i r.0 r.1 r.2 r.3 p.0 p.1 p.2 h.1, h.0))
+        (c.switches around w t b i r.0 r.1 r.2 p.0 p.1 p.2 h.1, h.0))
     statement_holds around first (Block b) w r e i z =
         let a = body_items ctx b w in
         hold_one P (item.Block a) (hold_as P _ _ (tree-Block a) (c.block (trees_of a), body_holds around b w r e i z))
@@ -247,11 +244,11 @@ module _ (ctx : Context) (final : List Slot) (I : List Scope → Type 0) (P : Tr
         hold_one P (item.Return x) (hold_as P _ _ (tree-Return x) (c.returns w first t i r e))
     statement_holds around first Unread w r e i z = absurd r
 
-    body_holds : (around : Around) (b : Body) (w : Walk) → IsReadBody ctx.word ctx.notes b → body_faults ctx around b w [] ≡ [] → Here w → Ends (behind_body ctx b w) → Holds P (body_items ctx b w)
+    body_holds : (around : Around) (b : Body) (w : Walk) → IsReadBody ctx.word b → body_faults ctx around b w [] ≡ [] → Here w → Ends (behind_body ctx b w) → Holds P (body_items ctx b w)
     body_holds around (Braces first after xs) w r e i z = hold_both P (list_items ctx xs (enter w)) (notes_at ctx (AtEnd first)) (list_holds around xs (enter w) r e (c.into w.scopes i) z) (notes_hold (AtEnd first))
     body_holds around (Lone first after x) w r e i z = hold_both P (item_items ctx x (enter w)) (notes_at ctx (AtEnd first)) (item_holds around x (enter w) r e (c.into w.scopes i) z).0 (notes_hold (AtEnd first))
 
-    pub list_holds : (around : Around) (xs : Items) (w : Walk) → AreReadItems ctx.word ctx.notes xs → list_faults ctx around xs w [] ≡ [] → Here w → Ends (behind_items ctx xs w) → Holds P (list_items ctx xs w)
+    pub list_holds : (around : Around) (xs : Items) (w : Walk) → AreReadItems ctx.word xs → list_faults ctx around xs w [] ≡ [] → Here w → Ends (behind_items ctx xs w) → Holds P (list_items ctx xs w)
     list_holds around NoItem w r e i z = hold_none P
     list_holds around (items.Then x xs) w r e i z =
         let p = list_parts ctx around w x xs e in
@@ -260,62 +257,56 @@ module _ (ctx : Context) (final : List Slot) (I : List Scope → Type 0) (P : Tr
         let h = item_holds around x w r.0 p.0 i g in
         hold_both P (item_items ctx x w) (list_items ctx xs v) h.0 (list_holds around xs v r.1 p.1 h.1 z)
 
-    sections_hold : (around : Around) (b : Body) (w : Walk) → IsReadBody ctx.word ctx.notes b → switch_body_faults ctx (in_switch around) b w [] ≡ [] → Here w → Ends (behind_body ctx b w) → SectionsHold P C (switch_sections ctx b w)
-    sections_hold around (Braces first after xs) w r e i z = outside_hold (in_switch around) None xs (notes_at ctx (AtEnd first)) (enter w) tt (notes_hold (AtEnd first)) r e (c.into w.scopes i) z
+    sections_hold : (around : Around) (b : Body) (w : Walk) → IsReadBody ctx.word b → switch_body_faults ctx (in_switch around) b w [] ≡ [] → Here w → Ends (behind_body ctx b w) → SectionsHold P C (switch_sections ctx b w)
+    sections_hold around (Braces first after xs) w r e i z = outside_hold (in_switch around) xs (notes_at ctx (AtEnd first)) (enter w) (notes_hold (AtEnd first)) r e (c.into w.scopes i) z
     sections_hold around (Lone first after x) w r e i z = lone_holds (in_switch around) x (notes_at ctx (AtEnd first)) (enter w) (notes_hold (AtEnd first)) r e (c.into w.scopes i) z
 
     -- in front of the first section
-    outside_hold : (around : Around) (reading : Option Reading) (xs : Items) (notes : List item.Item) (w : Walk) → ReadingHolds P C reading → Holds P notes → AreReadItems ctx.word ctx.notes xs
-        → outside_faults ctx around xs w [] ≡ [] → Here w → Ends (behind_items ctx xs w) → SectionsHold P C (sections_from ctx reading xs notes w)
-    outside_hold around reading NoItem notes w h k r e i z = sections_end reading notes h k
-    outside_hold around reading (items.Then (Declares first after d) xs) notes w h k r e i z = absurd (outside_declares ctx around w first after d xs e)
-    outside_hold around reading (items.Then (States ls p) xs) notes w h k r e i z =
+    outside_hold : (around : Around) (xs : Items) (notes : List item.Item) (w : Walk) → Holds P notes → AreReadItems ctx.word xs → outside_faults ctx around xs w [] ≡ [] → Here w → Ends (behind_items ctx xs w)
+        → SectionsHold P C (sections_from ctx None xs notes w)
+    outside_hold around NoItem notes w k r e i z = tt
+    outside_hold around (items.Then (Declares first after d) xs) notes w k r e i z = absurd (outside_declares ctx around w first after d xs e)
+    outside_hold around (items.Then (States ls p) xs) notes w k r e i z =
         let o = outside_parts ctx around w ls p xs e in
         let s = states_parts ctx around w ls p o.0 in
         let v = behind_plain ctx p w in
-        let env = env_at ctx w in
+        let ps = plain_items ctx p w in
         let g = begins_before v.slots (behind_items ctx xs v).slots final (outside_later ls p xs around w r.1 (has_case ls) o.1) z in
-        let m = plain_holds around p w r.0.1 s.1 i g in
-        let new = labels_items ctx env ls ++ plain_items ctx p w in
-        let l = hold_both P (labels_items ctx env ls) (plain_items ctx p w) (labels_hold w around.switch ls r.0.0 i s.0) m in
-        outside_by ls p xs around w (has_case ls) o.1 reading (sections_from ctx (begun ctx env ls (plain_items ctx p w)) xs notes v) (sections_from ctx (extended reading new) xs notes v) h
-        (λ q. inside_hold around (begun ctx env ls (plain_items ctx p w)) xs notes v (begun_holds w around.switch ls (plain_items ctx p w) r.0.0 i s.0 m) k r.1 q (plain_here p w i) z)
-        (λ q. outside_hold around (extended reading new) xs notes v (extended_holds P C reading new h l) k r.1 q (plain_here p w i) z)
+        outside_by ls p xs around w (has_case ls) o.1 (sections_from ctx (begun ctx (env_at ctx w) ls ps) xs notes v) (sections_from ctx None xs notes v)
+        (λ q. inside_hold around (beginning ctx w ls ps) xs notes v (begun_holds w around.switch ls ps r.0.0 i s.0 (plain_holds around p w r.0.1 s.1 i g)) k r.1 q (plain_here p w i) z)
+        (λ q. outside_hold around xs notes v k r.1 q (plain_here p w i) z)
 
     -- in the sections
-    inside_hold : (around : Around) (reading : Option Reading) (xs : Items) (notes : List item.Item) (w : Walk) → ReadingHolds P C reading → Holds P notes → AreReadItems ctx.word ctx.notes xs
-        → list_faults ctx around xs w [] ≡ [] → Here w → Ends (behind_items ctx xs w) → SectionsHold P C (sections_from ctx reading xs notes w)
-    inside_hold around reading NoItem notes w h k r e i z = sections_end reading notes h k
-    inside_hold around reading (items.Then (Declares first after d) xs) notes w h k r e i z =
+    inside_hold : (around : Around) (s : Reading) (xs : Items) (notes : List item.Item) (w : Walk) → ReadingHolds P C (Some s) → Holds P notes → AreReadItems ctx.word xs
+        → list_faults ctx around xs w [] ≡ [] → Here w → Ends (behind_items ctx xs w) → SectionsHold P C (sections_from ctx (Some s) xs notes w)
+    inside_hold around s NoItem notes w h k r e i z = sections_end (Some s) notes h k
+    inside_hold around s (items.Then (Declares first after d) xs) notes w h k r e i z =
         let p = list_parts ctx around w (Declares first after d) xs e in
         let v = declared_by ctx d w in
         let g = begins_before v.slots (behind_items ctx xs v).slots final (list_grows ctx Any (λ k d w r e. tt) around xs v r.1 p.1) z in
         let l = locals_hold (kinded ctx.word d) d.names w r.0 p.0 i g in
         let new = notes_at ctx (Before first) ++ locals ctx.word (kinded ctx.word d) d.names w in
-        inside_hold around (extended reading new) xs notes v (extended_holds P C reading new h (behind_notes (Before first) (locals ctx.word (kinded ctx.word d) d.names w) l.0)) k r.1 p.1 l.1 z
-    inside_hold around reading (items.Then (States ls p) xs) notes w h k r e i z =
+        inside_hold around (longer s new) xs notes v (extended_holds P C s new h (behind_notes (Before first) (locals ctx.word (kinded ctx.word d) d.names w) l.0)) k r.1 p.1 l.1 z
+    inside_hold around s (items.Then (States ls p) xs) notes w h k r e i z =
         let q = list_parts ctx around w (States ls p) xs e in
-        let s = states_parts ctx around w ls p q.0 in
+        let t = states_parts ctx around w ls p q.0 in
         let v = behind_plain ctx p w in
         let env = env_at ctx w in
+        let ps = plain_items ctx p w in
         let g = begins_before v.slots (behind_items ctx xs v).slots final (list_grows ctx Any (λ k d w r e. tt) around xs v r.1 q.1) z in
-        let m = plain_holds around p w r.0.1 s.1 i g in
-        let new = labels_items ctx env ls ++ plain_items ctx p w in
-        let l = hold_both P (labels_items ctx env ls) (plain_items ctx p w) (labels_hold w around.switch ls r.0.0 i s.0) m in
-        sections_by (has_case ls) reading (sections_from ctx (begun ctx env ls (plain_items ctx p w)) xs notes v) (sections_from ctx (extended reading new) xs notes v) h
-        (λ b. inside_hold around (begun ctx env ls (plain_items ctx p w)) xs notes v (begun_holds w around.switch ls (plain_items ctx p w) r.0.0 i s.0 m) k r.1 q.1 (plain_here p w i) z)
-        (λ b. inside_hold around (extended reading new) xs notes v (extended_holds P C reading new h l) k r.1 q.1 (plain_here p w i) z)
+        let m = plain_holds around p w r.0.1 t.1 i g in
+        let new = labels_items ctx env ls ++ ps in
+        let l = hold_both P (labels_items ctx env ls) ps (labels_hold w around.switch ls r.0.0 i t.0) m in
+        sections_by (has_case ls) (Some s) (sections_from ctx (begun ctx env ls ps) xs notes v) (sections_from ctx (extended (Some s) new) xs notes v) h
+        (λ b. inside_hold around (beginning ctx w ls ps) xs notes v (begun_holds w around.switch ls ps r.0.0 i t.0 m) k r.1 q.1 (plain_here p w i) z)
+        (λ b. inside_hold around (longer s new) xs notes v (extended_holds P C s new h l) k r.1 q.1 (plain_here p w i) z)
 
-    lone_holds : (around : Around) (x : Item) (notes : List item.Item) (w : Walk) → Holds P notes → IsReadItem ctx.word ctx.notes x → outside_fault ctx around x w [] ≡ [] → Here w → Ends (behind_item ctx x w)
+    lone_holds : (around : Around) (x : Item) (notes : List item.Item) (w : Walk) → Holds P notes → IsReadItem ctx.word x → outside_fault ctx around x w [] ≡ [] → Here w → Ends (behind_item ctx x w)
         → SectionsHold P C (sections_at ctx None x notes w)
     lone_holds around (Declares first after d) notes w k r e i z = absurd (none_left _ _ e)
     lone_holds around (States ls p) notes w k r e i z =
         let o = outside_one ctx around w ls p e in
         let s = states_parts ctx around w ls p o.0 in
-        let env = env_at ctx w in
-        let m = plain_holds around p w r.1 s.1 i z in
-        let new = labels_items ctx env ls ++ plain_items ctx p w in
-        let l = hold_both P (labels_items ctx env ls) (plain_items ctx p w) (labels_hold w around.switch ls r.0 i s.0) m in
-        end_by (has_case ls) (statements.sections_of (begun ctx env ls (plain_items ctx p w)) notes) (statements.sections_of (extended None new) notes)
-        (sections_end (begun ctx env ls (plain_items ctx p w)) notes (begun_holds w around.switch ls (plain_items ctx p w) r.0 i s.0 m) k)
-        (sections_end (extended None new) notes (extended_holds P C None new tt l) k)
+        let ps = plain_items ctx p w in
+        let sections = begun ctx (env_at ctx w) ls ps in
+        outside_by ls p NoItem around w (has_case ls) o.1 (statements.sections_of sections notes) [] (λ q. sections_end sections notes (begun_holds w around.switch ls ps r.0 i s.0 (plain_holds around p w r.1 s.1 i z)) k) (λ q. tt)

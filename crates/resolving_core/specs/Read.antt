@@ -1,6 +1,6 @@
 -- Source trees as derivations write them: each expression and each statement is one, targets stand where they are
 -- assigned or counted, and lists that the grammar asks for have an element.
-use Rattle.std.specs.Prelude.{ℕ, ◌≡◌, ◌≤◌, ◌<◌, ◌+◌, Bool, List, [], ◌∷◌, Option, Some, None, IfSome, length}
+use Rattle.std.specs.Prelude.{ℕ, ◌≤◌, ◌<◌, ◌+◌, Bool, List, [], ◌∷◌, Option, Some, None, IfSome, length}
 use Rattle.c_lexer.specs.Marks.{mark_of}
 use Rattle.c_source.specs.Terms.{Term, Form, Terms, At, Constant, Variable, Cell, Prefix, Suffix, CastTo, CastVoid, Binary, Choice, Assign, Commas, Call, Texts, Unknown, NoTerm}
 use Rattle.c_source.specs.Terms as terms
@@ -12,7 +12,6 @@ use Rattle.c_source.specs.Words.{character}
 use Rattle.c_kinds.specs.Marks.{step_of}
 use Rattle.c_kinds.specs.Typing.{joined_texts}
 use Rattle.c_statements.specs.declared.anchors.Anchor.{Anchor}
-use Rattle.c_statements.specs.declared.anchors.Anchor.TheVariants.{Before}
 use Rattle.c_statements.specs.Measures.{body_depth}
 use Rattle.c_resolved.specs.PrintableExpressions.{IsName, AreBytes}
 use Rattle.c_resolved.specs.Verbatims.{IsComment, IsDirective}
@@ -32,6 +31,39 @@ IsTarget (At first form) = IsTargetForm form
 abbrev pub FitsStep : Option Bool → Term → Type 0
 FitsStep (Some up) a = IsTarget a
 FitsStep None a = Unit {0}
+
+-- ---- how many cases a statement has at most
+
+abbrev pub label_cases : List Label → ℕ
+label_cases [] = 0
+label_cases (Case first after t ∷ ls) = 1 + label_cases ls
+label_cases (_ ∷ ls) = label_cases ls
+
+abbrev mutual
+  pub item_cases : Item → ℕ
+  item_cases (Declares first after d) = 0
+  item_cases (States ls p) = label_cases ls + plain_cases p
+
+  pub plain_cases : Plain → ℕ
+  plain_cases (From first after s) = statement_cases s
+
+  pub statement_cases : Statement → ℕ
+  statement_cases (If t b) = body_cases b
+  statement_cases (IfElse t b c) = body_cases b + body_cases c
+  statement_cases (While t b) = body_cases b
+  statement_cases (DoWhile b t) = body_cases b
+  statement_cases (For start t u b) = body_cases b
+  statement_cases (Switch t b) = body_cases b
+  statement_cases (Block b) = body_cases b
+  statement_cases _ = 0
+
+  pub body_cases : Body → ℕ
+  body_cases (Braces first after xs) = list_cases xs
+  body_cases (Lone first after x) = item_cases x
+
+  pub list_cases : Items → ℕ
+  list_cases NoItem = 0
+  list_cases (items.Then x xs) = item_cases x + list_cases xs
 
 module _ (word : ℕ → List ℕ) where
   -- the token is a name
@@ -102,71 +134,28 @@ module _ (word : ℕ → List ℕ) where
     pub named : IfSome x.name IsNameAt
     pub size : IsReadSize x.size
 
--- ---- how many cases a statement has at most
-
-abbrev pub label_cases : List Label → ℕ
-label_cases [] = 0
-label_cases (Case first after t ∷ ls) = 1 + label_cases ls
-label_cases (_ ∷ ls) = label_cases ls
-
-abbrev mutual
-  pub item_cases : Item → ℕ
-  item_cases (Declares first after d) = 0
-  item_cases (States ls p) = label_cases ls + plain_cases p
-
-  pub plain_cases : Plain → ℕ
-  plain_cases (From first after s) = statement_cases s
-
-  pub statement_cases : Statement → ℕ
-  statement_cases (If t b) = body_cases b
-  statement_cases (IfElse t b c) = body_cases b + body_cases c
-  statement_cases (While t b) = body_cases b
-  statement_cases (DoWhile b t) = body_cases b
-  statement_cases (For start t u b) = body_cases b
-  statement_cases (Switch t b) = body_cases b
-  statement_cases (Block b) = body_cases b
-  statement_cases _ = 0
-
-  pub body_cases : Body → ℕ
-  body_cases (Braces first after xs) = list_cases xs
-  body_cases (Lone first after x) = item_cases x
-
-  pub list_cases : Items → ℕ
-  list_cases NoItem = 0
-  list_cases (items.Then x xs) = item_cases x + list_cases xs
-
-module _ (word : ℕ → List ℕ) (notes : Anchor → List (List ℕ)) where
-  -- the null statements that the list of a switch begins with: the comments before them belong to the switch
-  abbrev pub IsQuietFront : Items → Type 0
-  IsQuietFront (items.Then (States [] (From first after Null)) xs) = (notes (Before first) ≡ []) × IsQuietFront xs
-  IsQuietFront _ = Unit {0}
-
-  abbrev pub IsQuietSwitch : Body → Type 0
-  IsQuietSwitch (Braces first after xs) = IsQuietFront xs
-  IsQuietSwitch (Lone first after x) = IsQuietFront (items.Then x NoItem)
-
   abbrev mutual
     pub IsReadItem : Item → Type 0
-    IsReadItem (Declares first after d) = IsReadDeclaration word d
-    IsReadItem (States ls p) = Each (IsReadLabel word) ls × IsReadPlain p
+    IsReadItem (Declares first after d) = IsReadDeclaration d
+    IsReadItem (States ls p) = Each IsReadLabel ls × IsReadPlain p
 
     pub IsReadPlain : Plain → Type 0
     IsReadPlain (From first after s) = IsReadStatement s
 
     pub IsReadStatement : Statement → Type 0
     IsReadStatement Null = Unit {0}
-    IsReadStatement (Evaluate t) = IsReadTerm word t
-    IsReadStatement (If t b) = IsReadTerm word t × IsReadBody b
-    IsReadStatement (IfElse t b c) = IsReadTerm word t × IsReadBody b × IsReadBody c
-    IsReadStatement (While t b) = IsReadTerm word t × IsReadBody b
-    IsReadStatement (DoWhile b t) = IsReadBody b × IsReadTerm word t
-    IsReadStatement (For start t u b) = IsReadStart word start × IfSome t (IsReadTerm word) × IfSome u (IsReadTerm word) × IsReadBody b
-    IsReadStatement (Switch t b) = IsReadTerm word t × IsReadBody b × IsQuietSwitch b × (body_cases b < 2147483648)
+    IsReadStatement (Evaluate t) = IsReadTerm t
+    IsReadStatement (If t b) = IsReadTerm t × IsReadBody b
+    IsReadStatement (IfElse t b c) = IsReadTerm t × IsReadBody b × IsReadBody c
+    IsReadStatement (While t b) = IsReadTerm t × IsReadBody b
+    IsReadStatement (DoWhile b t) = IsReadBody b × IsReadTerm t
+    IsReadStatement (For start t u b) = IsReadStart start × IfSome t IsReadTerm × IfSome u IsReadTerm × IsReadBody b
+    IsReadStatement (Switch t b) = IsReadTerm t × IsReadBody b × (body_cases b < 2147483648)
     IsReadStatement (Block b) = IsReadBody b
-    IsReadStatement (Goto at) = IsNameAt word at
+    IsReadStatement (Goto at) = IsNameAt at
     IsReadStatement Break = Unit {0}
     IsReadStatement Continue = Unit {0}
-    IsReadStatement (Return t) = IfSome t (IsReadTerm word)
+    IsReadStatement (Return t) = IfSome t IsReadTerm
     IsReadStatement Unread = ⊥
 
     pub IsReadBody : Body → Type 0
@@ -180,8 +169,8 @@ module _ (word : ℕ → List ℕ) (notes : Anchor → List (List ℕ)) where
   -- ---- file scope
 
   pub record IsReadFunction (f : Function) : Type 0 where
-    pub named : IsNameAt word f.name
-    pub parameters : Each (IsReadParameter word) f.parameters
+    pub named : IsNameAt f.name
+    pub parameters : Each IsReadParameter f.parameters
     pub body : IfSome f.body IsReadBody
     -- the count of the function is that of its longest full expression
     pub few : IfSome f.body (IsFewBody word f.counted)
@@ -190,8 +179,8 @@ module _ (word : ℕ → List ℕ) (notes : Anchor → List (List ℕ)) where
 
   abbrev pub IsReadTopForm : tops.Form → Type 0
   IsReadTopForm Line = Unit {0}
-  IsReadTopForm (Enum es) = (0 < length es) × Each (IsReadEnumerator word) es
-  IsReadTopForm (Globals static d) = IsReadDeclaration word d × IsFewDeclaration word 400 d
+  IsReadTopForm (Enum es) = (0 < length es) × Each IsReadEnumerator es
+  IsReadTopForm (Globals static d) = IsReadDeclaration d × IsFewDeclaration word 400 d
   IsReadTopForm (Defines f) = IsReadFunction f
   IsReadTopForm tops.Unread = ⊥
 
@@ -207,7 +196,7 @@ module _ (word : ℕ → List ℕ) (notes : Anchor → List (List ℕ)) where
   abbrev pub IsReadFile : List Top → Type 0
   IsReadFile xs = Each IsReadTop xs
 
-  -- a file, and its comments
-  pub record IsRead (xs : List Top) : Type 0 where
-    pub file : IsReadFile xs
-    pub comments : (a : Anchor) → Each IsComment (notes a)
+-- a file, and its comments
+pub record IsRead (word : ℕ → List ℕ) (notes : Anchor → List (List ℕ)) (xs : List Top) : Type 0 where
+  pub file : IsReadFile word xs
+  pub comments : (a : Anchor) → Each IsComment (notes a)

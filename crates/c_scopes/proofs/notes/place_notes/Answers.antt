@@ -1,11 +1,12 @@
 use Rattle.std.proofs.Common.{◌≡◌, ◌+◌, get_or, drop, ap, sym, ◌∙◌, arith}
-use Rattle.std.proofs.lemmas.List.{drop_all}
+use Rattle.std.proofs.lemmas.List.{drop_all, take_rest}
 use Rattle.c_lexer.specs.declared.token.Span.{Span}
 use Rattle.c_source.specs.Views.{words_of}
 use Rattle.c_statements.specs.Context.{with_note}
 use Rattle.c_statements.specs.NoteViews.{notes_of}
 use Rattle.c_scopes.specs.NodeViews.{tops_in}
 use Rattle.c_scopes.specs.Notes.{next_token, comment_bytes, comment_place, place_in}
+use Rattle.c_scopes.proofs.PassedNodes.{none_passed}
 use Rattle.c_scopes.proofs.NoteLists.{placed, placed_next, placed_notes, no_token}
 use Rattle.c_scopes.proofs.notes.place_notes.Goals as goal
 
@@ -16,6 +17,8 @@ loop-comment-init c =
     let text = c.args.words.now.text.now in
     record {
       within = omega arith;
+      some = omega arith;
+      passed = none_passed (words_of c.args.words.now) c.args.nodes.now 0;
       reached = sym (no_token tokens);
       notes = ap (placed (comment_place tokens file) (comment_bytes text) c.args.comments.now) c.new-notes.ensures;
     }
@@ -30,11 +33,17 @@ loop-comment-preserved c =
     let i = c.loop-comment.comment-index in
     let d : Span = record { start = 0; end = 0 } in
     let comment = get_or c.args.comments.now i d in
-    let reached = c.reach-reached.ensures in
+    let reached = c.reach-next.ensures in
+    let passed = c.pass-passed.ensures.passed in
     let put : notes_of c.add_comment.new.notes ≡ with_note (place comment) (bytes comment) (notes_of c.loop-comment.notes)
-    = c.in_ok-add_comment.ensures ∙ (λ j. with_note (place_in file (reached.at j)) (bytes comment) (notes_of c.loop-comment.notes)) in
+    = c.in_ok-add_comment.ensures
+    ∙ ap (λ l. with_note (place_in (tops_in (words_of c.args.words.now) l) c.reach-next.result.at) (bytes comment) (notes_of c.loop-comment.notes)) (take_rest c.args.nodes.now c.pass-passed.result)
+    ∙ ap (λ a. with_note a (bytes comment) (notes_of c.loop-comment.notes)) (passed c.reach-next.result.at (omega arith))
+    ∙ (λ j. with_note (place_in file (reached.at j)) (bytes comment) (notes_of c.loop-comment.notes)) in
     record {
       within = reached.within;
+      some = c.pass-passed.ensures.within;
+      passed = passed;
       reached = reached.at ∙ ap (next_token tokens) (sym reached.start);
       notes =
           ap (placed place bytes (drop (i + 1) c.args.comments.now)) put

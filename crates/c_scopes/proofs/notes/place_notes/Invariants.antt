@@ -1,7 +1,7 @@
 use Rattle.std.proofs.Common.{◌≡◌, ◌≤◌, [], drop, length}
 use Rattle.c_source.specs.Views.{words_of}
 use Rattle.c_statements.specs.NoteViews.{notes_of}
-use Rattle.c_scopes.specs.NodeViews.{tops_in}
+use Rattle.c_scopes.specs.NodeViews.{tops_in, IsPassed}
 use Rattle.c_scopes.specs.Notes.{next_token, comment_bytes, comment_place}
 use Rattle.c_scopes.proofs.NoteLists.{placed}
 use Rattle.c_scopes.proofs.notes.place_notes.Given as goal
@@ -13,6 +13,8 @@ invariant-loop-comment l =
     let text = l.words.text.now in
     record {
       within : l.reached.at ≤ length tokens;
+      some : l.passed ≤ length l.nodes;
+      passed : IsPassed (words_of l.words) l.nodes l.passed l.reached.at;
       reached : l.reached.at ≡ next_token tokens l.reached.start;
       notes : placed (comment_place tokens file) (comment_bytes text) (drop l.comment-index l.comments) (notes_of l.notes) ≡ placed (comment_place tokens file) (comment_bytes text) l.comments (λ a. []);
     }

@@ -1,0 +1,10 @@
+pub mod Past
+pub mod Weights
+pub mod Counted
+pub mod CountedPrinted
+pub mod CountedNodes
+pub mod CountedDeclarations
+pub mod CountedStatements
+pub mod CountedFiles
+pub mod WholeFiles
+pub mod TheLaws
