@@ -9,6 +9,7 @@ use Rattle.whole_core.specs.Laws.{IsTopNamed}
 use Rattle.whole_core.proofs.Whole.{whole_laws}
 use Rattle.plain_resolved.proofs.NamedForm.{tops_named, named_form_resolved}
 use Rattle.printed_reading.proofs.Parsing.{printed_text_parses}
+use Rattle.reading_back.proofs.ReadingBack.{reading_back_laws}
 use Rattle.read_back.specs.Laws.{PlainFormReadsBack}
 
 pub plain_form_reads_back : PlainFormReadsBack
@@ -17,9 +18,11 @@ plain_form_reads_back p q ms r w h =
     let form = plain_with given q in
     let right = whole_laws.whole flat_counts given p q ms r w (All-from_recursion (IsTopNamed given) q.tops (tops_named p q.tops)) in
     let resolved = named_form_resolved p q ms r w h in
+    let printed = resolved_laws.text form right.plain in
     record {
       resolved = resolved;
       plain = right.plain;
-      parses = printed_text_parses form (resolved_laws.printable flat_counts form resolved (resolved_laws.text form right.plain));
+      parses = printed_text_parses form (resolved_laws.printable flat_counts form resolved printed);
+      reads = reading_back_laws.resolved form resolved printed;
       runs = right.runs;
     }

@@ -1,8 +1,10 @@
 -- What the function of this crate states.
-use Rattle.std.specs.Prelude.{◌≡◌, true, List, All}
+use Rattle.std.specs.Prelude.{◌≡◌, true, List, All, Ok}
 use Rattle.c_copies.specs.Names.{names}
 use Rattle.c_tree.specs.declared.tree.Program.{Program}
 use Rattle.c_tree.specs.Jumps.{is_plain_program}
+use Rattle.c_tree.specs.Text.{text_of}
+use Rattle.c_reading.specs.Reading.{reading}
 use Rattle.guard_vars.specs.GuardNames.{guard_names}
 use Rattle.plain_core.specs.Plain.{plain_with}
 use Rattle.plain_core.specs.Laws.{BehavesAsStructured}
@@ -11,6 +13,7 @@ use Rattle.move_records.specs.declared.moves.Move.{Move}
 use Rattle.whole_core.specs.Rewritten.{IsRewritten}
 use Rattle.plain_resolved.specs.Guards.{TopHasNames}
 use Rattle.printed_reading.specs.Laws.{Parses}
+use Rattle.reading_back.specs.Laws.{counted}
 
 -- what is known of r, the plain form of what p is rewritten to
 pub record ReadsBack (p r : Program) : Type 0 where
@@ -19,6 +22,8 @@ pub record ReadsBack (p r : Program) : Type 0 where
   pub plain : is_plain_program r ≡ true
   -- its printed text has tokens that derive its syntax alone
   pub parses : Parses r
+  -- reading that text gives it
+  pub reads : reading counted (text_of r) ≡ Ok r
   -- and its runs by structure are those of p
   pub runs : BehavesAsStructured p r
 

@@ -6,7 +6,7 @@
 ghost use Rattle.read_back.specs.Laws.{PlainFormReadsBack};
 
 /// The plain form of what a resolved program is rewritten to is resolved, its printed text is scanned and parsed to its
-/// syntax, and its runs by structure are the runs of the program.
+/// syntax and reads as it, and its runs by structure are the runs of the program.
 pub fn plain_form_reads_back()
     ensures { PlainFormReadsBack }
 {}

@@ -1,0 +1,17 @@
+pub mod Lengths
+pub mod Chosen
+pub mod PlacesOn
+pub mod SectionPlaces
+pub mod NotesTold
+pub mod CommentsNumbered
+pub mod TopsTold
+pub mod NotesStand
+pub mod Declared
+pub mod Given
+pub mod BodiesRead
+pub mod LongestGiven
+pub mod DepthGiven
+pub mod CountLow
+pub mod CountGiven
+pub mod Measured
+pub mod Back

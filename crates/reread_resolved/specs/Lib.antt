@@ -1,0 +1,3 @@
+pub mod Notes
+pub mod Limits
+pub mod Laws
