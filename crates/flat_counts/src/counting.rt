@@ -1,21 +1,14 @@
-ghost use Rattle.std.specs.Prelude.{◌≡◌, ◌+◌, IfOk, OnOk};
+ghost use Rattle.std.specs.Prelude.{◌≡◌, ◌+◌, [], IfOk, OnOk};
 ghost use Rattle.c_tree.specs.Everywhere.{total, total_of, total_in};
 ghost use Rattle.c_tree.specs.Trees.{trees_of, sections_of};
-ghost use Rattle.flat_counts.specs.Counts.{goto_of, counts_of};
+ghost use Rattle.resolved_core.specs.Counts.{goto_of, flat_counts as the_flat_counts};
 ghost use Rattle.tree_views.specs.Views.{tree_at};
 
 use c_tree::{Function, Item, Section};
-use c_types::{List, Memory};
+use c_types::{List, Memory, Name};
 use flat_bodies::flat_body;
 use flat_parts::has_jumps;
 use std::alloc::Global;
-
-/// How many gotos and labels a flat form has.
-#[derive(Clone, Copy)]
-pub struct FlatCounts {
-    pub gotos: u64,
-    pub labels: usize,
-}
 
 fn add_one(count: &mut u64) -> Result<(), Memory>
     ensures { OnOk result (count.new ≡ count.old + 1) }
@@ -86,20 +79,35 @@ fn gotos_in(list: &List<Item>) -> Result<u64, Memory>
     Ok(count)
 }
 
-/// How many gotos and labels the flat form of a function with this body has; `None` where it has no
-/// jumps. Want of memory is the only failure.
-pub fn flat_counts(
-    alloc: Global,
-    function: &Function,
-    body: &List<Item>,
-) -> Result<Option<FlatCounts>, Memory>
-    ensures { IfOk result (λ it. it ≡ counts_of function.now (trees_of body.now)) }
+/// A function without variables and labels.
+fn frame(alloc: Global) -> Function
+    ensures slots { result.slots ≡ [] }
+    ensures labels { result.labels ≡ [] }
+{
+    Function {
+        name: Name::from_string(String::new(alloc)),
+        result: None,
+        file_only: false,
+        params: 0,
+        slots: List::new(alloc),
+        labels: List::new(alloc),
+        body: None,
+        flat: false,
+    }
+}
+
+/// How many gotos and how many labels the flat form of a function with this body has, whatever its
+/// variables and labels are; `None` where it has no jumps. Want of memory is the only failure. The flat
+/// form is made to be counted, so it takes the time and the memory of that.
+pub fn flat_counts(alloc: Global, body: &List<Item>) -> Result<Option<(u64, u64)>, Memory>
+    ensures { IfOk result (λ it. it ≡ the_flat_counts (trees_of body.now)) }
 {
     if has_jumps(body) {
-        let flat = flat_body(alloc, function, body)?;
+        let frame = frame(alloc);
+        let flat = flat_body(alloc, &frame, body)?;
         let gotos = gotos_in(&flat.items)?;
-        let labels = flat.codes.len();
-        Ok(Some(FlatCounts { gotos, labels }))
+        let labels = flat.codes.len() as u64;
+        Ok(Some((gotos, labels)))
     } else {
         Ok(None)
     }

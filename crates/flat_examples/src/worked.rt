@@ -112,16 +112,15 @@ fn names_in_the_order_of_the_steps(rt: HostRuntime) -> Result<(), Fail> {
 #[test]
 fn counts_of_a_flat_form(rt: HostRuntime) -> Result<(), Fail> {
     let alloc = rt.alloc();
-    let function = worked(alloc)?;
     let mut body = List::new(alloc);
     body.push(looping(alloc)?)?;
     body.push(scattered(alloc)?)?;
-    let counts = flat_counts(alloc, &function, &body)?;
+    let counts = flat_counts(alloc, &body)?;
     assert!(rt; counts.is_some());
-    let Some(counts) = counts else {
+    let Some((gotos, labels)) = counts else {
         return Ok(());
     };
-    assert_eq!(rt; counts.gotos, 7);
-    assert_eq!(rt; counts.labels, 6);
+    assert_eq!(rt; gotos, 7);
+    assert_eq!(rt; labels, 6);
     Ok(())
 }

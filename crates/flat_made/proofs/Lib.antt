@@ -13,3 +13,4 @@ pub mod Instance
 pub mod NoLabels
 pub mod Sourced
 pub mod Unscattered
+pub mod SameCounts

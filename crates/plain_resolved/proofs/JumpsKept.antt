@@ -1,5 +1,5 @@
 -- The flat form of a body with jumps has a goto, and so a label.
-use Rattle.std.proofs.Common.{◌≡◌, ℕ, zero, suc, ◌+◌, ◌≤◌, ◌<◌, Bool, true, false, cond, length, Option, refl, arith, length-append}
+use Rattle.std.proofs.Common.{◌≡◌, ℕ, zero, suc, ◌+◌, ◌≤◌, ◌<◌, Bool, true, false, cond, Option, refl, arith}
 use Rattle.c_tree.specs.Exits.{breaks, continues}
 use Rattle.c_tree.specs.ExpressionTrees.{ExpressionTree}
 use Rattle.c_tree.specs.Labels.{ItemLabels}
@@ -10,39 +10,8 @@ use Rattle.jump_meaning.specs.Step.{switch_kind}
 use Rattle.loose_core.specs.Pieces.{Aim, mark_of, third_items, Names, tests_among, case_marks}
 use Rattle.loose_core.specs.Loose.{Arrivals, NoArrival, Arrives}
 use Rattle.flat_core.specs.Parts.{is_scattered, holds_jump, kept_breaks, jumps_of, Here, past, past_item, inside, Ending, Gone, Breaks, Jumps, Otherwise, later, if_jumps, ending, ending_of, is_gone}
-use Rattle.flat_core.specs.FlatForm.{Plan, names_of, scatter_aim, otherwise_label, end_goto, aim, is_jumpy_switch, dissolved, if_breaks, flat_for, flat, flat_item, flat_last, flat_last_item, flat_sections, spread, marks, marks_in, marks_among}
-use Rattle.plain_resolved.proofs.SameCounts.{weight}
-
--- ---- how many labels stand in a body
-
-mutual
-  pub marks_counted : (a : Forest) → length (marks a) ≡ total (weight 0 1) a
-  marks_counted Nil = refl
-  marks_counted (Then x a) = let e = length-append (marks_in x) (marks a) in let i = marks_counted_in x in let j = marks_counted a in omega (arith, e, i, j)
-
-  marks_counted_in : (x : Tree) → length (marks_in x) ≡ total_of (weight 0 1) x
-  marks_counted_in (If t a b) = let e = length-append (marks a) (marks b) in let i = marks_counted a in let j = marks_counted b in omega (arith, e, i, j)
-  marks_counted_in (While t a) = let i = marks_counted a in omega (arith, i)
-  marks_counted_in (Do a t) = let i = marks_counted a in omega (arith, i)
-  marks_counted_in (For first t u a) = let e = length-append (marks first) (marks a) in let i = marks_counted first in let j = marks_counted a in omega (arith, e, i, j)
-  marks_counted_in (Block a) = let i = marks_counted a in omega (arith, i)
-  marks_counted_in (Switch s d) = let i = marks_counted_among d in omega (arith, i)
-  marks_counted_in (Mark l) = refl
-  marks_counted_in (Evaluate e) = refl
-  marks_counted_in (Return e) = refl
-  marks_counted_in (Local x es) = refl
-  marks_counted_in Break = refl
-  marks_counted_in Continue = refl
-  marks_counted_in (Goto l) = refl
-  marks_counted_in (Arm l e) = refl
-  marks_counted_in (Leap l) = refl
-  marks_counted_in (Land l) = refl
-  marks_counted_in (Arrival e) = refl
-  marks_counted_in (Note bs) = refl
-
-  marks_counted_among : (d : Sections) → length (marks_among d) ≡ total_in (weight 0 1) d
-  marks_counted_among NoSection = refl
-  marks_counted_among (Section cases default a ends d) = let e = length-append (marks a) (marks_among d) in let i = marks_counted a in let j = marks_counted_among d in omega (arith, e, i, j)
+use Rattle.flat_core.specs.FlatForm.{Plan, names_of, scatter_aim, otherwise_label, end_goto, aim, is_jumpy_switch, dissolved, if_breaks, flat_for, flat, flat_item, flat_last, flat_last_item, flat_sections, spread}
+use Rattle.flat_made.proofs.SameCounts.{weight}
 
 -- ---- where there is no label there is no goto
 

@@ -31,7 +31,6 @@ pub mod Resolved
 pub mod Wrappers
 pub mod Simple
 pub mod FewCounted
-pub mod SameCounts
 pub mod JumpsKept
 pub mod Measured
 pub mod FlatDepths

@@ -19,32 +19,13 @@ use Rattle.whole_core.proofs.Flattened.{body_is}
 use Rattle.c_resolved.specs.Limits.{most_counted, IsWithinLimits}
 use Rattle.c_resolved.specs.PrintableStatements.{most}
 use Rattle.c_resolved.specs.Resolved.{IsResolvedFunction}
-use Rattle.resolved_core.specs.Counts.{counts_of, flat_counts}
+use Rattle.resolved_core.specs.Counts.{counts_of, measured_form, flat_counts}
 use Rattle.resolved_core.proofs.GoodSource.{good_source}
+use Rattle.resolved_core.proofs.Measures.{same_labels}
 use Rattle.resolved_core.proofs.Ranged.{function_ranged}
 use Rattle.plain_resolved.proofs.FewCounted.{moved_few}
-use Rattle.plain_resolved.proofs.JumpsKept.{marks_counted, jumps_kept, some_label}
+use Rattle.plain_resolved.proofs.JumpsKept.{jumps_kept, some_label}
 use Rattle.plain_resolved.proofs.PlainTops.{IsMovedForm}
-use Rattle.plain_resolved.proofs.SameCounts.{stays, no_arrival, weight, flat_same}
-
--- the flat form by which a body is measured
-abbrev pub measured_form : Forest → Forest
-measured_form body = flat_body constant [] (length (marks body)) body
-
--- as many gotos and labels as the flat form of a function with these slots and n labels
-pub same_weights : (gotos labels : ℕ) (slots : List Slot) (n : ℕ) (body : Forest)
-    → total (weight gotos labels) (flat (coded constant slots n body) (first_here (length slots)) Stays Stays NoArrival body) ≡ total (weight gotos labels) (measured_form body)
-same_weights gotos labels slots n body =
-    let p = coded constant slots n body in
-    let c = coded constant [] (length (marks body)) body in
-    let q = numbered (marks (flat c (first_here 0) Stays Stays NoArrival body)) c in
-    flat_same gotos labels p.live p.source q.source p.break_label q.break_label p.continue_label q.continue_label p.default_label q.default_label p.case_label q.case_label slots [] constant constant (first_here (length slots))
-    (first_here 0) body stays stays no_arrival
-
-pub same_labels : (slots : List Slot) (n : ℕ) (body : Forest) → label_count slots n body ≡ length (marks (measured_form body))
-same_labels slots n body =
-    let p = coded constant slots n body in
-    marks_counted (flat p (first_here (length slots)) Stays Stays NoArrival body) ∙ same_weights 0 1 slots n body ∙ sym (marks_counted (measured_form body))
 
 some_number : (n : ℕ) → is_some_number n ≡ true → 0 < n
 some_number zero e = cc

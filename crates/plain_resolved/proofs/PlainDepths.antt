@@ -12,7 +12,6 @@ use Rattle.c_tree.specs.WellMade.{IsWellMade}
 use Rattle.conversion_core.proofs.ConvertedTrees.{converted_trees}
 use Rattle.loose_core.specs.Pieces.{Stays}
 use Rattle.loose_core.specs.Loose.{NoArrival}
-use Rattle.flat_core.specs.Parts.{jumps_of}
 use Rattle.flat_core.specs.FlatForm.{coded, numbered, first_here, flat, flat_body, marks}
 use Rattle.flat_made.specs.FlatMade.{IsFlatItem}
 use Rattle.flat_made.specs.Laws.{IsGoodSource}
@@ -34,14 +33,15 @@ use Rattle.plain_core.proofs.PlainFunctions.{are_declared}
 use Rattle.whole_core.proofs.BodiesKept.{IsSimplified, chosen_simplified}
 use Rattle.c_resolved.specs.PrintableStatements.{most, depth, depth_of, depth_in}
 use Rattle.c_resolved.specs.Resolved.{IsResolvedFunction}
-use Rattle.resolved_core.specs.Counts.{flat_counts}
+use Rattle.resolved_core.specs.Counts as measures
+use Rattle.resolved_core.specs.Counts.{measured_form, flat_counts}
 use Rattle.resolved_core.proofs.GoodSource.{good_source}
+use Rattle.resolved_core.proofs.Measures.{same_gotos}
 use Rattle.plain_resolved.proofs.FactsMoved.{labels_of, slot_of, reached_of, flat_trees, plain_trees}
 use Rattle.plain_resolved.proofs.FlatDepths.{flat_depth}
-use Rattle.plain_resolved.proofs.Measured.{measured_form, limits}
+use Rattle.plain_resolved.proofs.Measured.{limits}
 use Rattle.plain_resolved.proofs.PlainForms.{decls, items}
 use Rattle.plain_resolved.proofs.PlainTops.{IsMovedForm}
-use Rattle.plain_resolved.proofs.SameCounts.{stays, no_arrival, weight, flat_same}
 use Rattle.plain_resolved.proofs.UnmovedSpelled.{depth_if, depth_tidy}
 
 -- ---- the greatest list level is one more than the depth
@@ -107,43 +107,12 @@ reached_depth (then {body = body} {new = new} c r n) =
 
 -- ---- numbers of gotos
 
-module _ (f g : Tree → ℕ) (less : (x : Tree) → f x ≤ g x) where
-  mutual
-    total_below : (a : Forest) → total f a ≤ total g a
-    total_below Nil = omega arith
-    total_below (Then x a) = let i = total_below_of x in let j = total_below a in omega (arith, i, j)
+same_goto : (x : Tree) → goto_of x ≡ measures.goto_of x
+same_goto (Goto l) = refl
+same_goto _ = refl
 
-    total_below_of : (x : Tree) → total_of f x ≤ total_of g x
-    total_below_of (If t a b) = let l = less (If t a b) in let i = total_below a in let j = total_below b in omega (arith, l, i, j)
-    total_below_of (While t a) = let l = less (While t a) in let i = total_below a in omega (arith, l, i)
-    total_below_of (Do a t) = let l = less (Do a t) in let i = total_below a in omega (arith, l, i)
-    total_below_of (For first t u a) = let l = less (For first t u a) in let i = total_below first in let j = total_below a in omega (arith, l, i, j)
-    total_below_of (Switch s c) = let l = less (Switch s c) in let i = total_below_in c in omega (arith, l, i)
-    total_below_of (Block a) = let l = less (Block a) in let i = total_below a in omega (arith, l, i)
-    total_below_of (Evaluate e) = less (Evaluate e)
-    total_below_of (Return e) = less (Return e)
-    total_below_of (Local x es) = less (Local x es)
-    total_below_of Break = less Break
-    total_below_of Continue = less Continue
-    total_below_of (Goto l) = less (Goto l)
-    total_below_of (Mark l) = less (Mark l)
-    total_below_of (Arm l e) = less (Arm l e)
-    total_below_of (Leap l) = less (Leap l)
-    total_below_of (Land l) = less (Land l)
-    total_below_of (Arrival e) = less (Arrival e)
-    total_below_of (Note bs) = less (Note bs)
-
-    total_below_in : (c : Sections) → total_in f c ≤ total_in g c
-    total_below_in NoSection = omega arith
-    total_below_in (Section cases default a ends c) = let i = total_below a in let j = total_below_in c in omega (arith, i, j)
-
-goto_weighs : (x : Tree) → goto_of x ≤ weight 1 0 x
-goto_weighs (Goto l) = omega arith
-goto_weighs _ = omega arith
-
-weighs_jump : (x : Tree) → weight 1 0 x ≤ jumps_of x
-weighs_jump (Goto l) = omega arith
-weighs_jump _ = omega arith
+same_total : (a : Forest) → gotos a ≡ total measures.goto_of a
+same_total a = ap (λ (f : Tree → ℕ). total f a) (λ i x. same_goto x i)
 
 -- ---- a flat form has no Leap
 
@@ -192,18 +161,8 @@ module _ (ts : List Top) (f h : Function) (g : IsResolvedFunction flat_counts ts
   good : IsGoodSource n source
   good = good_source flat_counts ts f g
 
-  few_gotos : gotos flattened ≤ total jumps_of (measured_form source)
-  few_gotos =
-      let c = coded constant f.slots n source in
-      let e = coded constant [] (length (marks source)) source in
-      let p = numbered (marks (flat c (first_here (length f.slots)) Stays Stays NoArrival source)) c in
-      let q = numbered (marks (flat e (first_here 0) Stays Stays NoArrival source)) e in
-      let same =
-      flat_same 1 0 p.live p.source q.source p.break_label q.break_label p.continue_label q.continue_label p.default_label q.default_label p.case_label q.case_label f.slots [] constant constant (first_here (length f.slots))
-      (first_here 0) source stays stays no_arrival in
-      let i = total_below goto_of (weight 1 0) goto_weighs flattened in
-      let j = total_below (weight 1 0) jumps_of weighs_jump (measured_form source) in
-      omega (arith, same, i, j)
+  few_gotos : gotos flattened ≡ total measures.goto_of (measured_form source)
+  few_gotos = same_total flattened ∙ same_gotos f.slots n source
 
   flat_shallow : nesting flattened ≤ nesting source
   flat_shallow =

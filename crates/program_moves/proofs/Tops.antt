@@ -14,22 +14,22 @@ pub record AreMovedTo (i : ℕ) (old now : List Top) (ms : List Move) : Type 0 w
   pub continues : (us : List Top) (ns : List Move) → MovedTops (drop i now) us ns → MovedTops old (take i now ++ us) (ms ++ ns)
   pub movable : All IsTopMovable (drop i now)
 
-dropped : {A : Type 0} (xs : List A) (i : ℕ) (x : A) → slice_get xs i ≡ Some x → drop i xs ≡ x ∷ drop (suc i) xs
+pub dropped : {A : Type 0} (xs : List A) (i : ℕ) (x : A) → slice_get xs i ≡ Some x → drop i xs ≡ x ∷ drop (suc i) xs
 dropped [] i x e = cc
 dropped (y ∷ xs) zero x e = let g : x ≡ y = cc in ap (λ z. z ∷ xs) (sym g)
 dropped (y ∷ xs) (suc i) x e = dropped xs i x e
 
-dropped_set : {A : Type 0} (xs : List A) (i : ℕ) (x : A) → drop (suc i) (slice_set xs i x) ≡ drop (suc i) xs
+pub dropped_set : {A : Type 0} (xs : List A) (i : ℕ) (x : A) → drop (suc i) (slice_set xs i x) ≡ drop (suc i) xs
 dropped_set [] i x = refl
 dropped_set (y ∷ xs) zero x = refl
 dropped_set (y ∷ xs) (suc i) x = dropped_set xs i x
 
-taken_set : {A : Type 0} (xs : List A) (i : ℕ) (x y : A) (zs : List A) → slice_get xs i ≡ Some x → take (suc i) (slice_set xs i y) ++ zs ≡ take i xs ++ y ∷ zs
+pub taken_set : {A : Type 0} (xs : List A) (i : ℕ) (x y : A) (zs : List A) → slice_get xs i ≡ Some x → take (suc i) (slice_set xs i y) ++ zs ≡ take i xs ++ y ∷ zs
 taken_set [] i x y zs e = cc
 taken_set (w ∷ xs) zero x y zs e = refl
 taken_set (w ∷ xs) (suc i) x y zs e = ap (λ z. w ∷ z) (taken_set xs i x y zs e)
 
-taken_all : {A : Type 0} (xs : List A) (i : ℕ) → length xs ≤ i → take i xs ++ [] ≡ xs
+pub taken_all : {A : Type 0} (xs : List A) (i : ℕ) → length xs ≤ i → take i xs ++ [] ≡ xs
 taken_all [] zero h = refl
 taken_all [] (suc i) h = refl
 taken_all (x ∷ xs) zero h = absurd (omega arith)

@@ -8,5 +8,6 @@ pub mod Printed
 pub mod OneScope
 pub mod Scoped
 pub mod GoodSource
+pub mod Measures
 mod Tried
 pub mod TheLaws

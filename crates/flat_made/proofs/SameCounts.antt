@@ -1,5 +1,5 @@
 -- The flat form of a body has as many gotos and labels, whatever its labels are called and its variables are.
-use Rattle.std.proofs.Common.{◌≡◌, ℕ, zero, suc, ℤ, Bool, true, false, cond, ◌||◌, ◌&&◌, List, [], ◌∷◌, Option, Some, None, refl, sym, ap, subst, ◌∙◌, arith}
+use Rattle.std.proofs.Common.{◌≡◌, ℕ, zero, suc, ℤ, Bool, true, false, cond, ◌||◌, ◌&&◌, List, [], ◌∷◌, length, Option, Some, None, refl, sym, ap, subst, ◌∙◌, arith, length-append}
 use Rattle.std.specs.Option.{option_map_or}
 use Rattle.c_types.specs.declared.kinds.IntKind.{IntKind}
 use Rattle.c_tree.specs.declared.tree.Slot.{Slot}
@@ -9,7 +9,7 @@ use Rattle.c_tree.specs.ExpressionTrees.{ExpressionTree}
 use Rattle.c_tree.specs.TestTrees.{Source}
 use Rattle.c_tree.specs.Trees.{Tree, Forest, Nil, Then, Sections, NoSection, Section, Evaluate, Return, If, While, Do, For, Switch, Block, Local, Break, Continue, Goto, Mark, Arm, Leap, Land, Arrival, Note, join}
 use Rattle.c_tree.specs.Changed.{one}
-use Rattle.c_tree.specs.Everywhere.{total, total_in}
+use Rattle.c_tree.specs.Everywhere.{total, total_of, total_in}
 use Rattle.c_tree.proofs.KeptLemmas.{total-join}
 use Rattle.jump_meaning.specs.Code.{entry_or}
 use Rattle.jump_meaning.specs.World.{no_slot}
@@ -17,7 +17,7 @@ use Rattle.jump_meaning.specs.Step.{switch_kind}
 use Rattle.loose_core.specs.Pieces.{Aim, Stays, Becomes, Absent, mark_of, third_items, assigned_cells, Names, is_number, test_for, tests_for, tests, tests_in, tests_among, case_marks}
 use Rattle.loose_core.specs.Loose.{Arrivals, NoArrival, Arrives}
 use Rattle.flat_core.specs.Parts.{is_some_number, is_scattered, leaves, holds_jump, holds_jump_among, kept_breaks, Here, past, past_item, inside, Ending, Gone, Breaks, Jumps, Otherwise, ending, is_gone}
-use Rattle.flat_core.specs.FlatForm.{Plan, names_of, scatter_aim, otherwise_label, end_goto, aim, exit, is_moved, is_jumpy_switch, assigned, mark_if, arrival, dissolved, if_breaks, flat_for, flat, flat_item, flat_last, flat_last_item, flat_sections, spread}
+use Rattle.flat_core.specs.FlatForm.{Plan, names_of, scatter_aim, otherwise_label, end_goto, aim, exit, is_moved, is_jumpy_switch, assigned, mark_if, arrival, dissolved, if_breaks, flat_for, flat, flat_item, flat_last, flat_last_item, flat_sections, spread, marks, marks_in, marks_among}
 
 -- what an exit becomes, apart from the label
 pub data Alike : Aim → Aim → Type 0 where
@@ -256,3 +256,34 @@ module _ (gotos labels : ℕ) where
           both (case_marks n cases default) _ (case_marks n' cases default) _ (case_marks_same n n' cases default)
           (both (flat p h b c (Arrives n) a) _ (flat q h' b' c' (Arrives n') a) _ (flat_same h h' a j k (arrives n n'))
           (both (end_goto ends b) (spread p (past a h) b c n d) (end_goto ends b') (spread q (past a h') b' c' n' d) (end_same ends j) (spread_same (past a h) (past a h') n n' d j k)))
+
+-- ---- how many labels stand in a body
+
+mutual
+  pub marks_counted : (a : Forest) → length (marks a) ≡ total (weight 0 1) a
+  marks_counted Nil = refl
+  marks_counted (Then x a) = let e = length-append (marks_in x) (marks a) in let i = marks_counted_in x in let j = marks_counted a in omega (arith, e, i, j)
+
+  marks_counted_in : (x : Tree) → length (marks_in x) ≡ total_of (weight 0 1) x
+  marks_counted_in (If t a b) = let e = length-append (marks a) (marks b) in let i = marks_counted a in let j = marks_counted b in omega (arith, e, i, j)
+  marks_counted_in (While t a) = let i = marks_counted a in omega (arith, i)
+  marks_counted_in (Do a t) = let i = marks_counted a in omega (arith, i)
+  marks_counted_in (For first t u a) = let e = length-append (marks first) (marks a) in let i = marks_counted first in let j = marks_counted a in omega (arith, e, i, j)
+  marks_counted_in (Block a) = let i = marks_counted a in omega (arith, i)
+  marks_counted_in (Switch s d) = let i = marks_counted_among d in omega (arith, i)
+  marks_counted_in (Mark l) = refl
+  marks_counted_in (Evaluate e) = refl
+  marks_counted_in (Return e) = refl
+  marks_counted_in (Local x es) = refl
+  marks_counted_in Break = refl
+  marks_counted_in Continue = refl
+  marks_counted_in (Goto l) = refl
+  marks_counted_in (Arm l e) = refl
+  marks_counted_in (Leap l) = refl
+  marks_counted_in (Land l) = refl
+  marks_counted_in (Arrival e) = refl
+  marks_counted_in (Note bs) = refl
+
+  marks_counted_among : (d : Sections) → length (marks_among d) ≡ total_in (weight 0 1) d
+  marks_counted_among NoSection = refl
+  marks_counted_among (Section cases default a ends d) = let e = length-append (marks a) (marks_among d) in let i = marks_counted a in let j = marks_counted_among d in omega (arith, e, i, j)
