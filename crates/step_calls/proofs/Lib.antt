@@ -1,0 +1,2 @@
+pub mod UnsignedLemmas
+pub mod SlotLemmas

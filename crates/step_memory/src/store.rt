@@ -1,0 +1,211 @@
+ghost use Rattle.std.specs.Prelude.{◌≡◌, [], map, Some, None, FitsSigned, IfOk, OnOk, OnErr};
+ghost use Rattle.std.specs.Int.{w128};
+ghost use Rattle.jump_meaning.specs.Code.{entry_or};
+ghost use Rattle.jump_meaning.specs.World.{with_number, with_zeros};
+ghost use Rattle.step_memory.specs.Rooms.{BecomesAt, HasSlots};
+ghost use Rattle.step_memory.specs.Stores.{room_at, Names, Reaches, HasKind, HasCount, HasNumber, HasNoCell, HasArray, StoresIn, ClearsIn, EntersCall, LeavesCall};
+
+use crate::room::{Cells, Room};
+use crate::value::Owner;
+use c_tree::Home;
+use c_types::{IntKind, List, Memory, Name};
+
+/// The variables: those of the file, by the table of their names, and those of each call.
+#[derive(Drop)]
+pub struct Store<'a> {
+    pub names: Vec<&'a Name>,
+    pub file: List<Room>,
+    /// The slots of each call, whose numbers begin at 1. What an ended call held stays until the
+    /// next call of its number.
+    pub calls: List<List<Room>>,
+    /// The number of the newest call.
+    pub newest: u32,
+}
+
+/// The place of a name in the table.
+fn place_of(names: &[&Name], name: &Name) -> Result<u32, Memory>
+    ensures { IfOk result (λ i. entry_or [] (map (λ n. n.now) names.now) i ≡ name.now) }
+{
+    for (at, other) in names.iter().enumerate() {
+        if other.as_str() == name.as_str() && at <= 4294967295 {
+            return Ok(at as u32);
+        }
+    }
+    Err(Memory)
+}
+
+impl<'a> Store<'a> {
+    /// The room of a variable. One that isn't there is refused.
+    pub fn room(&self, owner: Owner) -> Result<&Room, Memory>
+        ensures ok { IfOk result (λ r. room_at self.now owner ≡ Some r.now) }
+        ensures err { OnErr result (room_at self.now owner ≡ None) }
+    {
+        let room = match owner {
+            Owner::File(at) => self.file.get(at as usize),
+            Owner::Call(call, at) => match self.calls.get(call as usize) {
+                Some(slots) => slots.get(at as usize),
+                None => None,
+            },
+        };
+        match room {
+            Some(room) => Ok(room),
+            None => Err(Memory),
+        }
+    }
+
+    /// The variable that a name stands for.
+    fn named(&self, home: &Home) -> Result<Owner, Memory>
+        ensures { IfOk result (λ o. Names self.now home.now o) }
+    {
+        match home {
+            Home::Global(name) => Ok(Owner::File(place_of(self.names.as_slice(), name)?)),
+            Home::Slot(at) => Ok(Owner::Call(self.newest, *at)),
+        }
+    }
+
+    /// The variable that a name reaches: for an array parameter the array lent to it. A name of no
+    /// variable is refused.
+    pub fn reached(&self, home: &Home) -> Result<Owner, Memory>
+        ensures { IfOk result (λ o. Reaches self.now home.now o) }
+    {
+        let owner = self.named(home)?;
+        match self.room(owner)?.cells {
+            Cells::Lent(other) => Ok(other),
+            _ => Ok(owner),
+        }
+    }
+
+    /// The kind of a variable's cells. A variable that isn't there is refused.
+    pub fn kind(&self, owner: Owner) -> Result<IntKind, Memory>
+        ensures ok { IfOk result (λ k. HasKind self.now owner k) }
+        ensures err { OnErr result (room_at self.now owner ≡ None) }
+    {
+        Ok(self.room(owner)?.kind())
+    }
+
+    /// The number of a variable's cells. A variable that isn't there is refused.
+    pub fn count(&self, owner: Owner) -> Result<usize, Memory>
+        ensures ok { IfOk result (λ n. HasCount self.now owner n) }
+        ensures err { OnErr result (room_at self.now owner ≡ None) }
+    {
+        Ok(self.room(owner)?.count())
+    }
+
+    /// The number in a cell of a variable. A cell that isn't there is refused.
+    pub fn number(&self, owner: Owner, at: u32) -> Result<i128, Memory>
+        ensures ok { IfOk result (λ z. HasNumber self.now owner at z) }
+        ensures fits { IfOk result (λ z. FitsSigned w128 z) }
+        ensures err { OnErr result (HasNoCell self.now owner at) }
+    {
+        self.room(owner)?.number(at)
+    }
+
+    /// Whether a slot of the newest call is an array. A slot that isn't there is refused.
+    pub fn is_array(&self, slot: u32) -> Result<bool, Memory>
+        ensures ok { IfOk result (λ b. HasArray self.now slot b) }
+        ensures err { OnErr result (room_at self.now (Owner.Call self.now.newest slot) ≡ None) }
+    {
+        Ok(self.room(Owner::Call(self.newest, slot))?.is_array())
+    }
+
+    /// Stores the number, converted, in a cell of a variable. A cell that isn't there is refused,
+    /// and nothing changes then.
+    pub fn set(&mut self, owner: Owner, at: u32, value: i128) -> Result<(), Memory>
+        ensures names { self.new.names ≡ self.old.names }
+        ensures ok { OnOk result (StoresIn owner at value self.old self.new) }
+        ensures err { OnErr result (self.new ≡ self.old) }
+    {
+        match owner {
+            Owner::File(place) => set_in(&mut self.file, place as usize, at, value),
+            Owner::Call(call, slot) => {
+                let call = call as usize;
+                if call >= self.calls.len() {
+                    return Err(Memory);
+                }
+                set_in(self.calls.at_mut(call), slot as usize, at, value)
+            }
+        }
+    }
+
+    /// The cells of a slot of the newest call from one on become 0. A slot that isn't there is
+    /// refused, and nothing changes then.
+    pub fn clear(&mut self, slot: u32, from: u32) -> Result<(), Memory>
+        ensures names { self.new.names ≡ self.old.names }
+        ensures ok { OnOk result (ClearsIn (Home.Slot slot) from self.old self.new) }
+        ensures err { OnErr result (self.new ≡ self.old) }
+    {
+        let owner = self.reached(&Home::Slot(slot))?;
+        match owner {
+            Owner::File(place) => clear_in(&mut self.file, place as usize, from),
+            Owner::Call(call, slot) => {
+                let call = call as usize;
+                if call >= self.calls.len() {
+                    return Err(Memory);
+                }
+                clear_in(self.calls.at_mut(call), slot as usize, from)
+            }
+        }
+    }
+
+    /// One more call, with these slots. Nothing changes where memory is refused.
+    pub fn enter(&mut self, slots: List<Room>) -> Result<(), Memory>
+        ensures names { self.new.names ≡ self.old.names }
+        ensures ok { OnOk result (EntersCall slots self.old self.new) }
+        ensures err { OnErr result (self.new ≡ self.old) }
+    {
+        if self.newest >= 4294967295 {
+            return Err(Memory);
+        }
+        let call = self.newest + 1;
+        put_slots(&mut self.calls, call as usize, slots)?;
+        self.newest = call;
+        Ok(())
+    }
+
+    /// The newest call is over.
+    pub fn leave(&mut self)
+        ensures names { self.new.names ≡ self.old.names }
+        ensures left { LeavesCall self.old self.new }
+    {
+        self.newest = self.newest.saturating_sub(1);
+    }
+}
+
+/// Puts the slots of a call in the place of those that an ended call of its number left, or behind
+/// the last. Nothing changes where memory is refused.
+fn put_slots(calls: &mut List<List<Room>>, call: usize, slots: List<Room>) -> Result<(), Memory>
+    ensures ok { OnOk result (HasSlots call slots calls.old calls.new) }
+    ensures err { OnErr result (calls.new ≡ calls.old) }
+{
+    if call < calls.len() {
+        calls.set(call, slots);
+        return Ok(());
+    }
+    if call > calls.len() {
+        return Err(Memory);
+    }
+    calls.push(slots)
+}
+
+/// Stores the number, converted, in a cell of a room.
+fn set_in(rooms: &mut List<Room>, place: usize, at: u32, value: i128) -> Result<(), Memory>
+    ensures ok { OnOk result (BecomesAt (with_number at value) place rooms.old rooms.new) }
+    ensures err { OnErr result (rooms.new ≡ rooms.old) }
+{
+    if place >= rooms.len() {
+        return Err(Memory);
+    }
+    rooms.at_mut(place).set(at, value)
+}
+
+/// The cells of a room from one on become 0.
+fn clear_in(rooms: &mut List<Room>, place: usize, from: u32) -> Result<(), Memory>
+    ensures ok { OnOk result (BecomesAt (with_zeros from) place rooms.old rooms.new) }
+    ensures err { OnErr result (rooms.new ≡ rooms.old) }
+{
+    if place >= rooms.len() {
+        return Err(Memory);
+    }
+    rooms.at_mut(place).clear(from);
+    Ok(())
+}

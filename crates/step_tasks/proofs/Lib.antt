@@ -1,0 +1,13 @@
+pub mod NodeEffects
+pub mod DoneLemmas
+pub mod CallLemmas
+pub mod GuardLemmas
+pub mod CutLemmas
+pub mod TopLemmas
+pub mod DropLemmas
+pub mod SectionLemmas
+pub mod EffectLemmas
+pub mod ControlLemmas
+pub mod StoredLemmas
+pub mod SearchLemmas
+pub mod ActLemmas

@@ -1,0 +1,4 @@
+pub mod Tasks
+pub mod Effects
+pub mod Controls
+pub mod Indexes
