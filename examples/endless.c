@@ -1,3 +1,4 @@
+/* A loop by a jump that never ends: see "Compiling the result" in the README. */
 int main(void) {
     int x = 0;
 again:

@@ -1,10 +1,2 @@
-pub mod Falls
-pub mod Steps
-pub mod Nesting
-pub mod Stretched
-pub mod Flattening
-pub mod Sketches
-pub mod Leftover
-pub mod FirstForms
-pub mod Texts
-pub mod JoinLemmas
+pub mod Guards
+pub mod Programs

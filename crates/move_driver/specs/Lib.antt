@@ -1,5 +1,3 @@
 pub mod Counts
-pub mod Moves
-pub mod Derivation
+pub mod Restructured
 pub mod Text
-pub mod Left

@@ -2,11 +2,9 @@
 #![tactic(auto)]
 
 mod counts;
-mod derive;
-mod left;
 mod program;
 mod text;
 
-pub use counts::{Counts, DriverStop};
+pub use counts::Counts;
 pub use program::restructure_program;
 pub use text::{Written, restructure_text};

@@ -1,158 +1,106 @@
-ghost use Rattle.std.specs.Prelude.{◌≡◌, IfOk, OnOk, Some, None, true, length};
+ghost use Rattle.std.specs.Prelude.{◌≡◌, true, IfOk, OnOk, Ok};
+ghost use Rattle.c_tree.specs.InRange.{IsProgramInRange};
 ghost use Rattle.c_tree.specs.Jumps.{is_plain_program};
-ghost use Rattle.move_driver.specs.Derivation.{restructured, derived_body, moved_converted, moved_function, moved_top, moved_tops, jumps_of_body, counts_after, counts_of};
-ghost use Rattle.move_driver.specs.Counts.{counted, added};
+ghost use Rattle.plain_core.specs.Laws.{BehavesAsStructured};
+ghost use Rattle.resolved_core.specs.Counts.{IsResolved};
+ghost use Rattle.c_tree.specs.Text.{text_of};
+ghost use Rattle.named_programs.specs.Flattened.{FlattenedTop, FlattenedTops};
+ghost use Rattle.text_reading.specs.Reading.{reading};
+ghost use Rattle.move_driver.specs.Restructured.{IsRestructured};
 
-use crate::counts::{Counts, DriverStop, add};
-use crate::derive::derive;
-use crate::left::is_free_of_jumps;
-use c_copies::names;
-use c_tree::{Function, Item, Program, Top};
-use c_types::List;
-use flat_form::flatten;
-use guard_vars::convert;
+use crate::counts::{Counts, count};
+use c_copies::{file_names, names};
+use c_tree::{Program, Top};
+use c_types::{List, Memory, Name};
+use flat_forms::flatten;
+use move_records::Move;
 use plain_form::plain;
+use program_moves::move_program;
 use std::alloc::Global;
 
-/// A body after its moves, and how many they were.
-#[derive(Drop)]
-struct Moved {
-    body: Option<List<Item>>,
-    moves: u64,
-}
-
-fn move_body(alloc: Global, body: Option<List<Item>>) -> Result<Moved, DriverStop>
-    ensures ok { IfOk result (λ it. derived_body body ≡ Some it.body) }
-    ensures moves { IfOk result (λ it. it.moves ≡ counted (jumps_of_body body)) }
-    ensures not_built { result ≡ Err DriverStop.NotBuilt → derived_body body ≡ None }
-{
-    match body {
-        Some(body) => {
-            let mut body = body;
-            let moves = derive(alloc, &mut body)?;
-            Ok(Moved {
-                body: Some(body),
-                moves,
-            })
-        }
-        None => Ok(Moved {
-            body: None,
-            moves: 0,
-        }),
-    }
-}
-
-/// Moves the jumps of a converted function.
-fn move_jumps(
+fn flatten_top(
     alloc: Global,
-    function: Function,
-    counts: &mut Counts,
-) -> Result<Function, DriverStop>
-    ensures ok { IfOk result (λ it. moved_converted function ≡ Some it) }
-    ensures counts { OnOk result (counts.new ≡ added counts.old (jumps_of_body function.body) (length function.labels)) }
-    ensures not_built { result ≡ Err DriverStop.NotBuilt → moved_converted function ≡ None }
-{
-    let Function {
-        name,
-        result,
-        file_only,
-        params,
-        slots,
-        labels,
-        body,
-        flat,
-    } = function;
-    let Moved { body, moves } = move_body(alloc, body)?;
-    add(counts, moves, labels.len() as u64);
-    Ok(Function {
-        name,
-        result,
-        file_only,
-        params,
-        slots,
-        labels,
-        body,
-        flat,
-    })
-}
-
-fn move_function(
-    alloc: Global,
-    function: Function,
-    counts: &mut Counts,
-) -> Result<Function, DriverStop>
-    ensures ok { IfOk result (λ it. moved_function function ≡ Some it) }
-    ensures counts { OnOk result (counts.new ≡ counts_after counts.old (Top.Function function)) }
-    ensures not_built { result ≡ Err DriverStop.NotBuilt → moved_function function ≡ None }
-{
-    let mut function = flatten(alloc, function)?;
-    if function.flat {
-        convert(alloc, &mut function)?;
-        move_jumps(alloc, function, counts)
-    } else {
-        Ok(function)
-    }
-}
-
-fn move_top(alloc: Global, top: Top, counts: &mut Counts) -> Result<Top, DriverStop>
-    ensures ok { IfOk result (λ it. moved_top top ≡ Some it) }
-    ensures counts { OnOk result (counts.new ≡ counts_after counts.old top) }
-    ensures not_built { result ≡ Err DriverStop.NotBuilt → moved_top top ≡ None }
+    names: &List<Name>,
+    file_names: &List<Name>,
+    top: &mut Top,
+) -> Result<(), Memory>
+    ensures { OnOk result (FlattenedTop names.now file_names.now top.old top.new) }
 {
     match top {
         Top::Function(function) => {
-            let function = move_function(alloc, function, counts)?;
-            Ok(Top::Function(function))
+            flatten(alloc, names, file_names, function)?;
+            // a list holds at most 4,294,967,295 variables, which its slice tells
+            let _ = function.slots.as_slice();
+            Ok(())
         }
-        Top::Include(bytes) => Ok(Top::Include(bytes)),
-        Top::Enum(items) => Ok(Top::Enum(items)),
-        Top::Global(variable) => Ok(Top::Global(variable)),
-        Top::Note(bytes) => Ok(Top::Note(bytes)),
+        _ => Ok(()),
     }
 }
 
-/// What stands at file scope after all moves, and the counts.
-#[derive(Drop)]
-struct MovedTops {
-    tops: List<Top>,
-    counts: Counts,
-}
-
-fn move_tops(alloc: Global, tops: List<Top>) -> Result<MovedTops, DriverStop>
-    ensures ok { IfOk result (λ it. moved_tops tops ≡ Some it.tops) }
-    ensures counts { IfOk result (λ it. it.counts ≡ counts_of tops) }
-    ensures not_built { result ≡ Err DriverStop.NotBuilt → moved_tops tops ≡ None }
+fn flatten_tops(
+    alloc: Global,
+    names: &List<Name>,
+    file_names: &List<Name>,
+    tops: &mut List<Top>,
+) -> Result<(), Memory>
+    ensures { OnOk result (FlattenedTops names.now file_names.now tops.old tops.new) }
 {
-    let mut out = List::new(alloc);
-    let mut counts = Counts {
-        jumps: 0,
-        moves: 0,
-        guards: 0,
-    };
-    for top in tops.into_vec() {
-        let top = move_top(alloc, top, &mut counts)?;
-        out.push(top)?;
+    let mut i = 0;
+    while i < tops.len() {
+        flatten_top(alloc, names, file_names, tops.at_mut(i))?;
+        i += 1;
     }
-    Ok(MovedTops { tops: out, counts })
+    Ok(())
 }
 
-/// The plain form of a program after all its moves (docs/REWRITING.md), and what was done: each
-/// function takes its flat form and its conversion, the first jump in text order is joined with
-/// its label until none is left, and the guards become variables. The program is given up.
-/// `NotBuilt` comes where the label of the first jump doesn't stand after it in its list, or a jump
-/// or a nested case label is left that no move of this version takes away.
-pub fn restructure_program(alloc: Global, program: Program) -> Result<(Program, Counts), DriverStop>
-    ensures ok { IfOk result (λ r. restructured program ≡ Some r) }
-    ensures plain { IfOk result (λ r. is_plain_program r.0 ≡ true) }
-    ensures not_built { result ≡ Err DriverStop.NotBuilt → restructured program ≡ None }
+/// A program that was restructured, by these moves, and what was done.
+#[derive(Drop)]
+pub struct Rewritten {
+    pub program: Program,
+    pub moves: List<Move>,
+    pub counts: Counts,
+}
+
+/// The plain form of a resolved program after all its moves, the moves, and their counts.
+pub fn rewrite(alloc: Global, program: Program) -> Result<Rewritten, Memory>
+    requires { IsResolved program }
+    ensures value { IfOk result (λ r. IsRestructured program r.program r.moves r.counts) }
+    ensures plain { IfOk result (λ r. is_plain_program r.program ≡ true) }
+    ensures ranged { IfOk result (λ r. IsProgramInRange r.program) }
+    ensures behaves { IfOk result (λ r. BehavesAsStructured program r.program) }
+    ensures resolved { IfOk result (λ r. IsResolved r.program) }
+    ensures reads_back { IfOk result (λ r. reading (text_of r.program) ≡ Ok r.program) }
 {
     let used = names(alloc, &program)?;
-    let Program { tops } = program;
-    let MovedTops { tops, counts } = move_tops(alloc, tops)?;
-    let moved = Program { tops };
-    if !is_free_of_jumps(&moved) {
-        return Err(DriverStop::NotBuilt);
-    }
-    let made = plain(alloc, &used, &moved)?;
-    Ok((made, counts))
+    // a list holds at most 4,294,967,295 names, which its slice tells
+    let _ = used.as_slice();
+    let of_file = file_names(alloc, &program)?;
+    let mut program = program;
+    flatten_tops(alloc, &used, &of_file, &mut program.tops)?;
+    let moves = move_program(alloc, &mut program)?;
+    let made = plain(alloc, &used, &program)?;
+    let counts = count(&moves, &program, &made);
+    Ok(Rewritten {
+        program: made,
+        moves,
+        counts,
+    })
+}
+
+/// The plain form of a resolved program after all its moves, and the moves with their names (docs/REWRITING.md): each
+/// function takes its flat form, is converted, its jumps are moved until none is left, and its tests are simplified, in
+/// file order; then the guards become variables. It has no goto and no label, and from every entry, on every input and
+/// all answers, its structural run ends, traps or runs on as the run of the program does. It is a resolved program again,
+/// and its printed text reads back as it. Want of memory is the only failure, and the program is given up then.
+pub fn restructure_program(alloc: Global, program: Program) -> Result<(Program, List<Move>), Memory>
+    requires { IsResolved program }
+    ensures value { IfOk result (λ r. (counts : Counts) × IsRestructured program r.0 r.1 counts) }
+    ensures plain { IfOk result (λ r. is_plain_program r.0 ≡ true) }
+    ensures ranged { IfOk result (λ r. IsProgramInRange r.0) }
+    ensures behaves { IfOk result (λ r. BehavesAsStructured program r.0) }
+    ensures resolved { IfOk result (λ r. IsResolved r.0) }
+    ensures reads_back { IfOk result (λ r. reading (text_of r.0) ≡ Ok r.0) }
+{
+    let Rewritten { program, moves, .. } = rewrite(alloc, program)?;
+    Ok((program, moves))
 }

@@ -72,15 +72,15 @@ fn reads_comments_with_backslashes(rt: HostRuntime) -> Result<(), Fail> {
     let art = comments(rt.alloc(), b"/*\\\n * art\n\\*/")?;
     let want = [Span { start: 0, end: 14 }];
     assert_eq!(rt; art.as_slice(), want.as_slice());
-    let last = comments(rt.alloc(), b"// a \\")?;
-    let want = [Span { start: 0, end: 6 }];
+    let last = comments(rt.alloc(), b"// a \\ b")?;
+    let want = [Span { start: 0, end: 8 }];
     assert_eq!(rt; last.as_slice(), want.as_slice());
     Ok(())
 }
 
 #[test]
 fn refuses_at_the_first_fault(rt: HostRuntime) -> Result<(), Fail> {
-    let faults: [(&[u8], ReadStop); 12] = [
+    let faults: [(&[u8], ReadStop); 14] = [
         (b"x #\n", refused(2, 1, 3, 2)),
         (b"\n\n  @ 08", refused(2, 3, 3, 4)),
         (b"int x; /*", refused(3, 1, 8, 7)),
@@ -90,6 +90,8 @@ fn refuses_at_the_first_fault(rt: HostRuntime) -> Result<(), Fail> {
         (b"9223372036854775808", refused(5, 1, 1, 0)),
         (b" \t#define", refused(6, 1, 3, 2)),
         (b"// a \\\nint x;", refused(2, 1, 6, 5)),
+        (b"// a \\", refused(2, 1, 6, 5)),
+        (b"#include <a>\\ \t", refused(2, 1, 13, 12)),
         (b"int a; // b\\\t\r\nc", refused(2, 1, 12, 11)),
         (b"#include <a> \\\n", refused(2, 1, 14, 13)),
         (b"/* a *\\\n/ x */", refused(3, 1, 1, 0)),

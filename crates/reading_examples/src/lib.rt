@@ -3,10 +3,10 @@
 #![tactic(auto)]
 
 #[cfg(test)]
-mod forms;
-#[cfg(test)]
 mod lexer;
 #[cfg(test)]
 mod parser;
+#[cfg(test)]
+mod refusal_texts;
 #[cfg(test)]
 mod refusals;

@@ -1,4 +1,10 @@
-use c_types::{ReadStop, Refusal};
+//! At which place, and for which reason, texts are refused.
+
+use crate::refusal_texts::TEXTS;
+use c_types::{Memory, ReadStop, Refusal};
+use std::alloc::Global;
+use std::test::Fail;
+use text_reading::read;
 
 /// A refusal with this reason at this place.
 pub fn refused(reason: u32, line: u64, column: u64, at: u64) -> ReadStop {
@@ -8,4 +14,27 @@ pub fn refused(reason: u32, line: u64, column: u64, at: u64) -> ReadStop {
         column,
         at,
     })
+}
+
+/// `LINE:COLUMN: REASON` of a text that is refused, and `taken` of every other.
+fn verdict(alloc: Global, text: &[u8]) -> Result<String, Memory> {
+    match read(alloc, text) {
+        Ok(_) => Ok(String::from_str(alloc, "taken")?),
+        Err(ReadStop::Refused(refusal)) => {
+            let (line, column, reason) = (refusal.line, refusal.column, refusal.reason);
+            Ok(format!(in alloc; "{line}:{column}: {reason}")?)
+        }
+        Err(ReadStop::Memory) => Err(Memory),
+    }
+}
+
+#[test]
+fn refuses_at_the_first_fault(rt: HostRuntime) -> Result<(), Fail> {
+    for line in TEXTS.lines() {
+        if let Some((want, text)) = line.split_once(" | ") {
+            let found = verdict(rt.alloc(), text.as_bytes())?;
+            assert_eq!(rt; found.as_str(), want);
+        }
+    }
+    Ok(())
 }

@@ -1,11 +1,12 @@
 -- The words of a command.
-use Rattle.std.specs.Prelude.{ℕ, Bool, false, ◌&&◌, not, ◌==◌, List, [], ◌∷◌, Option, Some, None, codes, if◌then◌else◌}
+use Rattle.std.specs.Prelude.{ℕ, Bool, false, ◌&&◌, not, ◌==◌, List, [], ◌∷◌, Option, Some, None, option_map, codes, if◌then◌else◌}
 use Rattle.std.specs.Str.{bytes_eq}
 use Rattle.regoto.specs.declared.words.Job.{Job}
 use Rattle.regoto.specs.declared.words.Job.TheVariants as job
 
+-- the file that is read, the one that is written, and that of the report where one is asked for
 pub data Command : Type 0 where
-  Restructure : List ℕ → List ℕ → Command
+  Restructure : List ℕ → List ℕ → Option (List ℕ) → Command
   Help : Command
 
 -- a word that names a file: it isn't empty and doesn't begin with '-'
@@ -13,14 +14,19 @@ abbrev pub names_file : List ℕ → Bool
 names_file [] = false
 names_file (b ∷ bs) = not (b == 45)
 
+-- the report is not written over the text
+abbrev pub asks_for_report : List ℕ → List ℕ → List ℕ → List ℕ → List ℕ → Bool
+asks_for_report word from to flag report =
+    bytes_eq word (codes "restructure") && (names_file from && (names_file to && (bytes_eq flag (codes "--report") && (names_file report && not (bytes_eq to report)))))
+
 -- what the words ask for, each the list of its bytes
 abbrev pub command_of : List (List ℕ) → Option Command
 command_of (word ∷ []) = if bytes_eq word (codes "help") then Some Help else None
-command_of (word ∷ from ∷ to ∷ []) =
-    if bytes_eq word (codes "restructure") && names_file from && names_file to then Some (Restructure from to) else None
+command_of (word ∷ from ∷ to ∷ []) = if bytes_eq word (codes "restructure") && names_file from && names_file to then Some (Restructure from to None) else None
+command_of (word ∷ from ∷ to ∷ flag ∷ report ∷ []) = if asks_for_report word from to flag report then Some (Restructure from to (Some report)) else None
 command_of _ = None
 
 -- a job without where its words lie
 abbrev pub seen : Job → Command
-seen (job.Restructure from to) = Restructure from.now to.now
+seen (job.Restructure from to report) = Restructure from.now to.now (option_map (λ name. name.now) report)
 seen job.Help = Help

@@ -16,7 +16,29 @@ reason_text reason =
     else (if reason == 6 then codes "unsupported directive"
     else (if reason == 10 then codes "unexpected token"
     else (if reason == 11 then codes "nested too deeply"
-    else (if reason == 99 then codes "form not built yet" else []))))))))
+    else (if reason == 20 then codes "not declared"
+    else (if reason == 21 then codes "declared twice"
+    else (if reason == 22 then codes "wrong kind of name"
+    else (if reason == 23 then codes "wrong number of arguments"
+    else (if reason == 24 then codes "void value used"
+    else (if reason == 25 then codes "return does not fit"
+    else (if reason == 26 then codes "const assigned"
+    else (if reason == 27 then codes "break outside"
+    else (if reason == 28 then codes "continue outside"
+    else (if reason == 29 then codes "case outside of a switch"
+    else (if reason == 30 then codes "equal cases"
+    else (if reason == 31 then codes "second default"
+    else (if reason == 32 then codes "label twice"
+    else (if reason == 33 then codes "unknown label"
+    else (if reason == 34 then codes "constant expression needed"
+    else (if reason == 35 then codes "bad array or initialisers"
+    else (if reason == 36 then codes "main has another form"
+    else (if reason == 37 then codes "declarations disagree"
+    else (if reason == 38 then codes "array handed to an external function"
+    else (if reason == 39 then codes "function too tangled"
+    else (if reason == 40 then codes "bad printf"
+    else (if reason == 43 then codes "parameter without a name"
+    else [])))))))))))))))))))))))))))))
 
 abbrev pub counts_line : Counts → List ℕ
 counts_line counts =

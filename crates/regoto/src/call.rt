@@ -1,10 +1,10 @@
-ghost use Rattle.std.specs.Prelude.{◌≡◌, ◌↔◌, ℕ, List, map, string_bytes, Some, None};
+ghost use Rattle.std.specs.Prelude.{◌≡◌, ◌↔◌, ℕ, List, Option, map, string_bytes, Some, None};
 ghost use Rattle.regoto.specs.Lines.{Tells, usage_line};
 ghost use Rattle.regoto.specs.Command.{Restructure, Help, command_of};
 ghost use Rattle.regoto.specs.Restructure.{Restructures, Completes};
 ghost use Rattle.regoto.specs.Help.{Helps};
 
-use crate::files::restructure;
+use crate::files::{Targets, restructure};
 use crate::help::help;
 use crate::lines::tell;
 use crate::status::Status;
@@ -27,12 +27,12 @@ pub fn regoto<H: Shelf, I: Source, O: Sink, E: Sink>(
     ensures unknown { command_of (map string_bytes words.now) ≡ None → (shelf.new ≡ shelf.old) × (out.new ≡ out.old)
         × Tells (E.written err.old) (E.written err.new) (E.faults err.old) (E.faults err.new) usage_line }
 
-    ensures restructure { (from to : List ℕ) → command_of (map string_bytes words.now) ≡ Some (Restructure from to)
+    ensures restructure { (from to : List ℕ) (report : Option (List ℕ)) → command_of (map string_bytes words.now) ≡ Some (Restructure from to report)
         → (out.new ≡ out.old) × Restructures (λ line. Tells (E.written err.old) (E.written err.new) (E.faults err.old) (E.faults err.new) line)
-        from to (H.held shelf.old) (H.held shelf.new) (H.read_faults shelf.old) (H.read_faults shelf.new)
+        from to report (H.held shelf.old) (H.held shelf.new) (H.read_faults shelf.old) (H.read_faults shelf.new)
         (H.write_faults shelf.old) (H.write_faults shelf.new) result }
 
-    ensures complete { (from to : List ℕ) → command_of (map string_bytes words.now) ≡ Some (Restructure from to)
+    ensures complete { (from to : List ℕ) (report : Option (List ℕ)) → command_of (map string_bytes words.now) ≡ Some (Restructure from to report)
         → Completes from (H.held shelf.old) (H.read_faults shelf.old) (H.read_faults shelf.new)
         (H.write_faults shelf.old) (H.write_faults shelf.new) result }
 
@@ -47,7 +47,9 @@ pub fn regoto<H: Shelf, I: Source, O: Sink, E: Sink>(
             tell(err, "regoto: unknown use, try help\n");
             Status::Usage
         }
-        Some(Job::Restructure(from, to)) => restructure(alloc, from, to, shelf, err),
+        Some(Job::Restructure(from, text, report)) => {
+            restructure(alloc, from, &Targets { text, report }, shelf, err)
+        }
         Some(Job::Help) => help(out, err),
     }
 }

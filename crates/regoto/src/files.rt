@@ -1,7 +1,8 @@
-ghost use Rattle.std.specs.Prelude.{◌≡◌, ◌≤◌, length, Ok};
-ghost use Rattle.move_driver.specs.Text.{output, IsPlainText};
+ghost use Rattle.std.specs.Prelude.{◌≡◌, ◌≤◌, length, option_map, OnOk, Err};
+ghost use Rattle.move_driver.specs.Text.{output, IsTextRestructured};
+ghost use Rattle.rg_ports.specs.Count.{Rose};
 ghost use Rattle.regoto.specs.Lines.{Tells};
-ghost use Rattle.regoto.specs.Restructure.{Restructures, HandsOver, restructuring};
+ghost use Rattle.regoto.specs.Restructure.{Restructures, HandsOver, Stops, Lingers, written as the_files};
 
 use crate::lines::{tell, tell_absent, tell_counts, tell_refusal};
 use crate::status::Status;
@@ -20,16 +21,24 @@ const TOO_LONG: Refusal = Refusal {
     at: 0,
 };
 
-/// Reads one file, restructures its text, and writes the result to another, which may be the same.
+/// Where a command writes: the restructured text, and the report of its moves if one is asked for.
+#[derive(Clone, Copy)]
+pub struct Targets<'a> {
+    pub text: &'a str,
+    pub report: Option<&'a str>,
+}
+
+/// Reads one file, restructures its text, and writes the result to another, which may be the same, and the
+/// report of the moves to a third if one is asked for.
 pub fn restructure<H: Shelf, E: Sink>(
     alloc: Global,
     from: &str,
-    to: &str,
+    to: &Targets,
     shelf: &mut H,
     err: &mut E,
 ) -> Status
     ensures { Restructures (λ line. Tells (E.written err.old) (E.written err.new) (E.faults err.old) (E.faults err.new) line)
-        from.now to.now (H.held shelf.old) (H.held shelf.new) (H.read_faults shelf.old) (H.read_faults shelf.new)
+        from.now to.now.text.now (option_map (λ name. name.now) to.now.report) (H.held shelf.old) (H.held shelf.new) (H.read_faults shelf.old) (H.read_faults shelf.new)
         (H.write_faults shelf.old) (H.write_faults shelf.new) result }
 {
     match shelf.read(alloc, from, MOST_BYTES) {
@@ -56,7 +65,7 @@ pub fn restructure<H: Shelf, E: Sink>(
 fn restructure_bytes<H: Shelf, E: Sink>(
     alloc: Global,
     from: &str,
-    to: &str,
+    to: &Targets,
     text: &[u8],
     shelf: &mut H,
     err: &mut E,
@@ -64,11 +73,11 @@ fn restructure_bytes<H: Shelf, E: Sink>(
     requires held { HandsOver (H.held shelf.old) from.now (λ held. held ≡ text.now) }
     requires most { length text.now ≤ 1048576 }
     ensures { Restructures (λ line. Tells (E.written err.old) (E.written err.new) (E.faults err.old) (E.faults err.new) line)
-        from.now to.now (H.held shelf.old) (H.held shelf.new) (H.read_faults shelf.old) (H.read_faults shelf.new)
+        from.now to.now.text.now (option_map (λ name. name.now) to.now.report) (H.held shelf.old) (H.held shelf.new) (H.read_faults shelf.old) (H.read_faults shelf.new)
         (H.write_faults shelf.old) (H.write_faults shelf.new) result }
 {
     match restructure_text(alloc, text) {
-        Ok(written) => write_text(from, to, &written, shelf, err),
+        Ok(written) => write_files(from, to, &written, shelf, err),
         Err(ReadStop::Refused(refusal)) => {
             tell_refusal(err, from, &refusal);
             Status::Refused(refusal)
@@ -80,20 +89,19 @@ fn restructure_bytes<H: Shelf, E: Sink>(
     }
 }
 
-fn write_text<H: Shelf, E: Sink>(
+fn write_files<H: Shelf, E: Sink>(
     from: &str,
-    to: &str,
+    to: &Targets,
     written: &Written,
     shelf: &mut H,
     err: &mut E,
 ) -> Status
-    requires text { HandsOver (H.held shelf.old) from.now (λ text. restructuring text ≡ Ok (output written.now)) }
-    requires plain { IsPlainText written.now.text }
+    requires { HandsOver (H.held shelf.old) from.now (λ text. (length text ≤ 1048576) × IsTextRestructured text (output written.now)) }
     ensures { Restructures (λ line. Tells (E.written err.old) (E.written err.new) (E.faults err.old) (E.faults err.new) line)
-        from.now to.now (H.held shelf.old) (H.held shelf.new) (H.read_faults shelf.old) (H.read_faults shelf.new)
+        from.now to.now.text.now (option_map (λ name. name.now) to.now.report) (H.held shelf.old) (H.held shelf.new) (H.read_faults shelf.old) (H.read_faults shelf.new)
         (H.write_faults shelf.old) (H.write_faults shelf.new) result }
 {
-    match shelf.write(to, written.text.as_slice()) {
+    match put_files(to, written, shelf) {
         Ok(()) => {
             tell_counts(err, &written.counts);
             Status::Done
@@ -105,6 +113,23 @@ fn write_text<H: Shelf, E: Sink>(
         Err(WriteError::Memory) => {
             tell(err, "regoto: out of memory\n");
             Status::Memory
+        }
+    }
+}
+
+/// Writes the text, and behind it the report if one is asked for.
+fn put_files<H: Shelf>(to: &Targets, written: &Written, shelf: &mut H) -> Result<(), WriteError>
+    ensures ok { OnOk result (H.held shelf.new ≡ the_files to.now.text.now (option_map (λ name. name.now) to.now.report) (output written.now) (H.held shelf.old)) }
+    ensures stops { result ≡ Err WriteError.Failed → Stops to.now.text.now (option_map (λ name. name.now) to.now.report) (output written.now) (H.held shelf.old) (H.held shelf.new) }
+    ensures failed { result ≡ Err WriteError.Failed → Rose (H.write_faults shelf.old) (H.write_faults shelf.new) }
+    ensures lingers { result ≡ Err WriteError.Memory → Lingers to.now.text.now (option_map (λ name. name.now) to.now.report) (output written.now) (H.held shelf.old) (H.held shelf.new) }
+    ensures reads { H.read_faults shelf.new ≡ H.read_faults shelf.old }
+{
+    match to.report {
+        None => shelf.write(to.text, written.text.as_slice()),
+        Some(report) => {
+            shelf.write(to.text, written.text.as_slice())?;
+            shelf.write(report, written.report.as_slice())
         }
     }
 }

@@ -5,7 +5,7 @@ use crate::lines::tell;
 use crate::status::Status;
 use rg_ports::{Sink, write_all};
 
-const HELP: &str = "regoto restructure IN OUT\nregoto help\n";
+const HELP: &str = "regoto restructure IN OUT [--report R]\nregoto help\n";
 
 /// Writes the list of commands. It takes no memory.
 pub fn help<O: Sink, E: Sink>(out: &mut O, err: &mut E) -> Status

@@ -1,12 +1,9 @@
-use Rattle.std.proofs.Common.{rules}
-use Rattle.regoto.proofs.Handed.{too_long_text, reason_handed}
-use Rattle.regoto.specs.Restructure.{too_long}
+use Rattle.std.proofs.Common.{List, ℕ, option_map}
+use Rattle.std.specs.Borrow.{Bor}
+use Rattle.regoto.proofs.Handed.{said_before}
 use Rattle.regoto.proofs.files.restructure.Goals as goal
 
-pub returns-in-Err-TooLong : goal.returns-in-Err-TooLong
-returns-in-Err-TooLong g c = let text = too_long_text (g.H.Shelf.held c.args.shelf.now) c.args.from.now (search rules) in record {
-  text = text;
-  reason = reason_handed (g.H.Shelf.held c.args.shelf.now) c.args.from.now too_long text;
-  kept = search rules;
-  line = c.tell_refusal.ensures;
-}
+pub returns-in-Ok : goal.returns-in-Ok
+returns-in-Ok g c =
+    said_before _ c.args.from.now c.args.to.now.text.now (option_map {T = Bor (List ℕ)} {U = List ℕ} (λ name. name.now) c.args.to.now.report)
+    _ _ _ _ _ _ _ _ _ c.restructure_bytes.result c.read.ensures.kept c.read.ensures.other c.read.ensures.grows c.restructure_bytes.ensures

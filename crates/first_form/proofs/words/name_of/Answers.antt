@@ -1,5 +1,0 @@
-use Rattle.first_form.proofs.Runs.{word_is_text}
-use Rattle.first_form.proofs.words.name_of.Goals as goal
-
-pub returns-in-Err : goal.returns-in-Err
-returns-in-Err c = absurd (c.in-Err.ensures.cases.0 (word_is_text c.args.bytes.now c.requires))

@@ -1,0 +1,16 @@
+-- A program that is restructured: flat forms, moves and simplifications, and the plain form.
+use Rattle.std.specs.Prelude.{◌≡◌, List}
+use Rattle.c_tree.specs.declared.tree.Program.{Program}
+use Rattle.c_copies.specs.Names.{names}
+use Rattle.move_records.specs.declared.moves.Move.{Move}
+use Rattle.plain_form.specs.Plain.{plain}
+use Rattle.named_programs.specs.Laws.{IsRewrittenWithNames}
+use Rattle.move_driver.specs.declared.counts.Counts.{Counts}
+use Rattle.move_driver.specs.Counts.{counts_of}
+
+-- q is the plain form of what p is rewritten to by these moves
+pub record IsRestructured (p q : Program) (ms : List Move) (counts : Counts) : Type 0 where
+  pub moved : Program
+  pub rewritten : IsRewrittenWithNames p moved ms
+  pub result : q ≡ plain (names p) moved
+  pub counted : counts ≡ counts_of ms moved q

@@ -1,0 +1,9 @@
+use Rattle.text_reading.proofs.Readings.{refused_back}
+use Rattle.text_reading.proofs.Resolved.{are_bytes, resolved_of}
+use Rattle.text_reading.proofs.text.read.Goals as goal
+
+pub returns-clause-resolved : goal.returns-clause-resolved
+returns-clause-resolved c = resolved_of c.args.text.now c.read.result (are_bytes c.args.text.now c.type_inv.text) c.read.ensures.value c.read.ensures.few
+
+pub returns-clause-fault_back : goal.returns-clause-fault_back
+returns-clause-fault_back c = refused_back c.args.text.now
