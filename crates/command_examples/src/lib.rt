@@ -3,6 +3,12 @@
 #![tactic(auto)]
 
 #[cfg(test)]
+mod example_texts;
+#[cfg(test)]
 mod ports;
 #[cfg(test)]
 mod statuses;
+#[cfg(test)]
+mod worked;
+#[cfg(test)]
+mod worked_texts;

@@ -1,0 +1,56 @@
+//! Whole texts through the one public call: the text that is written, the report, and the line on the standard error.
+
+use crate::example_texts::EXAMPLES;
+use crate::ports::run;
+use crate::worked_texts::WORKED;
+use regoto::Status;
+use std::alloc::Global;
+use std::test::Fail;
+
+/// A text, and what the command is to leave.
+#[derive(Clone, Copy)]
+struct Case<'a> {
+    source: &'a str,
+    line: &'a str,
+    report: &'a str,
+    text: &'a str,
+}
+
+fn case_of<'a>(block: &'a str) -> Option<Case<'a>> {
+    let (_name, rest) = block.split_once("\n")?;
+    let (source, rest) = rest.split_once("---- ")?;
+    let (line, rest) = rest.split_once("\n")?;
+    let (report, text) = rest.split_once("----\n")?;
+    Some(Case {
+        source,
+        line,
+        report,
+        text,
+    })
+}
+
+/// Whether the command leaves what it is to leave.
+fn is_met(alloc: Global, case: &Case) -> Result<bool, Fail> {
+    let words = ["restructure", "a.c", "b.c", "--report", "r.txt"];
+    let ran = run(alloc, &words, case.source, &[], &[])?;
+    let told = ran.err.bytes();
+    Ok(
+        ran.status == Status::Done
+            && ran.shelf.held("b.c") == Some(case.text.as_bytes())
+            && ran.shelf.held("r.txt") == Some(case.report.as_bytes())
+            && told.strip_suffix(b"\n".as_slice()) == Some(case.line.as_bytes()),
+    )
+}
+
+#[test]
+fn restructures(rt: HostRuntime) -> Result<(), Fail> {
+    for texts in [WORKED, EXAMPLES] {
+        for block in texts.split("==== ") {
+            if let Some(case) = case_of(block) {
+                let met = is_met(rt.alloc(), &case)?;
+                assert!(rt; met, "{block}");
+            }
+        }
+    }
+    Ok(())
+}
