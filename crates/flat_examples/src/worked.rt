@@ -1,7 +1,7 @@
 use c_tree::{Expression, Function, Home, Item, Node, Place, Section, Selector, Slot, Test};
 use c_types::{IntKind, List, Memory, Name};
 use flat_counts::flat_counts;
-use flat_forms::flatten;
+use flat_functions::flatten;
 use std::alloc::Global;
 use std::test::Fail;
 

@@ -3,14 +3,14 @@ ghost use Rattle.c_tree.specs.Numerals.{constant};
 ghost use Rattle.c_tree.specs.Trees.{trees_of};
 ghost use Rattle.flat_core.specs.FlatForm.{flat_body as the_flat_body};
 ghost use Rattle.flat_bodies.specs.Codes.{label_codes};
-ghost use Rattle.flat_names.specs.FlatNames.{flat_names};
-ghost use Rattle.flat_forms.specs.Flattened.{applied, IsBodyForm, IsFormOf, IsFlattened};
+ghost use Rattle.flat_names.specs.FlatNames.{flat_names_beside};
+ghost use Rattle.flat_forms.specs.Flattened.{applied, IsBodyForm, IsFormBeside, IsFlattenedBeside};
 
 use crate::unlabelling::unlabelled;
 use c_tree::{Function, Item};
-use c_types::{List, Memory, Name};
+use c_types::{List, Memory};
 use flat_bodies::{FlatBody, flat_body};
-use flat_names::{FlatNames, name_flat};
+use flat_names::{FlatNames, ProgramNames, name_flat};
 use flat_parts::has_jumps;
 use std::alloc::Global;
 use std::mem;
@@ -36,32 +36,33 @@ pub enum Form {
 /// The flat form of a body with jumps, and its names.
 fn flat_form(
     alloc: Global,
-    names: &List<Name>,
-    file_names: &List<Name>,
+    names: &mut ProgramNames,
     function: &Function,
     body: &List<Item>,
 ) -> Result<Made, Memory>
     ensures items { IfOk result (λ it. trees_of it.body ≡ the_flat_body constant function.now.slots (length function.now.labels) (trees_of body.now)) }
-    ensures names { IfOk result (λ it. it.names ≡ flat_names names.now file_names.now function.now (trees_of body.now) (label_codes function.now (trees_of body.now))) }
+    ensures names { IfOk result (λ it. it.names ≡ flat_names_beside names.old.used.file names.old.taken.file function.now (trees_of body.now) (label_codes function.now (trees_of body.now))) }
+    ensures used { names.new.used.file ≡ names.old.used.file }
+    ensures taken { names.new.taken.file ≡ names.old.taken.file }
 {
     let flat = flat_body(alloc, function, body)?;
     let FlatBody { items, codes } = flat;
-    let list = codes.as_slice();
-    let names = name_flat(alloc, names, file_names, function, body, list)?;
+    let names = name_flat(alloc, names, function, body, codes.as_slice())?;
     Ok(Made { body: items, names })
 }
 
 fn body_form(
     alloc: Global,
-    names: &List<Name>,
-    file_names: &List<Name>,
+    names: &mut ProgramNames,
     function: &Function,
     body: &List<Item>,
 ) -> Result<Form, Memory>
-    ensures { IfOk result (λ it. IsBodyForm names.now file_names.now function.now body.now it) }
+    ensures value { IfOk result (λ it. IsBodyForm names.old.used.file names.old.taken.file function.now body.now it) }
+    ensures used { names.new.used.file ≡ names.old.used.file }
+    ensures taken { names.new.taken.file ≡ names.old.taken.file }
 {
     if has_jumps(body) {
-        let made = flat_form(alloc, names, file_names, function, body)?;
+        let made = flat_form(alloc, names, function, body)?;
         Ok(Form::Flat(made))
     } else {
         let items = unlabelled(alloc, body)?;
@@ -69,16 +70,13 @@ fn body_form(
     }
 }
 
-fn form_of(
-    alloc: Global,
-    names: &List<Name>,
-    file_names: &List<Name>,
-    function: &Function,
-) -> Result<Form, Memory>
-    ensures { IfOk result (λ it. IsFormOf names.now file_names.now function.now it) }
+fn form_of(alloc: Global, names: &mut ProgramNames, function: &Function) -> Result<Form, Memory>
+    ensures value { IfOk result (λ it. IsFormBeside names.old.used.file names.old.taken.file function.now it) }
+    ensures used { names.new.used.file ≡ names.old.used.file }
+    ensures taken { names.new.taken.file ≡ names.old.taken.file }
 {
     match &function.body {
-        Some(body) => body_form(alloc, names, file_names, function, body),
+        Some(body) => body_form(alloc, names, function, body),
         None => Ok(Form::Same),
     }
 }
@@ -103,25 +101,19 @@ fn apply(alloc: Global, function: &mut Function, form: Form)
     }
 }
 
-/// The flat form of a function (docs/REWRITING.md). `names` are all names of its program, and
-/// `file_names` those of file scope.
-///
-/// A function with a goto or a scattered switch becomes flat: scattered switches become tests and
-/// gotos, labels that no goto names go, initialisers become assignments, blocks and first parts of
-/// `for`s dissolve, and exits of jumpy loops and switches become gotos. Its labels are then those that
-/// stand in it, in text order, and its variables the parameters, the block variables and those of the
-/// scattered switches. Any other function loses its labels and nothing else; a prototype stays. The
-/// body is made beside the old one, so that after `Memory`, the only failure, the function is as it was.
-pub fn flatten(
+/// Puts a function into its flat form, where the names of its program are gathered. They are kept for the next function,
+/// also after `Memory`, the only failure. The body is made beside the old one, so that the function is as it was then.
+pub fn flatten_function(
     alloc: Global,
-    names: &List<Name>,
-    file_names: &List<Name>,
+    names: &mut ProgramNames,
     function: &mut Function,
 ) -> Result<(), Memory>
-    ensures ok { OnOk result (IsFlattened names.now file_names.now function.old function.new) }
+    ensures ok { OnOk result (IsFlattenedBeside names.old.used.file names.old.taken.file function.old function.new) }
     ensures err { OnErr result (function.new ≡ function.old) }
+    ensures used { names.new.used.file ≡ names.old.used.file }
+    ensures taken { names.new.taken.file ≡ names.old.taken.file }
 {
-    let form = form_of(alloc, names, file_names, function)?;
+    let form = form_of(alloc, names, function)?;
     apply(alloc, function, form);
     Ok(())
 }

@@ -4,4 +4,4 @@
 mod forms;
 mod unlabelling;
 
-pub use forms::flatten;
+pub use forms::flatten_function;

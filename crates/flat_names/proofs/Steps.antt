@@ -1,12 +1,10 @@
 -- Names given one after another.
-use Rattle.std.proofs.Common.{◌≡◌, ℕ, zero, suc, ◌+◌, ◌-◌, ◌<◌, ◌≤◌, Bool, true, false, List, [], ◌∷◌, ◌++◌, length, drop, get_or, nat_lt, append_assoc, arith, refl, sym, ap, ◌∙◌}
+use Rattle.std.proofs.Common.{◌≡◌, ℕ, suc, ◌+◌, ◌-◌, ◌<◌, ◌≤◌, Bool, List, [], ◌∷◌, ◌++◌, length, drop, get_or, nat_lt, append_assoc, arith, refl, sym, ap, ◌∙◌}
 use Rattle.std.proofs.lemmas.List.{at_drop_more, at_drop_all, append-nil}
 use Rattle.c_tree.specs.declared.tree.Slot.{Slot}
 use Rattle.flat_names.specs.declared.constructs.Construct.{Construct}
-use Rattle.flat_names.specs.declared.giving.Given.{Given}
 use Rattle.flat_names.specs.declared.giving.Made.{Made}
-use Rattle.flat_names.specs.declared.variables.Named.{Named}
-use Rattle.flat_names.specs.FlatNames.{name_case, name_cases, name_construct, name_constructs, naming, label_of, chosen, used_then, label_names, with_slot, before_named, slot_named, slot_taken, slot_used, named_slots}
+use Rattle.flat_names.specs.FlatNames.{Given, Named, name_case, name_cases, name_construct, name_constructs, naming, label_of, chosen, used_then, label_names, with_slot, before_named, slot_named, slot_taken, slot_used, named_slots}
 
 pub cases_step : (k i n : ℕ) (g : Given) → i < n → name_cases k (i + 1) (n - i) g ≡ name_cases k (i + 1 + 1) (n - (i + 1)) (name_case k (i + 1) g)
 cases_step k i n g h = let e : n - i ≡ suc (n - (i + 1)) = omega arith in ap (λ m. name_cases k (i + 1) m g) e

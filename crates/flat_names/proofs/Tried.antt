@@ -1,13 +1,13 @@
 -- The names of worked functions, by computation, whatever their expressions are.
 use Rattle.std.specs.Fmt.{digits}
-use Rattle.std.proofs.Common.{ℕ, ℤ, pos, true, false, List, [], ◌∷◌, Option, Some, None, codes, ◌≡◌, refl}
+use Rattle.std.proofs.Common.{ℕ, pos, true, false, List, [], ◌∷◌, Some, None, codes, ◌≡◌, refl}
 use Rattle.c_types.specs.declared.kinds.IntKind.TheVariants.{Int}
 use Rattle.c_types.specs.Words.{known_functions}
 use Rattle.c_copies.specs.Names.{with_names}
 use Rattle.c_tree.specs.declared.tree.Slot.{Slot}
 use Rattle.c_tree.specs.ExpressionTrees.{ExpressionTree, NodeTree, Typed, Number}
 use Rattle.c_tree.specs.TestTrees.{Source, Selects}
-use Rattle.c_tree.specs.Trees.{Tree, Forest, Nil, Then, NoSection, Section, Evaluate, Return, If, While, Do, For, Switch, Block, Local, Break, Continue, Goto, Mark, Arrival}
+use Rattle.c_tree.specs.Trees.{Tree, Forest, Nil, Then, NoSection, Section, Evaluate, If, While, Do, Switch, Block, Break, Continue, Goto, Mark, Arrival}
 use Rattle.c_tree.specs.Changed.{one}
 use Rattle.flat_names.specs.declared.constructs.Construct.TheVariants.{Stays, Scattered}
 use Rattle.flat_names.specs.declared.giving.Made.{Made}

@@ -11,9 +11,7 @@ use Rattle.c_copies.specs.Names.{has_name, with_name, with_names}
 use Rattle.jump_meaning.specs.Step.{switch_kind}
 use Rattle.flat_core.specs.Parts.{is_scattered, switch_labels, cases_among, has_default, leaves}
 use Rattle.fresh_names.specs.Fresh.{numbered, fresh}
-use Rattle.flat_names.specs.declared.giving.Given.{Given}
 use Rattle.flat_names.specs.declared.giving.Made.{Made}
-use Rattle.flat_names.specs.declared.variables.Named.{Named}
 use Rattle.flat_names.specs.declared.labels.Label.{Label}
 use Rattle.flat_names.specs.declared.labels.Label.TheVariants.{OfSource, OfBreak, OfContinue, OfDefault, OfCase}
 use Rattle.flat_names.specs.declared.whole.FlatNames.{FlatNames}
@@ -49,6 +47,12 @@ abbrev mutual
   constructs_among (Section cases default a ends d) = constructs a ++ constructs_among d
 
 -- ---- scattered switches
+
+-- the names that were given so far: all that are used, the variables of scattered switches, and the labels
+pub record Given : Type 0 where
+  pub used : List (List ℕ)
+  pub variables : List Slot
+  pub made : Made
 
 -- a number with this name
 abbrev pub number_slot : IntKind → List ℕ → Slot
@@ -99,6 +103,11 @@ abbrev pub none_given : List (List ℕ) → Given
 none_given used = record { used = used; variables = []; made = record { cases = []; defaults = []; breaks = [] } }
 
 -- ---- block variables
+
+-- variables, and the names that are used then
+pub record Named : Type 0 where
+  pub slots : List Slot
+  pub used : List (List ℕ)
 
 -- one more variable
 abbrev pub with_slot : Slot → Named → Named
@@ -181,9 +190,18 @@ label_names labels g used (c ∷ cs) = let m = naming labels g (label_of (length
 abbrev pub before_named : List Slot → Named → Named
 before_named xs n = record n { slots = xs ++ n.slots }
 
--- the names of a program and those of its file scope; a function, its body, and the codes of the labels of its flat form
-abbrev pub flat_names : List (List ℕ) → List (List ℕ) → Function → Forest → List ℕ → FlatNames
-flat_names names file f body codes' =
-    let g = name_constructs 1 (constructs body) (none_given (with_names (with_names [] names) known_functions)) in
-    let v = named_slots f.params (with_names (with_names [] file) known_functions) g.used f.slots in
+-- a function, its body, and the codes of the labels of its flat form, where no new name may be one of the first names
+-- and no block variable may keep one of the second
+abbrev pub flat_names_beside : List (List ℕ) → List (List ℕ) → Function → Forest → List ℕ → FlatNames
+flat_names_beside used taken f body codes' =
+    let g = name_constructs 1 (constructs body) (none_given used) in
+    let v = named_slots f.params taken g.used f.slots in
     record { slots = v.slots ++ g.variables; labels = label_names f.labels g.made v.used codes' }
+
+-- names, with those of the known functions
+abbrev pub with_known : List (List ℕ) → List (List ℕ)
+with_known names = with_names (with_names [] names) known_functions
+
+-- the same with the names of a program and those of its file scope
+abbrev pub flat_names : List (List ℕ) → List (List ℕ) → Function → Forest → List ℕ → FlatNames
+flat_names names file f body codes' = flat_names_beside (with_known names) (with_known file) f body codes'

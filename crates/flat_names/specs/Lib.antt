@@ -1,1 +1,2 @@
 pub mod FlatNames
+pub mod Gathered

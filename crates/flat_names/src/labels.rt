@@ -1,11 +1,11 @@
 ghost use Rattle.std.specs.Prelude.{◌≡◌, ◌+◌, ◌≤◌, [], None, get_or, length, IfOk, OnOk};
 ghost use Rattle.fresh_names.specs.Fresh.{numbered as the_numbered};
+ghost use Rattle.flat_names.specs.Gathered.{all_used};
 ghost use Rattle.flat_names.specs.FlatNames.{Gets, label_of as the_label_of, named_or, naming, chosen, used_then, label_names as the_label_names};
 
 use crate::giving::Made;
-use c_copies::NameSet;
 use c_types::{List, Memory, Name};
-use fresh_names::{fresh, numbered};
+use fresh_names::{UsedNames, numbered};
 use std::alloc::Global;
 
 /// Which label a code is.
@@ -51,12 +51,13 @@ fn own_name(alloc: Global, names: &[Name], at: u32) -> Result<Name, Memory>
     }
 }
 
-fn made_name(alloc: Global, base: &str, k: u32, used: &mut NameSet) -> Result<Name, Memory>
-    ensures name { IfOk result (λ it. it ≡ chosen (Gets (the_numbered base.now (k + 1))) used.old) }
-    ensures used { OnOk result (used.new ≡ used_then (Gets (the_numbered base.now (k + 1))) used.old) }
+fn made_name(alloc: Global, base: &str, k: u32, used: &mut UsedNames) -> Result<Name, Memory>
+    ensures name { IfOk result (λ it. it ≡ chosen (Gets (the_numbered base.now (k + 1))) (all_used used.old)) }
+    ensures used { OnOk result (all_used used.new ≡ used_then (Gets (the_numbered base.now (k + 1))) (all_used used.old)) }
+    ensures file { used.new.file ≡ used.old.file }
 {
     let base = numbered(alloc, base, k as u64 + 1)?;
-    let name = fresh(alloc, base.as_str(), used)?;
+    let name = used.fresh(alloc, base.as_str())?;
     used.add(alloc, name.as_str())?;
     Ok(name)
 }
@@ -67,10 +68,11 @@ fn name_or(
     given: &Option<Name>,
     base: &str,
     k: u32,
-    used: &mut NameSet,
+    used: &mut UsedNames,
 ) -> Result<Name, Memory>
-    ensures name { IfOk result (λ it. it ≡ chosen (named_or given.now (the_numbered base.now (k + 1))) used.old) }
-    ensures used { OnOk result (used.new ≡ used_then (named_or given.now (the_numbered base.now (k + 1))) used.old) }
+    ensures name { IfOk result (λ it. it ≡ chosen (named_or given.now (the_numbered base.now (k + 1))) (all_used used.old)) }
+    ensures used { OnOk result (all_used used.new ≡ used_then (named_or given.now (the_numbered base.now (k + 1))) (all_used used.old)) }
+    ensures file { used.new.file ≡ used.old.file }
 {
     match given {
         Some(name) => name.copy(alloc),
@@ -83,10 +85,11 @@ fn optional_name(
     given: &[Option<Name>],
     base: &str,
     k: u32,
-    used: &mut NameSet,
+    used: &mut UsedNames,
 ) -> Result<Name, Memory>
-    ensures name { IfOk result (λ it. it ≡ chosen (named_or (get_or given.now k None) (the_numbered base.now (k + 1))) used.old) }
-    ensures used { OnOk result (used.new ≡ used_then (named_or (get_or given.now k None) (the_numbered base.now (k + 1))) used.old) }
+    ensures name { IfOk result (λ it. it ≡ chosen (named_or (get_or given.now k None) (the_numbered base.now (k + 1))) (all_used used.old)) }
+    ensures used { OnOk result (all_used used.new ≡ used_then (named_or (get_or given.now k None) (the_numbered base.now (k + 1))) (all_used used.old)) }
+    ensures file { used.new.file ≡ used.old.file }
 {
     let at = k as usize;
     if at < given.len() {
@@ -101,10 +104,11 @@ fn label_name(
     labels: &[Name],
     made: &Made,
     label: Label,
-    used: &mut NameSet,
+    used: &mut UsedNames,
 ) -> Result<Name, Memory>
-    ensures name { IfOk result (λ it. it ≡ chosen (naming labels.now made.now label) used.old) }
-    ensures used { OnOk result (used.new ≡ used_then (naming labels.now made.now label) used.old) }
+    ensures name { IfOk result (λ it. it ≡ chosen (naming labels.now made.now label) (all_used used.old)) }
+    ensures used { OnOk result (all_used used.new ≡ used_then (naming labels.now made.now label) (all_used used.old)) }
+    ensures file { used.new.file ≡ used.old.file }
 {
     match label {
         Label::OfSource(l) => own_name(alloc, labels, l),
@@ -121,17 +125,17 @@ pub fn label_names(
     alloc: Global,
     labels: &[Name],
     made: &Made,
-    used: NameSet,
+    used: &mut UsedNames,
     codes: &[u32],
 ) -> Result<List<Name>, Memory>
     requires { length labels.now ≤ 4294967295 }
-    ensures { IfOk result (λ it. it ≡ the_label_names labels.now made.now used codes.now) }
+    ensures value { IfOk result (λ it. it ≡ the_label_names labels.now made.now (all_used used.old) codes.now) }
+    ensures file { used.new.file ≡ used.old.file }
 {
-    let mut used = used;
     let mut out = List::new(alloc);
     for i in 0..codes.len() {
         let label = label_of(labels.len() as u32, codes[i]);
-        let name = label_name(alloc, labels, made, label, &mut used)?;
+        let name = label_name(alloc, labels, made, label, used)?;
         out.push(name)?;
     }
     Ok(out)

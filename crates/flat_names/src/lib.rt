@@ -7,4 +7,4 @@ mod labels;
 mod variables;
 mod whole;
 
-pub use whole::{FlatNames, name_flat};
+pub use whole::{FlatNames, ProgramNames, name_flat};

@@ -1,20 +1,14 @@
 ghost use Rattle.std.specs.Prelude.{◌≡◌, ◌++◌, ◌∷◌, [], ◌≤◌, cond, length, IfOk, OnOk};
 ghost use Rattle.c_copies.specs.Names.{has_name, with_name};
 ghost use Rattle.fresh_names.specs.Fresh.{fresh as the_fresh};
+ghost use Rattle.flat_names.specs.Gathered.{all_used, named_of};
 ghost use Rattle.flat_names.specs.FlatNames.{variable_name as the_variable_name, slot_named, slot_taken, slot_used, named_slots, renamed as the_renamed};
 
-use c_copies::{NameSet, copy_slot};
+use c_copies::copy_slot;
 use c_tree::Slot;
 use c_types::{List, Memory, Name};
-use fresh_names::fresh;
+use fresh_names::UsedNames;
 use std::alloc::Global;
-
-/// Variables, and the names that are used then.
-#[derive(Drop)]
-pub struct Named {
-    pub slots: List<Slot>,
-    pub used: NameSet,
-}
 
 fn renamed(slot: &Slot, name: Name) -> Slot
     ensures { result ≡ the_renamed slot.now name }
@@ -30,15 +24,16 @@ fn renamed(slot: &Slot, name: Name) -> Slot
 /// The name of a block variable: its own, unless that is taken.
 fn variable_name(
     alloc: Global,
-    taken: &NameSet,
-    used: &mut NameSet,
+    taken: &UsedNames,
+    used: &mut UsedNames,
     name: &Name,
 ) -> Result<Name, Memory>
-    ensures name { IfOk result (λ it. it ≡ the_variable_name taken.now used.old name.now) }
-    ensures used { IfOk result (λ it. used.new ≡ cond (has_name taken.now name.now) (with_name used.old (the_fresh name.now used.old)) used.old) }
+    ensures name { IfOk result (λ it. it ≡ the_variable_name (all_used taken.now) (all_used used.old) name.now) }
+    ensures used { IfOk result (λ it. all_used used.new ≡ cond (has_name (all_used taken.now) name.now) (with_name (all_used used.old) (the_fresh name.now (all_used used.old))) (all_used used.old)) }
+    ensures file { used.new.file ≡ used.old.file }
 {
     if taken.contains(name.as_str()) {
-        let made = fresh(alloc, name.as_str(), used)?;
+        let made = used.fresh(alloc, name.as_str())?;
         used.add(alloc, made.as_str())?;
         Ok(made)
     } else {
@@ -50,22 +45,25 @@ fn variable_name(
 fn add_slot(
     alloc: Global,
     stays: bool,
-    taken: &mut NameSet,
-    named: &mut Named,
+    taken: &mut UsedNames,
+    used: &mut UsedNames,
+    named: &mut List<Slot>,
     slot: &Slot,
 ) -> Result<(), Memory>
-    ensures taken { OnOk result (taken.new ≡ slot_taken stays taken.old named.old.used slot.now) }
-    ensures used { OnOk result (named.new.used ≡ slot_used stays taken.old named.old.used slot.now) }
-    ensures slots { OnOk result (named.new.slots ≡ named.old.slots ++ slot_named stays taken.old named.old.used slot.now ∷ []) }
+    ensures taken { OnOk result (all_used taken.new ≡ slot_taken stays (all_used taken.old) (all_used used.old) slot.now) }
+    ensures used { OnOk result (all_used used.new ≡ slot_used stays (all_used taken.old) (all_used used.old) slot.now) }
+    ensures slots { OnOk result (named.new ≡ named.old ++ slot_named stays (all_used taken.old) (all_used used.old) slot.now ∷ []) }
+    ensures taken_file { taken.new.file ≡ taken.old.file }
+    ensures used_file { used.new.file ≡ used.old.file }
 {
     if stays {
         taken.add(alloc, slot.name.as_str())?;
-        named.slots.push(copy_slot(alloc, slot)?)
+        named.push(copy_slot(alloc, slot)?)
     } else {
-        let name = variable_name(alloc, taken, &mut named.used, &slot.name)?;
+        let name = variable_name(alloc, taken, used, &slot.name)?;
         taken.add(alloc, slot.name.as_str())?;
         taken.add(alloc, name.as_str())?;
-        named.slots.push(renamed(slot, name))
+        named.push(renamed(slot, name))
     }
 }
 
@@ -75,23 +73,22 @@ fn add_slot(
 pub fn name_slots(
     alloc: Global,
     params: u32,
-    taken: NameSet,
-    used: NameSet,
+    taken: &mut UsedNames,
+    used: &mut UsedNames,
     slots: &[Slot],
-) -> Result<Named, Memory>
+) -> Result<List<Slot>, Memory>
     requires { length slots.now ≤ 4294967295 }
-    ensures { IfOk result (λ it. it ≡ named_slots params taken used slots.now) }
+    ensures value { IfOk result (λ it. named_of used.new it ≡ named_slots params (all_used taken.old) (all_used used.old) slots.now) }
+    ensures taken_file { taken.new.file ≡ taken.old.file }
+    ensures used_file { used.new.file ≡ used.old.file }
 {
-    let mut taken = taken;
-    let mut named = Named {
-        slots: List::new(alloc),
-        used,
-    };
+    let mut named = List::new(alloc);
     for i in 0..slots.len() {
         add_slot(
             alloc,
             i < params as usize,
-            &mut taken,
+            taken,
+            used,
             &mut named,
             &slots[i],
         )?;

@@ -1,16 +1,15 @@
-ghost use Rattle.std.specs.Prelude.{◌≡◌, [], ◌++◌, IfOk, OnOk};
-ghost use Rattle.c_types.specs.Words.{known_functions};
-ghost use Rattle.c_copies.specs.Names.{with_names};
+ghost use Rattle.std.specs.Prelude.{◌≡◌, ◌++◌, IfOk};
 ghost use Rattle.c_tree.specs.Trees.{trees_of};
-ghost use Rattle.flat_names.specs.FlatNames.{constructs as the_constructs, none_given, name_constructs as the_name_constructs, flat_names};
+ghost use Rattle.flat_names.specs.Gathered.{given_of, AreGathered};
+ghost use Rattle.flat_names.specs.FlatNames.{constructs as the_constructs, none_given, name_constructs as the_name_constructs, flat_names_beside};
 
 use crate::constructs::constructs;
-use crate::giving::{Given, Made, name_constructs};
+use crate::giving::{GivenNames, Made, name_constructs};
 use crate::labels::label_names;
-use crate::variables::{Named, name_slots};
-use c_copies::{NameSet, add_names};
+use crate::variables::name_slots;
 use c_tree::{Function, Item, Slot};
 use c_types::{List, Memory, Name};
+use fresh_names::UsedNames;
 use std::alloc::Global;
 
 /// The variables and the labels of a flat form.
@@ -20,32 +19,37 @@ pub struct FlatNames {
     pub labels: List<Name>,
 }
 
-fn add_known(alloc: Global, used: &mut NameSet) -> Result<(), Memory>
-    ensures { OnOk result (used.new ≡ with_names used.old known_functions) }
-{
-    used.add(alloc, "getchar")?;
-    used.add(alloc, "putchar")?;
-    used.add(alloc, "printf")?;
-    used.add(alloc, "exit")?;
-    used.add(alloc, "abort")
+/// The names of a program, gathered once for all its functions. More names are those of one function.
+#[derive(Drop)]
+pub struct ProgramNames {
+    /// All names of the program, and the known functions: no name that is made may be one of them.
+    pub used: UsedNames,
+    /// Those of file scope, and the known functions: no block variable may keep one of them.
+    pub taken: UsedNames,
 }
 
-/// The names of a list and those of the library.
-fn known(alloc: Global, names: &List<Name>) -> Result<NameSet, Memory>
-    ensures { IfOk result (λ it. it ≡ with_names (with_names [] names.now) known_functions) }
-{
-    let mut set = NameSet::new(alloc);
-    add_names(alloc, &mut set, names.as_slice())?;
-    add_known(alloc, &mut set)?;
-    Ok(set)
+impl ProgramNames {
+    /// Gathers all names of a program, and those of its file scope. Want of memory is the only failure.
+    pub fn new(
+        alloc: Global,
+        names: &List<Name>,
+        file_names: &List<Name>,
+    ) -> Result<ProgramNames, Memory>
+        ensures { IfOk result (λ it. AreGathered names.now file_names.now it) }
+    {
+        let used = UsedNames::new(alloc, names.as_slice())?;
+        let taken = UsedNames::new(alloc, file_names.as_slice())?;
+        Ok(ProgramNames { used, taken })
+    }
 }
 
-fn given_names(alloc: Global, names: &List<Name>, body: &List<Item>) -> Result<Given, Memory>
-    ensures { IfOk result (λ it. it ≡ the_name_constructs 1 (the_constructs (trees_of body.now)) (none_given (with_names (with_names [] names.now) known_functions))) }
+fn given_names(alloc: Global, used: &mut UsedNames, body: &List<Item>) -> Result<GivenNames, Memory>
+    ensures value { IfOk result (λ it. given_of used.new it ≡ the_name_constructs 1 (the_constructs (trees_of body.now)) (none_given used.old.file)) }
+    ensures file { used.new.file ≡ used.old.file }
 {
+    used.forget_own(alloc);
     let all = constructs(alloc, body)?;
-    let mut given = Given {
-        used: known(alloc, names)?,
+    let mut given = GivenNames {
         variables: List::new(alloc),
         made: Made {
             cases: List::new(alloc),
@@ -53,7 +57,7 @@ fn given_names(alloc: Global, names: &List<Name>, body: &List<Item>) -> Result<G
             breaks: List::new(alloc),
         },
     };
-    name_constructs(alloc, &mut given, all.as_slice())?;
+    name_constructs(alloc, used, &mut given, all.as_slice())?;
     Ok(given)
 }
 
@@ -68,33 +72,30 @@ fn with_slots(slots: List<Slot>, more: List<Slot>) -> Result<List<Slot>, Memory>
 }
 
 /// The variables and labels of the flat form of a function: the names that it makes are given in the
-/// order of its steps. `names` are all names of the program, `file_names` those of its file scope, and
-/// `codes` say which labels stand in the flat form. Want of memory is the only failure.
+/// order of its steps. The names of its program are gathered, and serve its next function then. `codes` say
+/// which labels stand in the flat form. Want of memory is the only failure.
 pub fn name_flat(
     alloc: Global,
-    names: &List<Name>,
-    file_names: &List<Name>,
+    names: &mut ProgramNames,
     function: &Function,
     body: &List<Item>,
     codes: &[u32],
 ) -> Result<FlatNames, Memory>
-    ensures { IfOk result (λ it. it ≡ flat_names names.now file_names.now function.now (trees_of body.now) codes.now) }
+    ensures value { IfOk result (λ it. it ≡ flat_names_beside names.old.used.file names.old.taken.file function.now (trees_of body.now) codes.now) }
+    ensures used { names.new.used.file ≡ names.old.used.file }
+    ensures taken { names.new.taken.file ≡ names.old.taken.file }
 {
-    let given = given_names(alloc, names, body)?;
-    let taken = known(alloc, file_names)?;
-    let Given {
-        used,
-        variables,
-        made,
-    } = given;
-    let named = name_slots(
+    let ProgramNames { used, taken } = names;
+    let given = given_names(alloc, used, body)?;
+    let GivenNames { variables, made } = given;
+    taken.forget_own(alloc);
+    let slots = name_slots(
         alloc,
         function.params,
         taken,
         used,
         function.slots.as_slice(),
     )?;
-    let Named { slots, used } = named;
     let labels = label_names(alloc, function.labels.as_slice(), &made, used, codes)?;
     let slots = with_slots(slots, variables)?;
     Ok(FlatNames { slots, labels })

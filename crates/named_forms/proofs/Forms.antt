@@ -5,8 +5,6 @@ use Rattle.std.specs.List.{AllByRecursion}
 use Rattle.std.proofs.lemmas.Bool.{lt-ltb, le-ltb}
 use Rattle.std.proofs.lemmas.List.{append-nil}
 use Rattle.c_types.specs.declared.kinds.IntKind.{IntKind}
-use Rattle.c_types.specs.Words.{known_functions}
-use Rattle.c_copies.specs.Names.{with_names}
 use Rattle.c_tree.specs.declared.tree.Function.{Function}
 use Rattle.c_tree.specs.declared.tree.Item.{Item}
 use Rattle.c_tree.specs.declared.tree.Slot.{Slot}
@@ -22,17 +20,16 @@ use Rattle.flat_core.specs.Source.{IsVariable, IfTrue, HaveVariables, HasVariabl
 use Rattle.flat_bodies.specs.Codes.{label_codes}
 use Rattle.flat_names.specs.declared.constructs.Construct.{Construct}
 use Rattle.flat_names.specs.declared.constructs.Construct.TheVariants as c
-use Rattle.flat_names.specs.declared.giving.Given.{Given}
 use Rattle.flat_names.specs.declared.giving.Made.{Made}
-use Rattle.flat_names.specs.FlatNames.{constructs, constructs_in, constructs_among, name_variable, name_cases, name_case, name_default, name_break, name_construct, name_constructs, none_given, slot_named, slot_taken, slot_used, named_slots, naming, label_of, used_then, label_names}
+use Rattle.flat_names.specs.FlatNames.{Given, constructs, constructs_in, constructs_among, name_variable, name_cases, name_case, name_default, name_break, name_construct, name_constructs, none_given, slot_named, slot_taken, slot_used, named_slots, naming, label_of, used_then, label_names}
 use Rattle.whole_core.specs.Rewritten.{setting, IsFlatForm, IsUnlabelledForm, FlatTop, ft_flat, ft_unlabelled, ft_declared}
 use Rattle.whole_core.proofs.Flattened.{body_is}
 use Rattle.flat_forms.specs.declared.forms.Form.{Form}
 use Rattle.flat_forms.specs.declared.forms.Form.TheVariants.{Same, Calm, Flat}
-use Rattle.flat_forms.specs.Flattened.{IsFormOf, applied}
+use Rattle.flat_forms.specs.Flattened.{IsFormBeside, applied}
 use Rattle.c_tree.specs.declared.tree.Top.TheVariants as T
 use Rattle.flat_names.specs.declared.whole.FlatNames.{FlatNames}
-use Rattle.named_forms.specs.Laws.{named_flat, FlatNamesMakeForms, FlattenedAreForms}
+use Rattle.named_forms.specs.Laws.{named_beside, FlatNamesMakeForms, FlattenedAreForms}
 
 -- ---- variables of scattered switches
 
@@ -270,15 +267,14 @@ labels_length labels m used (x ∷ cs) = ap suc (labels_length labels m (used_th
 -- ---- the whole
 
 pub forms : FlatNamesMakeForms
-forms names file f old new there params trees =
+forms used taken f old new there params trees =
     let body = trees_of old in
-    let none = none_given (with_names (with_names [] names) known_functions) in
+    let none = none_given used in
     let g = name_constructs 1 (constructs body) none in
-    let taken = with_names (with_names [] file) known_functions in
     let named = named_slots f.params taken g.used f.slots in
     let ks = kinds (constructs body) in
     let numbers : AreNumbers ks g.variables = numbers_named 1 (constructs body) none [] tt in
-    let flat = named_flat names file f old new in
+    let flat = named_beside used taken f old new in
     let l = named_length f.params taken g.used f.slots in
     let n = counted body in
     let k = numbers_length ks g.variables numbers in
@@ -305,8 +301,8 @@ forms names file f old new there params trees =
 
 -- ---- what a function is flattened to
 
-module _ (names file : List (List ℕ)) (f g : Function) (unflat : f.flat ≡ false) (params : f.params ≤ length f.slots) where
-  by_body : (o : Option (List Item)) → f.body ≡ o → (form : Form) → IsFormOf names file (record f { body = o }) form → g ≡ applied form f → FlatTop (T.Function f) (T.Function g)
+module _ (used taken : List (List ℕ)) (f g : Function) (unflat : f.flat ≡ false) (params : f.params ≤ length f.slots) where
+  by_body : (o : Option (List Item)) → f.body ≡ o → (form : Form) → IsFormBeside used taken (record f { body = o }) form → g ≡ applied form f → FlatTop (T.Function f) (T.Function g)
   by_body None e form i w = subst (λ k. FlatTop (T.Function f) (T.Function k)) (sym (w ∙ ap (λ m. applied m f) i)) (ft_declared f e)
   by_body (Some body) e Same i w = absurd i
   by_body (Some body) e (Calm new) i w =
@@ -326,8 +322,8 @@ module _ (names file : List (List ℕ)) (f g : Function) (unflat : f.flat ≡ fa
       } in
       ft_unlabelled (ap has_jumps (body_is f body e) ∙ i.0) (subst (IsUnlabelledForm f) (sym w) form)
   by_body (Some body) e (Flat m) i w =
-      let whole : g ≡ named_flat names file f body m.body = w ∙ ap (λ (n : FlatNames). record f { slots = n.slots; labels = n.labels; body = Some m.body; flat = true }) i.2 in
-      ft_flat (ap has_jumps (body_is f body e) ∙ i.0) (subst (IsFlatForm f) (sym whole) (forms names file f body m.body e params i.1))
+      let whole : g ≡ named_beside used taken f body m.body = w ∙ ap (λ (n : FlatNames). record f { slots = n.slots; labels = n.labels; body = Some m.body; flat = true }) i.2 in
+      ft_flat (ap has_jumps (body_is f body e) ∙ i.0) (subst (IsFlatForm f) (sym whole) (forms used taken f body m.body e params i.1))
 
 pub flattened : FlattenedAreForms
-flattened names file f g unflat params h = by_body names file f g unflat params f.body refl h.form h.is h.whole
+flattened used taken f g unflat params h = by_body used taken f g unflat params f.body refl h.form h.is h.whole

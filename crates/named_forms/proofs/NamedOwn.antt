@@ -16,9 +16,7 @@ use Rattle.c_tree.specs.declared.tree.Top.TheVariants as T
 use Rattle.c_tree.specs.Trees.{trees_of}
 use Rattle.fresh_names.proofs.NameSets.{in_either}
 use Rattle.flat_names.specs.declared.constructs.Construct.{Construct}
-use Rattle.flat_names.specs.declared.giving.Given.{Given}
-use Rattle.flat_names.specs.declared.variables.Named.{Named}
-use Rattle.flat_names.specs.FlatNames.{constructs, name_constructs, none_given, named_slots}
+use Rattle.flat_names.specs.FlatNames.{Given, Named, constructs, name_constructs, none_given, named_slots}
 use Rattle.c_resolved.specs.Within.{Each, AllDiffer}
 use Rattle.c_resolved.specs.PrintableExpressions.{IsName}
 use Rattle.plain_resolved.specs.Names.{TopIsOther, IsFreeIn, HasOwnNames}

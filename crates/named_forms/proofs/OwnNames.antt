@@ -8,9 +8,7 @@ use Rattle.fresh_names.specs.Fresh.{numbered, fresh}
 use Rattle.c_types.specs.declared.kinds.IntKind.{IntKind}
 use Rattle.flat_names.specs.declared.constructs.Construct.{Construct}
 use Rattle.flat_names.specs.declared.constructs.Construct.TheVariants as c
-use Rattle.flat_names.specs.declared.giving.Given.{Given}
-use Rattle.flat_names.specs.declared.variables.Named.{Named}
-use Rattle.flat_names.specs.FlatNames.{number_slot, name_variable, name_case, name_cases, name_default, name_break, name_construct, name_constructs, variable_name, slot_named, slot_taken, slot_used, named_slots}
+use Rattle.flat_names.specs.FlatNames.{Given, Named, number_slot, name_variable, name_case, name_cases, name_default, name_break, name_construct, name_constructs, variable_name, slot_named, slot_taken, slot_used, named_slots}
 use Rattle.c_resolved.specs.Within.{Each, AllDiffer}
 use Rattle.c_resolved.specs.PrintableExpressions.{IsName}
 use Rattle.plain_resolved.proofs.GuardsOwn.{differ_append}

@@ -5,13 +5,14 @@ use Rattle.c_tree.specs.declared.tree.Program.{Program}
 use Rattle.c_resolved.specs.Limits.{FlatCounts}
 use Rattle.c_resolved.specs.Resolved.{IsResolvedTop, IsResolvedWith}
 use Rattle.c_resolved.specs.Within.{Each}
+use Rattle.flat_names.specs.FlatNames.{with_known}
 use Rattle.whole_core.specs.Rewritten.{FlatTop, ft_other, FlatTops, ft_none, ft_more}
 use Rattle.named_forms.proofs.Forms.{flattened}
 use Rattle.named_programs.specs.Flattened.{FlattenedTop, fd_function, fd_other, FlattenedTops, fd_none, fd_more}
 
 module _ (names file : List (List ℕ)) (counts : FlatCounts) (all : List Top) where
   flat_top : {t u : Top} → FlattenedTop names file t u → IsResolvedTop counts all t → FlatTop t u
-  flat_top (fd_function {f = f} {g = g} w held) r = flattened names file f g r.form.unflat r.form.parameters w
+  flat_top (fd_function {f = f} {g = g} w held) r = flattened (with_known names) (with_known file) f g r.form.unflat r.form.parameters w
   flat_top (fd_other t n) r = ft_other t n
 
   flat_all : {ts us : List Top} → FlattenedTops names file ts us → Each (IsResolvedTop counts all) ts → FlatTops ts us

@@ -7,9 +7,8 @@ use Rattle.fresh_names.specs.Fresh.{numbered, fresh}
 use Rattle.fresh_names.proofs.NameSets.{no_more}
 use Rattle.flat_names.specs.declared.constructs.Construct.{Construct}
 use Rattle.flat_names.specs.declared.constructs.Construct.TheVariants as c
-use Rattle.flat_names.specs.declared.giving.Given.{Given}
 use Rattle.flat_names.specs.declared.giving.Made.{Made}
-use Rattle.flat_names.specs.FlatNames.{number_slot, name_variable, name_case, name_cases, name_default, name_break, name_construct, name_constructs, slot_taken, slot_used, named_slots}
+use Rattle.flat_names.specs.FlatNames.{Given, number_slot, name_variable, name_case, name_cases, name_default, name_break, name_construct, name_constructs, slot_taken, slot_used, named_slots}
 use Rattle.c_resolved.specs.Within.{Each}
 use Rattle.c_resolved.specs.PrintableExpressions.{IsName}
 use Rattle.plain_resolved.proofs.Lists.{each_append}

@@ -21,10 +21,8 @@ use Rattle.flat_core.specs.FlatForm.{flat_body}
 use Rattle.flat_core.specs.Source.{HasOwnCases}
 use Rattle.flat_made.specs.Laws.{label_count}
 use Rattle.flat_bodies.specs.Codes.{label_codes}
-use Rattle.flat_names.specs.declared.giving.Given.{Given}
-use Rattle.flat_names.specs.declared.variables.Named.{Named}
 use Rattle.flat_names.specs.declared.whole.FlatNames.{FlatNames}
-use Rattle.flat_names.specs.FlatNames.{constructs, name_constructs, none_given, named_slots}
+use Rattle.flat_names.specs.FlatNames.{Given, Named, with_known, constructs, name_constructs, none_given, named_slots}
 use Rattle.flat_forms.specs.declared.forms.Form.{Form}
 use Rattle.flat_forms.specs.declared.forms.Form.TheVariants.{Same, Calm, Flat}
 use Rattle.flat_forms.specs.Flattened.{IsFormOf, applied, IsFlattened}
@@ -172,7 +170,7 @@ module _ (p : Program) (f : Function) (resolved : IsResolvedFunction flat_counts
 
     few_labels : 6 * length new_form.labels ≤ 400
     few_labels =
-        let form = forms (names p) (file_names p) f old new there params trees in
+        let form = forms (with_known (names p)) (with_known (file_names p)) f old new there params trees in
         let l = form.labels ∙ ap (label_count f.slots (length f.labels)) (sym (body_is f form.old form.old_body) ∙ same) in
         let m = same_labels f.slots (length f.labels) (trees_of old) in
         let limits = with_jumps (has_jumps (trees_of old)) (counts_of (measured_form (trees_of old))) (IsWithinLimits f) jumps (subst (λ a. IfSome (flat_counts a) (IsWithinLimits f)) same resolved.untangled) in

@@ -1,27 +1,21 @@
-use Rattle.std.proofs.Common.{◌≡◌, ℕ, not, cond, drop, take, suc, ◌+◌, ◌-◌, ◌*◌, ◌<◌, ◌≤◌, ◌++◌, ◌||◌, ◌∷◌, [], map, length, get_or, true, false, Option, Some, None, option_map, append_assoc, refl, sym, ap, ◌∙◌, rules, arith}
-use Rattle.std.proofs.lemmas.Result.{on_ok_weaker, IfOk-weaker}
-use Rattle.std.proofs.lemmas.List.{at_drop_more, at_drop_all, append-nil, length-map}
-use Rattle.c_tree.specs.Cases.{case_number}
-use Rattle.c_tree.specs.Paths.{list_of}
-use Rattle.c_tree.specs.TestTrees.{test_tree, selector_tree}
-use Rattle.c_tree.specs.declared.tree.Section.{Section}
-use Rattle.c_tree.specs.Trees.{Tree, Forest, Sections, trees_of, sections_of}
-use Rattle.tree_views.specs.Views.{tree_at}
-use Rattle.tree_views.proofs.Views.{at-If, at-For, at-Switch}
-use Rattle.tree_views.proofs.Collecting.{collected, collected_all, collected_in, collected_all_in}
-use Rattle.flat_names.specs.FlatNames.{name_cases, name_case, name_constructs, name_construct, label_names, named_slots}
-use Rattle.flat_names.proofs.Steps.{cases_step, cases_end, constructs_step, constructs_end, labels_step, labels_end, slots_step, slots_end}
-use Rattle.flat_names.specs.FlatNames.{naming, label_of, chosen, used_then, before_named, slot_named, slot_taken, slot_used}
+use Rattle.std.proofs.Common.{◌≡◌, ◌+◌, ◌-◌, refl, sym, ap, ◌∙◌, arith}
+use Rattle.flat_names.specs.FlatNames.{name_cases}
+use Rattle.flat_names.proofs.Steps.{cases_step, cases_end}
+use Rattle.flat_names.specs.Gathered.{given_of}
 use Rattle.flat_names.proofs.giving.name_cases.Goals as goal
 
 pub loop-i-init : goal.loop-i-init
-loop-i-init c = let e : c.args.count - 0 ≡ c.args.count = omega arith in ap (λ m. name_cases c.args.k 1 m c.args.given.now) e
+loop-i-init c = let e : c.args.count - 0 ≡ c.args.count = omega arith in record { file = refl; value = ap (λ m. name_cases c.args.k 1 m (given_of c.args.used.now c.args.given.now)) e }
 
 pub loop-i-preserved : goal.loop-i-preserved
 loop-i-preserved c =
     let k = c.args.k in
     let i = c.loop-i.i in
-    ap (name_cases k (i + 1 + 1) (c.args.count - (i + 1))) c.in_ok-name_case.ensures ∙ sym (cases_step k i c.args.count c.loop-i.given c.loop-i-test.true) ∙ c.loop-i.invariant
+    let g = given_of c.loop-i.used c.loop-i.given in
+    record {
+      file = c.name_case.ensures.file ∙ c.loop-i.invariant.file;
+      value = ap (name_cases k (i + 1 + 1) (c.args.count - (i + 1))) c.in_ok-name_case.ensures.value ∙ sym (cases_step k i c.args.count g c.loop-i-test.true) ∙ c.loop-i.invariant.value;
+    }
 
-pub returns : goal.returns
-returns c = sym (cases_end c.args.k c.loop-i.i c.args.count c.loop-i.given c.loop-i-test.false) ∙ c.loop-i.invariant
+pub returns-clause-value : goal.returns-clause-value
+returns-clause-value c = sym (cases_end c.args.k c.loop-i.i c.args.count (given_of c.loop-i.used c.loop-i.given) c.loop-i-test.false) ∙ c.loop-i.invariant.value

@@ -1,16 +1,10 @@
-use Rattle.std.proofs.Common.{◌≡◌, ℕ, not, cond, drop, take, suc, ◌+◌, ◌-◌, ◌*◌, ◌<◌, ◌≤◌, ◌++◌, ◌||◌, ◌∷◌, [], map, length, get_or, true, false, Option, Some, None, option_map, append_assoc, refl, sym, ap, ◌∙◌, rules, arith}
-use Rattle.std.proofs.lemmas.Result.{on_ok_weaker, IfOk-weaker}
-use Rattle.std.proofs.lemmas.List.{at_drop_more, at_drop_all, append-nil, length-map}
-use Rattle.c_tree.specs.Cases.{case_number}
-use Rattle.c_tree.specs.Paths.{list_of}
-use Rattle.c_tree.specs.TestTrees.{test_tree, selector_tree}
-use Rattle.c_tree.specs.declared.tree.Section.{Section}
-use Rattle.c_tree.specs.Trees.{Tree, Forest, Sections, trees_of, sections_of}
-use Rattle.tree_views.specs.Views.{tree_at}
-use Rattle.tree_views.proofs.Views.{at-If, at-For, at-Switch}
-use Rattle.tree_views.proofs.Collecting.{collected, collected_all, collected_in, collected_all_in}
-use Rattle.flat_names.specs.FlatNames.{name_cases, name_case, name_constructs, name_construct, label_names, named_slots}
+use Rattle.std.proofs.Common.{◌≡◌, ◌+◌, ◌-◌}
+use Rattle.flat_names.specs.FlatNames.{name_cases}
+use Rattle.flat_names.specs.Gathered.{given_of}
 use Rattle.flat_names.proofs.giving.name_cases.Given as goal
 
 abbrev pub invariant-loop-i : goal.invariant-loop-i
-invariant-loop-i l = name_cases l.k (l.i + 1) (l.count - l.i) l.given ≡ name_cases l.k 1 l.count l.initial.given
+invariant-loop-i l = record {
+  file : l.used.file ≡ l.initial.used.file;
+  value : name_cases l.k (l.i + 1) (l.count - l.i) (given_of l.used l.given) ≡ name_cases l.k 1 l.count (given_of l.initial.used l.initial.given);
+}
