@@ -1,12 +1,13 @@
--- No full expression of the plain form of a function has more counted tokens than the limit.
-use Rattle.std.proofs.Common.{◌≡◌, ℕ, zero, suc, ◌+◌, ◌*◌, ◌-◌, ◌≤◌, ◌<◌, pos, List, [], ◌∷◌, ◌++◌, length, Option, Some, None, sym, subst, arith}
-use Rattle.std.specs.Prelude.{IfSome, max}
+-- No full expression of the plain form of a function has many more counted tokens than those of the function.
+use Rattle.std.proofs.Common.{◌≡◌, ℕ, zero, suc, ◌+◌, ◌*◌, ◌-◌, ◌≤◌, ◌<◌, pos, List, [], ◌∷◌, ◌++◌, length, Option, Some, None, refl, sym, ap, subst, ◌∙◌, arith}
+use Rattle.std.specs.Prelude.{ℤ, IfSome}
 use Rattle.std.specs.List.{AllByRecursion}
 use Rattle.c_types.specs.declared.kinds.IntKind.{IntKind}
 use Rattle.c_types.specs.declared.kinds.IntKind.TheVariants.{Int}
 use Rattle.c_types.specs.Numbers.{converted}
 use Rattle.c_tree.specs.declared.tree.Function.{Function}
 use Rattle.c_tree.specs.Cases.{selector_source, all_cases}
+use Rattle.c_tree.specs.Conversions.{convert}
 use Rattle.c_tree.specs.ExpressionTrees.{ExpressionTree}
 use Rattle.c_tree.specs.Labels.{ItemLabels, TestLabels}
 use Rattle.c_tree.specs.Numerals.{number, constant}
@@ -18,25 +19,28 @@ use Rattle.c_tree.proofs.WellMoved.{everywhere_map, everywhere_both}
 use Rattle.jump_meaning.specs.Code.{entry_or}
 use Rattle.jump_meaning.specs.World.{no_slot}
 use Rattle.jump_meaning.specs.Step.{switch_kind}
-use Rattle.loose_core.specs.Pieces.{assign_number, assigned_cells}
-use Rattle.flat_core.specs.FlatForm.{assigned}
+use Rattle.loose_core.specs.Pieces.{Stays, assign_number, assigned_cells, is_number}
+use Rattle.loose_core.specs.Loose.{NoArrival}
+use Rattle.flat_core.specs.FlatForm.{assigned, coded, numbered, first_here, flat, flat_body, marks}
 use Rattle.flat_core.specs.Source.{IsVariable}
-use Rattle.plain_core.specs.GuardSlots.{armed, plain_test, plain_item}
+use Rattle.plain_core.specs.GuardSlots.{truth, armed, plain_test, plain_item}
 use Rattle.plain_core.proofs.PlainFunctions.{are_declared}
 use Rattle.plain_core.proofs.PlainRange.{plain_everywhere, join_everywhere}
+use Rattle.conversion_core.proofs.ConvertedTrees.{converted_trees}
 use Rattle.guard_simplify.specs.Choice.{repeat, barred}
+use Rattle.guard_vars.specs.Conversion.{converted_list}
 use Rattle.whole_core.specs.Rewritten.{setting}
 use Rattle.whole_core.proofs.Unlabelled.{IsPlainItem}
 use Rattle.c_resolved.specs.Form.{HasSourceForm}
 use Rattle.c_resolved.specs.Limits.{most_of, most_if, most_listed, most_tested, most_counted, most_counted_of, most_counted_in}
-use Rattle.c_resolved.specs.PrintableStatements.{most}
 use Rattle.c_resolved.specs.PrintableExpressions.{level_of, counted, counted_at}
 use Rattle.c_resolved.specs.Within.{TestExpression}
 use Rattle.plain_resolved.proofs.Lists.{each_append}
-use Rattle.plain_resolved.proofs.Facts.{AnyNote, ItemHas}
+use Rattle.plain_resolved.proofs.Facts.{AnyNote, ItemHas, facts_map}
 use Rattle.plain_resolved.proofs.FactsFlat.{Tests}
-use Rattle.plain_resolved.proofs.FactsMoved.{labels_of, reached_of, slot_of, Source as FromSource, facts_moved, declarations_have, plain_trees}
+use Rattle.plain_resolved.proofs.FactsMoved.{flat_trees, labels_of, reached_of, slot_of, Source as FromSource, facts_moved, declarations_have, plain_trees}
 use Rattle.plain_resolved.proofs.FactsPlain.{plain_cases, facts_tidy}
+use Rattle.plain_resolved.proofs.FlatTests.{tested, flat_tested, HasFewTests, moved_tests}
 use Rattle.plain_resolved.proofs.PlainForms.{decls, items, body_before, moved_ready}
 use Rattle.plain_resolved.proofs.PlainTops.{IsMovedForm}
 use Rattle.plain_resolved.proofs.Simple.{RepeatsNone, none_from}
@@ -210,44 +214,55 @@ module _ (v c : ℕ) where
 
 -- ---- guards as variables
 
-module _ (slot : ℕ → ℕ) (v c labels n : ℕ) (some : 1 ≤ v) (tests : v + 5 * labels ≤ n) (sets : v + 3 ≤ n) (others : c ≤ n) where
-  armed_counted : (e : Option ExpressionTree) → IfSome e (λ x. counted_at 2 x ≤ v) → counted_at 2 (armed e) ≤ v + 2
-  armed_counted None h = omega arith
-  armed_counted (Some e) h = let t = truth_counted e in omega (arith, t, h)
+-- of an expression whose value is used, also by itself where a guard is set to whether it isn't 0
+abbrev Value : ℕ → ExpressionTree → Type 0
+Value n e = (counted_at 2 e ≤ n + 4) × (counted_at 2 (truth e) ≤ n + 4)
 
-  used_more : (o : Option ExpressionTree) → IfSome o (λ e. counted_at 2 e ≤ v) → IfSome o (λ e. counted_at 2 e ≤ n)
+abbrev HasFew : ℕ → Tree → Type 0
+HasFew n x = ItemHas (Value n) (λ e. counted e ≤ n + 6) (λ e. counted_at 3 e ≤ n) (λ e. most_if e ≤ n) AnyNote x
+
+module _ (slot : ℕ → ℕ) (f : Function) (n labels most : ℕ) (some : 0 < labels) (all : most ≡ n + 6 * labels) where
+  used_more : (o : Option ExpressionTree) → IfSome o (Value n) → IfSome o (λ e. counted_at 2 e ≤ most)
   used_more None h = tt
-  used_more (Some e) h = omega (arith, h, sets)
+  used_more (Some e) h = let a = h.0 in omega (arith, a, some, all)
 
-  some_more : (o : Option ExpressionTree) → IfSome o (λ e. counted e ≤ v + 3) → IfSome o (λ e. counted e ≤ n)
+  some_more : (o : Option ExpressionTree) → IfSome o (λ e. counted e ≤ n + 6) → IfSome o (λ e. counted e ≤ most)
   some_more None h = tt
-  some_more (Some e) h = omega (arith, h, sets)
+  some_more (Some e) h = omega (arith, h, some, all)
 
-  listed_more : (o : Option (List ExpressionTree)) → IfSome o (AllByRecursion (λ e. counted_at 2 e ≤ v)) → IfSome o (AllByRecursion (λ e. counted_at 2 e ≤ n))
+  list_used : (es : List ExpressionTree) → AllByRecursion (Value n) es → AllByRecursion (λ e. counted_at 2 e ≤ most) es
+  list_used [] h = tt
+  list_used (e ∷ es) h = let a = h.0.0 in (omega (arith, a, some, all), list_used es h.1)
+
+  listed_more : (o : Option (List ExpressionTree)) → IfSome o (AllByRecursion (Value n)) → IfSome o (AllByRecursion (λ e. counted_at 2 e ≤ most))
   listed_more None h = tt
-  listed_more (Some es) h = list_more 2 v n es (omega (arith, sets)) h
+  listed_more (Some es) h = list_used es h
 
-  test_fits : (t : TestTree) → repeat [] [] t ≡ None → TestLabels (λ l. l < labels) t → TestExpression (λ e. counted_at 2 e ≤ v) t → counted_at 2 (plain_test slot t) ≤ n
-  test_fits t r l h = let a = simple_test slot v labels some t r l h in omega (arith, a, tests)
+  armed_counted : (e : Option ExpressionTree) → IfSome e (Value n) → counted_at 2 (armed e) ≤ n + 4
+  armed_counted None h = omega arith
+  armed_counted (Some e) h = h.1
+
+  test_fits : (t : TestTree) → most_tested t ≤ n → repeat [] [] t ≡ None → TestLabels (λ l. l < labels) t → counted_at 2 (plain_test slot t) ≤ most
+  test_fits t h r l = let a = simple_test slot (n + 1) labels (omega arith) t r l (test_within f n (n + 1) (omega arith) t h) in omega (arith, a, some, all)
 
   abbrev Simple : Tree → Type 0
-  Simple x = Counts v (v + 3) c x × (RepeatsNone x × ItemLabels (λ l. l < labels) x)
+  Simple x = HasFew n x × (HasFewTests n x × (RepeatsNone x × ItemLabels (λ l. l < labels) x))
 
-  item_counted : (x : Tree) → Simple x → Counts n n n (plain_item slot x)
-  item_counted (Evaluate e) h = let a = h.0 in omega (arith, a, sets)
-  item_counted (Return e) h = let a = h.0 in omega (arith, a, others)
-  item_counted (If t a b) h = test_fits t h.1.0 h.1.1 h.0
-  item_counted (While t a) h = test_fits t h.1.0 h.1.1 h.0
-  item_counted (Do a t) h = test_fits t h.1.0 h.1.1 h.0
+  item_counted : (x : Tree) → Simple x → Counts most most most (plain_item slot x)
+  item_counted (Evaluate e) h = let a = h.0 in omega (arith, a, some, all)
+  item_counted (Return e) h = let a = h.0 in omega (arith, a, all)
+  item_counted (If t a b) h = test_fits t h.1.0 h.1.1.0 h.1.1.1
+  item_counted (While t a) h = test_fits t h.1.0 h.1.1.0 h.1.1.1
+  item_counted (Do a t) h = test_fits t h.1.0 h.1.1.0 h.1.1.1
   item_counted (For first t u a) h = (used_more t h.0.0, some_more u h.0.1)
   item_counted (Switch s d) h = (
-    let a = simple_selector slot v labels some (switch_kind s) s h.1.0 h.1.1 h.0.0 in omega (arith, a, tests),
-    subst (AllByRecursion (λ e. counted_at 3 e ≤ n)) (sym (plain_cases slot d)) (list_more 3 c n (all_cases d) others h.0.1),
+    let a = simple_selector slot (n + 1) labels (omega arith) (switch_kind s) s h.1.1.0 h.1.1.1 (used f n (n + 1) (omega arith) (selector_source s) h.1.0) in omega (arith, a, some, all),
+    subst (AllByRecursion (λ e. counted_at 3 e ≤ most)) (sym (plain_cases slot d)) (list_more 3 n most (all_cases d) (omega (arith, all)) h.0.1),
   )
   item_counted (Block a) h = tt
   item_counted (Local x es) h = listed_more es h.0
-  item_counted (Arm l e) h = let a = armed_counted e h.0 in omega (arith, a, sets)
-  item_counted (Land l) h = omega (arith, sets)
+  item_counted (Arm l e) h = let a = armed_counted e h.0 in omega (arith, a, some, all)
+  item_counted (Land l) h = omega (arith, some, all)
   item_counted (Arrival e) h = tt
   item_counted Break h = tt
   item_counted Continue h = tt
@@ -258,68 +273,81 @@ module _ (slot : ℕ → ℕ) (v c labels n : ℕ) (some : 1 ≤ v) (tests : v +
 
 -- ---- a function with jumps
 
-module _ (f h : Function) (m : IsMovedForm f h) (params : f.params ≤ length f.slots) (form : Everywhere (HasSourceForm f) (body_of f)) (some : 0 < length m.flat_form.labels)
-    (fits : most_counted (body_of f) + 6 * length m.flat_form.labels ≤ most) where
+module _ (f h : Function) (m : IsMovedForm f h) (params : f.params ≤ length f.slots) (form : Everywhere (HasSourceForm f) (body_of f)) (some : 0 < length m.flat_form.labels) where
   abbrev before : ℕ
   before = most_counted (body_of f)
 
-  abbrev bound : ℕ
-  bound = max (before + 1) 4
-
-  abbrev Value : ExpressionTree → Type 0
-  Value e = counted_at 2 e ≤ bound
-
-  abbrev Dropped : ExpressionTree → Type 0
-  Dropped e = counted e ≤ bound + 3
-
-  abbrev Case : ExpressionTree → Type 0
-  Case e = counted_at 3 e ≤ before
-
-  abbrev Returns : Option ExpressionTree → Type 0
-  Returns e = most_if e ≤ before
+  -- six more for each label of the flat form
+  abbrev most : ℕ
+  most = before + 6 * length m.flat_form.labels
 
   abbrev H : Tree → Type 0
-  H x = ItemHas Value Dropped Case Returns AnyNote x
+  H x = HasFew before x
 
-  dropped_less : (e : ExpressionTree) → Value e → Dropped e
-  dropped_less e i = omega (arith, i)
+  abbrev Of : Tree → Type 0
+  Of x = Counts (before + 1) (before + 1 + 3) before x
 
-  one : Value (number Int (pos 1))
-  one = omega arith
+  value : (e : ExpressionTree) → counted_at 2 e ≤ before + 1 → Value before e
+  value e i = let t = truth_counted e in (omega (arith, i), omega (arith, i, t))
 
-  selects : (t : SelectorTree) (v : ℕ) → Value (selector_source t) → IsVariable (setting f m.flat_form) v (switch_kind t) → v < length m.flat_form.slots
-      → Dropped (assign_number (switch_kind t) v (selector_source t)) × Tests Value Dropped Case Returns AnyNote constant (switch_kind t) v
-  selects t v s w b = (omega (arith, s), λ z. (let a = case_counted (switch_kind t) v (converted (switch_kind t) z) in omega (arith, a)))
+  from_counts : (x : Tree) → Of x → H x
+  from_counts x i =
+      facts_map (λ e. counted_at 2 e ≤ before + 1) (λ e. counted e ≤ before + 1 + 3) (λ e. counted_at 3 e ≤ before) (Value before) (λ e. counted e ≤ before + 6) (λ e. counted_at 3 e ≤ before) (λ e. most_if e ≤ before) (λ e. most_if e ≤ before) value
+      (λ e j. omega (arith, j)) (λ e j. j) (λ e j. j) AnyNote AnyNote (λ bs j. j) x i
+
+  dropped_less : (e : ExpressionTree) → Value before e → counted e ≤ before + 6
+  dropped_less e i = let a = i.0 in omega (arith, a)
+
+  one : Value before (number Int (pos 1))
+  one = (omega arith, omega arith)
+
+  case_value : (k : IntKind) (v : ℕ) (z : ℤ) → Value before (is_number k v (constant k z))
+  case_value k v z = let a = case_counted k v z in (omega (arith, a), omega (arith, a))
+
+  selects : (t : SelectorTree) (v : ℕ) → Value before (selector_source t) → IsVariable (setting f m.flat_form) v (switch_kind t) → v < length m.flat_form.slots
+      → (counted (assign_number (switch_kind t) v (selector_source t)) ≤ before + 6) × Tests (Value before) (λ e. counted e ≤ before + 6) (λ e. counted_at 3 e ≤ before) (λ e. most_if e ≤ before) AnyNote constant (switch_kind t) v
+  selects t v s w b = (let a = s.0 in omega (arith, a), λ z. case_value (switch_kind t) v (converted (switch_kind t) z))
 
   abbrev Known : Tree → Type 0
-  Known x = FromSource Value Dropped Case Returns AnyNote dropped_less f h m one selects x
+  Known x = FromSource (Value before) (λ e. counted e ≤ before + 6) (λ e. counted_at 3 e ≤ before) (λ e. most_if e ≤ before) AnyNote dropped_less f h m one selects x
 
-  from_source : (x : Tree) → H x → Known x
-  from_source (Local x None) g = (g, tt)
-  from_source (Local x (Some es)) g = (g, assigned_counted bound before (entry_or no_slot f.slots x).kind x (entry_or no_slot f.slots x).cells es g)
-  from_source (Evaluate e) g = (g, tt)
-  from_source (Return e) g = (g, tt)
-  from_source (If t a b) g = (g, tt)
-  from_source (While t a) g = (g, tt)
-  from_source (Do a t) g = (g, tt)
-  from_source (For first t u a) g = (g, tt)
-  from_source (Switch s c) g = (g, tt)
-  from_source (Block a) g = (g, tt)
-  from_source Break g = (g, tt)
-  from_source Continue g = (g, tt)
-  from_source (Goto l) g = (g, tt)
-  from_source (Mark l) g = (g, tt)
-  from_source (Arm l e) g = (g, tt)
-  from_source (Leap l) g = (g, tt)
-  from_source (Land l) g = (g, tt)
-  from_source (Arrival e) g = (g, tt)
-  from_source (Note bs) g = (g, tt)
+  from_source : (x : Tree) → Of x → Known x
+  from_source (Local x None) g = (tt, tt)
+  from_source (Local x (Some es)) g = (
+    from_counts (Local x (Some es)) g,
+    everywhere_map Of H from_counts (assigned (entry_or no_slot f.slots x).kind x (entry_or no_slot f.slots x).cells es) (assigned_counted (before + 1) before (entry_or no_slot f.slots x).kind x (entry_or no_slot f.slots x).cells es g),
+  )
+  from_source (Evaluate e) g = (from_counts (Evaluate e) g, tt)
+  from_source (Return e) g = (from_counts (Return e) g, tt)
+  from_source (If t a b) g = (from_counts (If t a b) g, tt)
+  from_source (While t a) g = (from_counts (While t a) g, tt)
+  from_source (Do a t) g = (from_counts (Do a t) g, tt)
+  from_source (For first t u a) g = (from_counts (For first t u a) g, tt)
+  from_source (Switch s c) g = (from_counts (Switch s c) g, tt)
+  from_source (Block a) g = (tt, tt)
+  from_source Break g = (tt, tt)
+  from_source Continue g = (tt, tt)
+  from_source (Goto l) g = (tt, tt)
+  from_source (Mark l) g = (tt, tt)
+  from_source (Arm l e) g = (from_counts (Arm l e) g, tt)
+  from_source (Leap l) g = (tt, tt)
+  from_source (Land l) g = (tt, tt)
+  from_source (Arrival e) g = (tt, tt)
+  from_source (Note bs) g = (tt, tt)
 
   source : Everywhere Known (body_of f)
-  source = everywhere_map H Known from_source (body_of f) (measured f before bound (omega arith) (body_of f) form (omega arith))
+  source = everywhere_map Of Known from_source (body_of f) (measured f before (before + 1) (omega arith) (body_of f) form (omega arith))
 
   moved : Everywhere H (trees_of m.new)
-  moved = facts_moved Value Dropped Case Returns AnyNote dropped_less f h m one selects source
+  moved = facts_moved (Value before) (λ e. counted e ≤ before + 6) (λ e. counted_at 3 e ≤ before) (λ e. most_if e ≤ before) AnyNote dropped_less f h m one selects source
+
+  tests : Everywhere (HasFewTests before) (trees_of m.new)
+  tests =
+      let c = coded constant f.slots (length f.labels) (body_of f) in
+      let p = numbered (marks (flat c (first_here (length f.slots)) Stays Stays NoArrival (body_of f))) c in
+      let start : tested (trees_of (converted_list m.body)) ≡ tested (convert (flat_body constant f.slots (length f.labels) (body_of f))) = ap tested (converted_trees m.body ∙ ap convert (flat_trees f h m)) in
+      let few = flat_tested p (first_here (length f.slots)) Stays Stays NoArrival (body_of f) in
+      moved_tests before (omega (arith, start, few)) m.derives m.reaches
 
   simple : Everywhere RepeatsNone (trees_of m.new)
   simple = none_from (λ l. barred l (trees_of m.new)) 0 (trees_of m.new) m.simple m.made.loops
@@ -329,13 +357,12 @@ module _ (f h : Function) (m : IsMovedForm f h) (params : f.params ≤ length f.
       let labels = length m.flat_form.labels in
       let a = decls f h m params in
       let b = items f h m params in
-      let known = everywhere_both H (λ x. RepeatsNone x × ItemLabels (λ l. l < labels) x) (trees_of m.new) moved (everywhere_both RepeatsNone (ItemLabels (λ l. l < labels)) (trees_of m.new) simple m.ranged.labels) in
+      let all = everywhere_both RepeatsNone (ItemLabels (λ l. l < labels)) (trees_of m.new) simple m.ranged.labels in
+      let known = everywhere_both H (λ x. HasFewTests before x × (RepeatsNone x × ItemLabels (λ l. l < labels) x)) (trees_of m.new) moved (everywhere_both (HasFewTests before) (λ x. RepeatsNone x × ItemLabels (λ l. l < labels) x) (trees_of m.new) tests all) in
       let declarations =
       declarations_have (λ e. counted_at 2 e ≤ most) (λ e. counted e ≤ most) (λ e. counted_at 3 e ≤ most) (λ e. most_if e ≤ most) AnyNote (λ e i. omega (arith, i)) (omega arith) _ _ a
       (are_declared (reached_of f h m) (labels_of f h m)) in
-      let others =
-      plain_everywhere (slot_of f h m) (Simple (slot_of f h m) bound before labels most (omega arith) (omega (arith, fits, some)) (omega (arith, fits, some)) (omega (arith, fits))) (Counts most most most)
-      (item_counted (slot_of f h m) bound before labels most (omega arith) (omega (arith, fits, some)) (omega (arith, fits, some)) (omega (arith, fits))) (trees_of m.new) known in
+      let others = plain_everywhere (slot_of f h m) (Simple (slot_of f h m) f before labels most some refl) (Counts most most most) (item_counted (slot_of f h m) f before labels most some refl) (trees_of m.new) known in
       subst (Everywhere (Counts most most most)) (sym (plain_trees f h m))
       (facts_tidy (λ e. counted_at 2 e ≤ most) (λ e. counted e ≤ most) (λ e. counted_at 3 e ≤ most) (λ e. most_if e ≤ most) AnyNote (join a b) (join_everywhere (Counts most most most) a b declarations others))
 

@@ -30,6 +30,7 @@ pub mod FileSpelled
 pub mod Resolved
 pub mod Wrappers
 pub mod Simple
+pub mod FlatTests
 pub mod FewCounted
 pub mod JumpsKept
 pub mod Measured

@@ -1,5 +1,5 @@
 -- The plain form of a function with jumps of a resolved program has few counted tokens, since the function isn't too tangled.
-use Rattle.std.proofs.Common.{◌≡◌, ℕ, zero, suc, ◌≤◌, ◌<◌, Bool, true, false, cond, List, [], length, Some, None, sym, ap, ◌∙◌, arith}
+use Rattle.std.proofs.Common.{◌≡◌, ℕ, zero, suc, ◌+◌, ◌*◌, ◌≤◌, ◌<◌, Bool, true, false, cond, List, length, Some, None, sym, ap, ◌∙◌, arith}
 use Rattle.std.specs.Prelude.{IfSome}
 use Rattle.c_tree.specs.declared.tree.Slot.{Slot}
 use Rattle.c_tree.specs.declared.tree.Function.{Function}
@@ -50,9 +50,13 @@ module _ (ts : List Top) (f h : Function) (g : IsResolvedFunction flat_counts ts
   labels_are : length m.flat_form.labels ≡ label_count f.slots (length f.labels) (body_of f)
   labels_are = m.is_flat.labels ∙ ap (label_count f.slots (length f.labels)) (sym (body_is f m.is_flat.old m.is_flat.old_body))
 
-  pub within_counts : most_counted (body_of h) ≤ most
-  within_counts =
+  -- six counted tokens more for each label of the flat form
+  pub moved_counts : most_counted (body_of h) ≤ most_counted (body_of f) + 6 * (counts_of (measured_form (body_of f))).1
+  moved_counts =
       let some = has_label f.slots (length f.labels) (body_of f) (good_source flat_counts ts f g) (function_ranged flat_counts ts f g).slots m.jumps in
       let same = same_labels f.slots (length f.labels) (body_of f) in
-      let counted = limits.counted in
-      moved_few f h m g.form.parameters g.form.items (omega (arith, some, labels_are)) (omega (arith, counted, same, labels_are))
+      let few = moved_few f h m g.form.parameters g.form.items (omega (arith, some, labels_are)) in
+      omega (arith, few, same, labels_are)
+
+  pub within_counts : most_counted (body_of h) ≤ most
+  within_counts = let counted = limits.counted in let few = moved_counts in omega (arith, counted, few)

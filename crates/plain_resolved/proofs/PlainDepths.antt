@@ -1,5 +1,5 @@
 -- The plain form of a function with jumps of a resolved program nests no deeper than a text may, since the function isn't too tangled.
-use Rattle.std.proofs.Common.{◌≡◌, inl, inr, ℕ, ◌+◌, ◌*◌, ◌≤◌, eqb, List, [], length, refl, sym, ap, subst, ◌∙◌, arith}
+use Rattle.std.proofs.Common.{◌≡◌, inl, inr, ℕ, ◌+◌, ◌*◌, ◌≤◌, eqb, List, length, refl, sym, ap, subst, ◌∙◌, arith}
 use Rattle.c_tree.specs.declared.tree.Item.{Item}
 use Rattle.c_tree.specs.declared.tree.Function.{Function}
 use Rattle.c_tree.specs.declared.tree.Top.{Top}
@@ -34,7 +34,7 @@ use Rattle.whole_core.proofs.BodiesKept.{IsSimplified, chosen_simplified}
 use Rattle.c_resolved.specs.PrintableStatements.{most, depth, depth_of, depth_in}
 use Rattle.c_resolved.specs.Resolved.{IsResolvedFunction}
 use Rattle.resolved_core.specs.Counts as measures
-use Rattle.resolved_core.specs.Counts.{measured_form, flat_counts}
+use Rattle.resolved_core.specs.Counts.{counts_of, measured_form, flat_counts}
 use Rattle.resolved_core.proofs.GoodSource.{good_source}
 use Rattle.resolved_core.proofs.Measures.{same_gotos}
 use Rattle.plain_resolved.proofs.FactsMoved.{labels_of, slot_of, reached_of, flat_trees, plain_trees}
@@ -175,8 +175,9 @@ module _ (ts : List Top) (f h : Function) (g : IsResolvedFunction flat_counts ts
       let there : trees_of (converted_list m.body) ≡ convert flattened = converted_trees m.body ∙ ap convert (flat_trees f h m) in
       depth_laws.whole flattened (converted_list m.body) m.moves m.middle there (no_leaps _ flattened made.items) (subst IsWellMade (sym there) (made_laws.of_conversions constant f.slots n source good)) m.derives
 
-  pub within_levels : 1 + depth (body_of h) ≤ most
-  within_levels =
+  -- three levels more for each goto of the flat form
+  pub moved_levels : depth (body_of h) ≤ depth (body_of f) + 3 * (counts_of (measured_form (body_of f))).0
+  moved_levels =
       let params = g.form.parameters in
       let a = decls f h m params in
       let b = items f h m params in
@@ -189,8 +190,10 @@ module _ (ts : List Top) (f h : Function) (g : IsResolvedFunction flat_counts ts
       let some = nesting_some (trees_of m.new) in
       let reached = reached_depth m.reaches in
       let start = nesting_depth source in
-      let deep = (limits ts f h g m).depth in
       let gotos_few = few_gotos in
       let flat_so = flat_shallow in
       let moved_so = moved_shallow in
-      omega (arith, plain, tidied, all, both, first, rest, some, reached, start, deep, gotos_few, flat_so, moved_so)
+      omega (arith, plain, tidied, all, both, first, rest, some, reached, start, gotos_few, flat_so, moved_so)
+
+  pub within_levels : 1 + depth (body_of h) ≤ most
+  within_levels = let deep = (limits ts f h g m).depth in let levels = moved_levels in omega (arith, deep, levels)

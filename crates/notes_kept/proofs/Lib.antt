@@ -1,0 +1,5 @@
+mod Lists
+mod Flat
+mod Skeletons
+mod Plain
+pub mod Programs

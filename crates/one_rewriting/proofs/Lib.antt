@@ -1,0 +1,4 @@
+pub mod Items
+mod Flat
+mod Simple
+pub mod Programs

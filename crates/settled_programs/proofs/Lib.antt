@@ -1,0 +1,3 @@
+mod Bodies
+mod Functions
+pub mod Programs
