@@ -1,2 +1,4 @@
 pub mod Guards
 pub mod Programs
+pub mod Kept
+pub mod Settled

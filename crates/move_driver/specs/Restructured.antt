@@ -14,3 +14,7 @@ pub record IsRestructured (p q : Program) (ms : List Move) (counts : Counts) : T
   pub rewritten : IsRewrittenWithNames p moved ms
   pub result : q ≡ plain (names p) moved
   pub counted : counts ≡ counts_of ms moved q
+
+-- whatever p is restructured to is q, by these moves
+abbrev pub IsOnly : Program → Program → List Move → Counts → Type 0
+IsOnly p q ms counts = (r : Program) (ns : List Move) (others : Counts) → IsRestructured p r ns others → (r ≡ q) × (ns ≡ ms) × (others ≡ counts)

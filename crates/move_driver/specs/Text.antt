@@ -1,15 +1,17 @@
 -- A text that is restructured.
-use Rattle.std.specs.Prelude.{◌≡◌, ℕ, true, List, Ok}
+use Rattle.std.specs.Prelude.{◌≡◌, ℕ, true, List}
 use Rattle.c_tree.specs.declared.tree.Program.{Program}
 use Rattle.c_tree.specs.Jumps.{is_plain_program}
 use Rattle.c_tree.specs.Text.{text_of}
-use Rattle.text_reading.specs.Reading.{reading}
+use Rattle.text_reading.specs.Reading.{IsProgramOf}
 use Rattle.move_records.specs.declared.moves.Move.{Move}
 use Rattle.move_records.specs.Report.{report_text}
 use Rattle.plain_core.specs.Laws.{BehavesAsStructured}
+use Rattle.notes_kept.specs.Notes.{notes_of}
 use Rattle.move_driver.specs.declared.counts.Counts.{Counts}
 use Rattle.move_driver.specs.declared.text.Written.{Written}
 use Rattle.move_driver.specs.Restructured.{IsRestructured}
+use Rattle.move_driver.specs.Kept.{KeepsSkeletons, DeclaresFewGuards, IsMovedWithinLevels, StaysWithinSizes}
 
 -- what a text is restructured to: another text, the report of the moves, and their counts
 pub record Output : Type 0 where
@@ -20,12 +22,12 @@ pub record Output : Type 0 where
 abbrev pub output : Written → Output
 output w = record { text = w.text; report = w.report; counts = w.counts }
 
--- The text reads as a program, and what is written is the text of the program that this is restructured to, without goto
+-- The text has a program, and what is written is the text of the program that this is restructured to, without goto
 -- and label, and the report of the moves. From every entry, on every input and all answers, that program ends, traps or
 -- runs on as the first one does.
 pub record IsTextRestructured (t : List ℕ) (out : Output) : Type 0 where
   pub program : Program
-  pub reads : reading t ≡ Ok program
+  pub reads : IsProgramOf t program
   pub result : Program
   pub moves : List Move
   pub restructured : IsRestructured program result moves out.counts
@@ -33,5 +35,16 @@ pub record IsTextRestructured (t : List ℕ) (out : Output) : Type 0 where
   pub report : out.report ≡ report_text moves
   pub plain : is_plain_program result ≡ true
   pub behaves : BehavesAsStructured program result
-  -- and what is written reads back as that program
-  pub reads_back : reading out.text ≡ Ok result
+  -- and what is written is a text of the subset, which has that program
+  pub reads_back : IsProgramOf out.text result
+  -- what it keeps of the first, and its bounds
+  pub skeletons : KeepsSkeletons program result moves
+  pub guards : DeclaresFewGuards program result moves
+  pub levels : IsMovedWithinLevels program result moves
+  pub sizes : StaysWithinSizes program result
+  -- it has the same Notes in the same order
+  pub notes : notes_of result ≡ notes_of program
+
+-- whatever the text is restructured to is this
+abbrev pub IsOnlyOutput : List ℕ → Output → Type 0
+IsOnlyOutput t out = (other : Output) → IsTextRestructured t other → other ≡ out

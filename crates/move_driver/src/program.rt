@@ -1,34 +1,36 @@
-ghost use Rattle.std.specs.Prelude.{◌≡◌, true, IfOk, OnOk, Ok};
+ghost use Rattle.std.specs.Prelude.{◌≡◌, true, IfOk, OnOk};
 ghost use Rattle.c_tree.specs.InRange.{IsProgramInRange};
 ghost use Rattle.c_tree.specs.Jumps.{is_plain_program};
 ghost use Rattle.plain_core.specs.Laws.{BehavesAsStructured};
 ghost use Rattle.resolved_core.specs.Counts.{IsResolved};
 ghost use Rattle.c_tree.specs.Text.{text_of};
 ghost use Rattle.named_programs.specs.Flattened.{FlattenedTop, FlattenedTops};
-ghost use Rattle.text_reading.specs.Reading.{reading};
-ghost use Rattle.move_driver.specs.Restructured.{IsRestructured};
+ghost use Rattle.text_reading.specs.Reading.{IsProgramOf};
+ghost use Rattle.move_driver.specs.Kept.{KeepsSkeletons, DeclaresFewGuards, IsMovedWithinLevels, StaysWithinSizes};
+ghost use Rattle.notes_kept.specs.Notes.{notes_of};
+ghost use Rattle.move_driver.specs.Restructured.{IsRestructured, IsOnly};
+ghost use Rattle.move_driver.specs.Settled.{IsSettled};
+ghost use Rattle.move_driver.specs.Flattened.{IsTopFlattenedBeside, AreFlattenedBeside};
 
 use crate::counts::{Counts, count};
 use c_copies::{file_names, names};
 use c_tree::{Program, Top};
-use c_types::{List, Memory, Name};
-use flat_forms::flatten;
+use c_types::{List, Memory};
+use flat_functions::flatten_beside;
+use flat_names::ProgramNames;
 use move_records::Move;
 use plain_form::plain;
 use program_moves::move_program;
 use std::alloc::Global;
 
-fn flatten_top(
-    alloc: Global,
-    names: &List<Name>,
-    file_names: &List<Name>,
-    top: &mut Top,
-) -> Result<(), Memory>
-    ensures { OnOk result (FlattenedTop names.now file_names.now top.old top.new) }
+fn flatten_top(alloc: Global, names: &mut ProgramNames, top: &mut Top) -> Result<(), Memory>
+    ensures ok { OnOk result (IsTopFlattenedBeside names.old top.old top.new) }
+    ensures used { names.new.used.file ≡ names.old.used.file }
+    ensures taken { names.new.taken.file ≡ names.old.taken.file }
 {
     match top {
         Top::Function(function) => {
-            flatten(alloc, names, file_names, function)?;
+            flatten_beside(alloc, names, function)?;
             // a list holds at most 4,294,967,295 variables, which its slice tells
             let _ = function.slots.as_slice();
             Ok(())
@@ -37,17 +39,12 @@ fn flatten_top(
     }
 }
 
-fn flatten_tops(
-    alloc: Global,
-    names: &List<Name>,
-    file_names: &List<Name>,
-    tops: &mut List<Top>,
-) -> Result<(), Memory>
-    ensures { OnOk result (FlattenedTops names.now file_names.now tops.old tops.new) }
+fn flatten_tops(alloc: Global, names: &mut ProgramNames, tops: &mut List<Top>) -> Result<(), Memory>
+    ensures { OnOk result (AreFlattenedBeside names.old tops.old tops.new) }
 {
     let mut i = 0;
     while i < tops.len() {
-        flatten_top(alloc, names, file_names, tops.at_mut(i))?;
+        flatten_top(alloc, names, tops.at_mut(i))?;
         i += 1;
     }
     Ok(())
@@ -65,18 +62,26 @@ pub struct Rewritten {
 pub fn rewrite(alloc: Global, program: Program) -> Result<Rewritten, Memory>
     requires { IsResolved program }
     ensures value { IfOk result (λ r. IsRestructured program r.program r.moves r.counts) }
+    ensures only { IfOk result (λ r. IsOnly program r.program r.moves r.counts) }
     ensures plain { IfOk result (λ r. is_plain_program r.program ≡ true) }
     ensures ranged { IfOk result (λ r. IsProgramInRange r.program) }
     ensures behaves { IfOk result (λ r. BehavesAsStructured program r.program) }
     ensures resolved { IfOk result (λ r. IsResolved r.program) }
-    ensures reads_back { IfOk result (λ r. reading (text_of r.program) ≡ Ok r.program) }
+    ensures reads_back { IfOk result (λ r. IsProgramOf (text_of r.program) r.program) }
+    ensures skeletons { IfOk result (λ r. KeepsSkeletons program r.program r.moves) }
+    ensures guards { IfOk result (λ r. DeclaresFewGuards program r.program r.moves) }
+    ensures levels { IfOk result (λ r. IsMovedWithinLevels program r.program r.moves) }
+    ensures sizes { IfOk result (λ r. StaysWithinSizes program r.program) }
+    ensures notes { IfOk result (λ r. notes_of r.program ≡ notes_of program) }
+    ensures settled { IfOk result (λ r. IsSettled r.program) }
 {
     let used = names(alloc, &program)?;
     // a list holds at most 4,294,967,295 names, which its slice tells
     let _ = used.as_slice();
     let of_file = file_names(alloc, &program)?;
     let mut program = program;
-    flatten_tops(alloc, &used, &of_file, &mut program.tops)?;
+    let mut gathered = ProgramNames::new(alloc, &used, &of_file)?;
+    flatten_tops(alloc, &mut gathered, &mut program.tops)?;
     let moves = move_program(alloc, &mut program)?;
     let made = plain(alloc, &used, &program)?;
     let counts = count(&moves, &program, &made);
@@ -91,15 +96,23 @@ pub fn rewrite(alloc: Global, program: Program) -> Result<Rewritten, Memory>
 /// function takes its flat form, is converted, its jumps are moved until none is left, and its tests are simplified, in
 /// file order; then the guards become variables. It has no goto and no label, and from every entry, on every input and
 /// all answers, its structural run ends, traps or runs on as the run of the program does. It is a resolved program again,
-/// and its printed text reads back as it. Want of memory is the only failure, and the program is given up then.
+/// with the same Notes in the same order, and its printed text reads back as it; restructured, it comes out the same, by no
+/// moves. Want of memory is the only failure, and the program is given up then.
 pub fn restructure_program(alloc: Global, program: Program) -> Result<(Program, List<Move>), Memory>
     requires { IsResolved program }
     ensures value { IfOk result (λ r. (counts : Counts) × IsRestructured program r.0 r.1 counts) }
+    ensures only { IfOk result (λ r. (counts : Counts) × IsOnly program r.0 r.1 counts) }
     ensures plain { IfOk result (λ r. is_plain_program r.0 ≡ true) }
     ensures ranged { IfOk result (λ r. IsProgramInRange r.0) }
     ensures behaves { IfOk result (λ r. BehavesAsStructured program r.0) }
     ensures resolved { IfOk result (λ r. IsResolved r.0) }
-    ensures reads_back { IfOk result (λ r. reading (text_of r.0) ≡ Ok r.0) }
+    ensures reads_back { IfOk result (λ r. IsProgramOf (text_of r.0) r.0) }
+    ensures skeletons { IfOk result (λ r. KeepsSkeletons program r.0 r.1) }
+    ensures guards { IfOk result (λ r. DeclaresFewGuards program r.0 r.1) }
+    ensures levels { IfOk result (λ r. IsMovedWithinLevels program r.0 r.1) }
+    ensures sizes { IfOk result (λ r. StaysWithinSizes program r.0) }
+    ensures notes { IfOk result (λ r. notes_of r.0 ≡ notes_of program) }
+    ensures settled { IfOk result (λ r. IsSettled r.0) }
 {
     let Rewritten { program, moves, .. } = rewrite(alloc, program)?;
     Ok((program, moves))

@@ -1,6 +1,7 @@
 ghost use Rattle.std.specs.Prelude.{◌≡◌, IfOk, IfErr, Err};
 ghost use Rattle.text_reading.specs.Reading.{IsInSubset, IsRefusedFor};
-ghost use Rattle.move_driver.specs.Text.{output, IsTextRestructured};
+ghost use Rattle.move_driver.specs.Text.{output, IsTextRestructured, IsOnlyOutput};
+ghost use Rattle.move_driver.specs.Settled.{IsTextSettled};
 
 use crate::counts::Counts;
 use crate::program::{Rewritten, rewrite};
@@ -21,9 +22,11 @@ pub struct Written {
 
 /// Restructures a text: reads its program, eliminates the jumps, and prints what is left, with the report of the moves.
 /// A text is refused exactly if it is outside of the subset, at its first fault (docs/SUBSET.md). Want of memory is the
-/// only other failure.
+/// only other failure. A text that was written comes out the same, with an empty report.
 pub fn restructure_text(alloc: Global, text: &[u8]) -> Result<Written, ReadStop>
     ensures restructured { IfOk result (λ written. IsTextRestructured text.now (output written)) }
+    ensures only { IfOk result (λ written. IsOnlyOutput text.now (output written)) }
+    ensures settled { IfOk result (λ written. IsTextSettled written.text) }
     ensures refused { (refusal : Refusal) → result ≡ Err (ReadStop.Refused refusal) → IsRefusedFor text.now refusal }
     ensures complete { IsInSubset text.now → IfErr result (λ stop. stop ≡ ReadStop.Memory) }
 {

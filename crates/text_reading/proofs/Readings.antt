@@ -1,6 +1,6 @@
 -- A text that reads as a program, or not.
 use Rattle.std.proofs.Common.{◌≡◌, ℕ, List, Option, Some, None, Result, Ok, Err, inl, inr, refl, sym, ap, subst, ◌∙◌}
-use Rattle.std.specs.Prelude.{◌⊎◌, IfErr}
+use Rattle.std.specs.Prelude.{◌⊎◌, IfOk, IfErr}
 use Rattle.c_types.specs.declared.refusal.Refusal.{Refusal}
 use Rattle.c_types.specs.declared.refusal.ReadStop.{ReadStop}
 use Rattle.c_types.specs.declared.refusal.ReadStop.TheVariants as stops
@@ -24,7 +24,7 @@ use Rattle.c_kinds.specs.declared.typed.Fault.{Fault}
 use Rattle.c_scopes.specs.Resolving.{resolved, answer, program_of, violation_of, file_at, refused}
 use Rattle.c_tree.specs.declared.tree.Program.{Program}
 use Rattle.c_reading.specs.Reading.{of_syntax, of_tokens}
-use Rattle.text_reading.specs.Reading.{counts_of, reading, HasFaultyToken, HasViolation, IsRefusedFor, IsInSubset}
+use Rattle.text_reading.specs.Reading.{counts_of, reading, HasFaultyToken, HasViolation, IsRefusedFor, IsProgramOf, IsInSubset}
 
 -- ---- one step after another
 
@@ -125,12 +125,18 @@ read_as t p e =
       resolves = subst (λ (z : Scanned). resolved counts_of t z.tokens z.comments b.0 ≡ Ok p) s.is b.2;
     }
 
-not_both : {A : Type 0} (o : Result A Refusal) (x : A) (r : Refusal) → o ≡ Ok x → o ≡ Err r → ⊥
-not_both o x r e g = cc
+answered : (t : List ℕ) (tokens : List Token) (p q : Program) (v : Option Fault) → answer t tokens p v ≡ Ok q → (v ≡ None) × (q ≡ p)
+answered t tokens p q None e = let same : p ≡ q = cc in (refl, sym same)
+answered t tokens p q (Some f) e = cc
 
--- no text is in the subset and refused
-unread : (t : List ℕ) (refusal : Refusal) → reading t ≡ Err refusal → IsInSubset t → ⊥
-unread t refusal e inside = not_both (reading t) inside.0 refusal inside.1 e
+-- so it is the program of that text
+pub program_as : (t : List ℕ) (p : Program) → reading t ≡ Ok p → IsProgramOf t p
+program_as t p e =
+    let a = read_as t p e in
+    let xs = file_of (word_of t (tokens_of a.pieces)) a.syntax_of in
+    let file = file_at counts_of t (tokens_of a.pieces) (comments_of a.pieces) xs in
+    let g = answered t (tokens_of a.pieces) (program_of file xs) p (violation_of file xs) a.resolves in
+    record { pieces = a.pieces; spells = a.spells; syntax_of = a.syntax_of; derives = a.derives; faultless = g.0; is = g.1 }
 
 -- ---- and back: with such a fault, and with no other, it is refused
 
@@ -156,6 +162,24 @@ refused_back t refusal (inr (inr rule)) =
     ∙ ap (answer t tokens (program_of file xs)) rule.least
     ∙ ap Err (sym rule.place)
 
+-- and the program of a text is what it reads as
+pub program_back : (t : List ℕ) (p : Program) → IsProgramOf t p → reading t ≡ Ok p
+program_back t p h =
+    let tokens = tokens_of h.pieces in
+    let xs = file_of (word_of t tokens) h.syntax_of in
+    let file = file_at counts_of t tokens (comments_of h.pieces) xs in
+    scanned_back t h.pieces h.spells
+    ∙ ap (of_syntax counts_of t (scanned_of h.pieces)) (parses t tokens h.syntax_of h.derives)
+    ∙ ap (answer t tokens (program_of file xs)) h.faultless
+    ∙ ap Ok (sym h.is)
+
+not_both : {A : Type 0} (o : Result A Refusal) (x : A) (r : Refusal) → o ≡ Ok x → o ≡ Err r → ⊥
+not_both o x r e g = cc
+
+-- no text is in the subset and refused
+unread : (t : List ℕ) (refusal : Refusal) → reading t ≡ Err refusal → IsInSubset t → ⊥
+unread t refusal e inside = not_both (reading t) inside.0 refusal (program_back t inside.0 inside.1) e
+
 -- a text of the subset has no fault
 pub faultless : (t : List ℕ) (refusal : Refusal) → IsRefusedFor t refusal → IsInSubset t → ⊥
 faultless t refusal h inside = unread t refusal (refused_back t refusal h) inside
@@ -171,3 +195,15 @@ pub never_refused : (t : List ℕ) (r : Result Program ReadStop) → Gives (λ (
 never_refused t (Ok p) g inside = tt
 never_refused t (Err (stops.Refused q)) g inside = absurd (unread t q g inside)
 never_refused t (Err stops.Memory) g inside = refl
+
+pub program_read : (t : List ℕ) (r : Result Program ReadStop) → Gives (λ (p : Program). p) r (reading t) → IfOk r (IsProgramOf t)
+program_read t (Ok p) g = program_as t p g
+program_read t (Err stop) g = tt
+
+same_read : (o : Result Program Refusal) (p q : Program) → o ≡ Ok p → o ≡ Ok q → p ≡ q
+same_read o p q e g = cc
+
+-- a text has one program
+pub program_back_of : (t : List ℕ) (r : Result Program ReadStop) → Gives (λ (p : Program). p) r (reading t) → (p : Program) → IsProgramOf t p → IfOk r (λ q. q ≡ p)
+program_back_of t (Ok q) g p h = same_read (reading t) q p g (program_back t p h)
+program_back_of t (Err stop) g p h = tt

@@ -1,5 +1,5 @@
 -- What a text reads as: its program, or the refusal for its first fault (ISO/IEC 9899:2011, 5.1.1.2; docs/SUBSET.md).
-use Rattle.std.specs.Prelude.{◌≡◌, ◌⊎◌, ℕ, List, Some, Result, Ok}
+use Rattle.std.specs.Prelude.{◌≡◌, ◌⊎◌, ℕ, List, Some, None, Result}
 use Rattle.c_types.specs.declared.refusal.Refusal.{Refusal}
 use Rattle.c_lexer.specs.Pieces.{Piece, Spells, tokens_of, comments_of}
 use Rattle.c_lexer.specs.Faults.{IsFirstFault}
@@ -12,7 +12,7 @@ use Rattle.c_source.specs.Parts.{file_of}
 use Rattle.c_kinds.specs.declared.typed.Fault.{Fault}
 use Rattle.c_statements.specs.Functions.{FlatCounts}
 use Rattle.c_reading.specs.Reading.{reading as reading_with}
-use Rattle.c_scopes.specs.Resolving.{violation_of, file_at, refused}
+use Rattle.c_scopes.specs.Resolving.{program_of, violation_of, file_at, refused}
 use Rattle.c_tree.specs.declared.tree.Program.{Program}
 use Rattle.c_tree.specs.Trees.{trees_of}
 use Rattle.resolved_core.specs.Counts.{flat_counts}
@@ -21,7 +21,8 @@ use Rattle.resolved_core.specs.Counts.{flat_counts}
 abbrev pub counts_of : FlatCounts
 counts_of body = flat_counts (trees_of body)
 
--- its tokens and comments are read, then the syntax that the tokens derive, then the program of that syntax
+-- the same as a function: its tokens and comments are read, then the syntax that the tokens derive, then the program of
+-- that syntax (`IsProgramOf` and `IsRefusedFor` say of which texts it answers what)
 abbrev pub reading : List ℕ → Result Program Refusal
 reading t = reading_with counts_of t
 
@@ -47,6 +48,18 @@ pub record HasViolation (t : List ℕ) (refusal : Refusal) : Type 0 where
 abbrev pub IsRefusedFor : List ℕ → Refusal → Type 0
 IsRefusedFor t refusal = IsFirstFault t refusal ⊎ (HasFaultyToken t refusal ⊎ HasViolation t refusal)
 
+-- ---- what a text means
+
+-- The text is spelled by good pieces, its tokens derive a file, no rule for names, kinds and statements is broken in that
+-- one, and the program is the one that it writes, with the comments as Notes.
+pub record IsProgramOf (t : List ℕ) (p : Program) : Type 0 where
+  pub pieces : List Piece
+  pub spells : Spells pieces t
+  pub syntax_of : Syntax
+  pub derives : Derives (classes_of t (tokens_of pieces)) syntax_of
+  pub faultless : violation_of (file_at counts_of t (tokens_of pieces) (comments_of pieces) (file_of (word_of t (tokens_of pieces)) syntax_of)) (file_of (word_of t (tokens_of pieces)) syntax_of) ≡ None
+  pub is : p ≡ program_of (file_at counts_of t (tokens_of pieces) (comments_of pieces) (file_of (word_of t (tokens_of pieces)) syntax_of)) (file_of (word_of t (tokens_of pieces)) syntax_of)
+
 -- a text without fault
 abbrev pub IsInSubset : List ℕ → Type 0
-IsInSubset t = (p : Program) × (reading t ≡ Ok p)
+IsInSubset t = (p : Program) × IsProgramOf t p

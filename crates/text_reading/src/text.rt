@@ -2,7 +2,7 @@ ghost use Rattle.std.specs.Prelude.{◌≡◌, IfOk, IfErr, Err};
 ghost use Rattle.c_types.specs.Stop.{Gives};
 ghost use Rattle.resolved_core.specs.Counts.{IsResolved};
 ghost use Rattle.c_scopes.specs.Resolving.{resolved};
-ghost use Rattle.text_reading.specs.Reading.{counts_of, reading, IsInSubset, IsRefusedFor};
+ghost use Rattle.text_reading.specs.Reading.{counts_of, reading, IsProgramOf, IsInSubset, IsRefusedFor};
 
 use crate::counting::FlatForms;
 use c_tree::Program;
@@ -14,10 +14,12 @@ use std::alloc::Global;
 /// 6 at the first byte that begins no token; else with reason 10 or 11 at the first token that fits nowhere or is over a
 /// limit; else with reason 20 to 40 or 43 at the violation of the least place, and there the least reason. Want of memory
 /// is the only other failure. The program is a resolved one, the condition of every call that takes programs.
-#[tactic(auto, using(crate::proofs::Readings::refused_at, crate::proofs::Readings::never_refused, crate::proofs::Readings::refused_back, crate::proofs::Resolved::resolved_of))]
+#[tactic(auto, using(crate::proofs::Readings::refused_at, crate::proofs::Readings::never_refused, crate::proofs::Readings::refused_back, crate::proofs::Readings::program_read, crate::proofs::Resolved::resolved_of))]
 pub fn read(alloc: Global, text: &[u8]) -> Result<Program, ReadStop>
     ensures value { Gives (λ p. p) result (reading text.now) }
     ensures resolved { IfOk result IsResolved }
+    ensures program { IfOk result (IsProgramOf text.now) }
+    ensures program_back { (p : Program) → IsProgramOf text.now p → IfOk result (λ it. it ≡ p) }
     ensures refused { (refusal : Refusal) → result ≡ Err (ReadStop.Refused refusal) → IsRefusedFor text.now refusal }
     ensures fault_back { (refusal : Refusal) → IsRefusedFor text.now refusal → reading text.now ≡ Err refusal }
     ensures complete { IsInSubset text.now → IfErr result (λ stop. stop ≡ ReadStop.Memory) }

@@ -1,3 +1,4 @@
+use Rattle.text_reading.proofs.Readings.{program_back_of}
 use Rattle.text_reading.proofs.Readings.{refused_back}
 use Rattle.text_reading.proofs.Resolved.{are_bytes, resolved_of}
 use Rattle.text_reading.proofs.text.read.Goals as goal
@@ -7,3 +8,6 @@ returns-clause-resolved c = resolved_of c.args.text.now c.read.result (are_bytes
 
 pub returns-clause-fault_back : goal.returns-clause-fault_back
 returns-clause-fault_back c = refused_back c.args.text.now
+
+pub returns-clause-program_back : goal.returns-clause-program_back
+returns-clause-program_back c = program_back_of c.args.text.now c.read.result c.read.ensures.value
