@@ -14,6 +14,21 @@ pub struct Outcome {
     pub err: MemSink,
 }
 
+/// The calls of the ports that fail.
+#[derive(Clone, Copy)]
+pub struct Failing {
+    pub shelf: &'static [u64],
+    pub out: &'static [u64],
+    pub err: &'static [u64],
+}
+
+/// No call fails.
+pub static SOUND: Failing = Failing {
+    shelf: &[],
+    out: &[],
+    err: &[],
+};
+
 fn file(alloc: Global, name: &str, text: &str) -> Result<(Name, Bytes), Memory> {
     let name = Name::from_string(String::from_str(alloc, name)?);
     Ok((name, Bytes::from_slice(alloc, text.as_bytes())?))
@@ -21,17 +36,16 @@ fn file(alloc: Global, name: &str, text: &str) -> Result<(Name, Bytes), Memory> 
 
 fn sink(alloc: Global, failing: &[u64]) -> Result<MemSink, Memory> {
     let mut sink = MemSink::new(alloc, Bytes::new(alloc), List::from_slice(alloc, failing)?)?;
-    sink.reserve(1024)?;
+    sink.reserve(65536)?;
     Ok(sink)
 }
 
-/// Runs a command on a shelf with the files `a.c` and `r.txt`; these calls of the shelf and of `err` fail.
+/// Runs a command on a shelf with the files `a.c` and `r.txt`.
 pub fn run(
     alloc: Global,
     words: &[&str],
     source: &str,
-    shelf_failing: &[u64],
-    err_failing: &[u64],
+    failing: &Failing,
 ) -> Result<Outcome, Memory> {
     let mut texts = Vec::new(alloc);
     for word in words {
@@ -40,11 +54,10 @@ pub fn run(
     let mut files = List::new(alloc);
     files.push(file(alloc, "a.c", source)?)?;
     files.push(file(alloc, "r.txt", "kept")?)?;
-    let failing = List::from_slice(alloc, shelf_failing)?;
-    let mut shelf = MemShelf::new(alloc, files, failing)?;
+    let mut shelf = MemShelf::new(alloc, files, List::from_slice(alloc, failing.shelf)?)?;
     let mut input = NoInput::new();
-    let mut out = sink(alloc, &[])?;
-    let mut err = sink(alloc, err_failing)?;
+    let mut out = sink(alloc, failing.out)?;
+    let mut err = sink(alloc, failing.err)?;
     let status = regoto(alloc, &texts, &mut shelf, &mut input, &mut out, &mut err);
     Ok(Outcome {
         status,

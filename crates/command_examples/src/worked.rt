@@ -1,7 +1,7 @@
 //! Whole texts through the one public call: the text that is written, the report, and the line on the standard error.
 
 use crate::example_texts::EXAMPLES;
-use crate::ports::run;
+use crate::ports::{SOUND, run};
 use crate::worked_texts::WORKED;
 use regoto::Status;
 use std::alloc::Global;
@@ -32,13 +32,25 @@ fn case_of<'a>(block: &'a str) -> Option<Case<'a>> {
 /// Whether the command leaves what it is to leave.
 fn is_met(alloc: Global, case: &Case) -> Result<bool, Fail> {
     let words = ["restructure", "a.c", "b.c", "--report", "r.txt"];
-    let ran = run(alloc, &words, case.source, &[], &[])?;
+    let ran = run(alloc, &words, case.source, &SOUND)?;
     let told = ran.err.bytes();
     Ok(
         ran.status == Status::Done
             && ran.shelf.held("b.c") == Some(case.text.as_bytes())
             && ran.shelf.held("r.txt") == Some(case.report.as_bytes())
-            && told.strip_suffix(b"\n".as_slice()) == Some(case.line.as_bytes()),
+            && told.strip_suffix(b"\n".as_slice()) == Some(case.line.as_bytes())
+            && ran.out.bytes().is_empty(),
+    )
+}
+
+/// Whether a command writes this to the standard output, and nothing else.
+fn is_shown(alloc: Global, word: &str, case: &Case, whole: &str) -> Result<bool, Fail> {
+    let ran = run(alloc, &[word, "a.c"], case.source, &SOUND)?;
+    Ok(
+        ran.status == Status::Done
+            && ran.out.bytes() == whole.as_bytes()
+            && ran.err.bytes().is_empty()
+            && ran.shelf.held("b.c").is_none(),
     )
 }
 
@@ -47,7 +59,9 @@ fn restructures(rt: HostRuntime) -> Result<(), Fail> {
     for texts in [WORKED, EXAMPLES] {
         for block in texts.split("==== ") {
             if let Some(case) = case_of(block) {
-                let met = is_met(rt.alloc(), &case)?;
+                let met = is_met(rt.alloc(), &case)?
+                    && is_shown(rt.alloc(), "show", &case, case.text)?
+                    && is_shown(rt.alloc(), "moves", &case, case.report)?;
                 assert!(rt; met, "{block}");
             }
         }

@@ -1,5 +1,1 @@
-pub mod Command
-pub mod Status
-pub mod Lines
 pub mod Restructure
-pub mod Help

@@ -1,14 +1,12 @@
 ghost use Rattle.std.specs.Prelude.{◌≡◌, ◌↔◌, ℕ, List, Option, map, string_bytes, Some, None};
-ghost use Rattle.regoto.specs.Lines.{Tells, usage_line};
-ghost use Rattle.regoto.specs.Command.{Restructure, Help, command_of};
-ghost use Rattle.regoto.specs.Restructure.{Restructures, Completes};
-ghost use Rattle.regoto.specs.Help.{Helps};
+ghost use Rattle.command_lines.specs.Lines.{Tells, usage_line};
+ghost use Rattle.command_lines.specs.Command.{Restructure, Help, Show, Moves, command_of};
+ghost use Rattle.command_lines.specs.Help.{Helps};
+ghost use Rattle.regoto.specs.Restructure.{Restructures, ShowsRestructured, Completes};
 
-use crate::files::{Targets, restructure};
-use crate::help::help;
-use crate::lines::tell;
-use crate::status::Status;
-use crate::words::{Job, command};
+use crate::restructurer::Restructurer;
+use command_lines::{Job, Status, command, tell, write_help};
+use file_commands::{Part, Targets, show, write};
 use rg_ports::{Shelf, Sink, Source};
 use std::alloc::Global;
 
@@ -40,6 +38,24 @@ pub fn regoto<H: Shelf, I: Source, O: Sink, E: Sink>(
         × Helps (O.written out.old) (O.written out.new) (O.faults out.old) (O.faults out.new)
         (E.written err.old) (E.written err.new) (E.faults err.old) (E.faults err.new) result }
 
+    ensures show { (from : List ℕ) → command_of (map string_bytes words.now) ≡ Some (Show from)
+        → (H.held shelf.new ≡ H.held shelf.old) × (H.write_faults shelf.new ≡ H.write_faults shelf.old)
+        × ShowsRestructured from Part.Text (H.held shelf.old) (H.read_faults shelf.old) (H.read_faults shelf.new)
+        (out.new ≡ out.old) (O.written out.old) (O.written out.new) (O.faults out.old) (O.faults out.new)
+        (E.written err.old) (E.written err.new) (E.faults err.old) (E.faults err.new) result }
+
+    ensures moves { (from : List ℕ) → command_of (map string_bytes words.now) ≡ Some (Moves from)
+        → (H.held shelf.new ≡ H.held shelf.old) × (H.write_faults shelf.new ≡ H.write_faults shelf.old)
+        × ShowsRestructured from Part.Report (H.held shelf.old) (H.read_faults shelf.old) (H.read_faults shelf.new)
+        (out.new ≡ out.old) (O.written out.old) (O.written out.new) (O.faults out.old) (O.faults out.new)
+        (E.written err.old) (E.written err.new) (E.faults err.old) (E.faults err.new) result }
+
+    ensures complete_show { (from : List ℕ) → command_of (map string_bytes words.now) ≡ Some (Show from)
+        → Completes from (H.held shelf.old) (H.read_faults shelf.old) (H.read_faults shelf.new) (O.faults out.old) (O.faults out.new) result }
+
+    ensures complete_moves { (from : List ℕ) → command_of (map string_bytes words.now) ≡ Some (Moves from)
+        → Completes from (H.held shelf.old) (H.read_faults shelf.old) (H.read_faults shelf.new) (O.faults out.old) (O.faults out.new) result }
+
     ensures input { input.new ≡ input.old }
 {
     match command(words) {
@@ -48,8 +64,17 @@ pub fn regoto<H: Shelf, I: Source, O: Sink, E: Sink>(
             Status::Usage
         }
         Some(Job::Restructure(from, text, report)) => {
-            restructure(alloc, from, &Targets { text, report }, shelf, err)
+            write(
+                alloc,
+                &Restructurer,
+                from,
+                &Targets { text, report },
+                shelf,
+                err,
+            )
         }
-        Some(Job::Help) => help(out, err),
+        Some(Job::Help) => write_help(out, err),
+        Some(Job::Show(from)) => show(alloc, &Restructurer, from, Part::Text, shelf, out, err),
+        Some(Job::Moves(from)) => show(alloc, &Restructurer, from, Part::Report, shelf, out, err),
     }
 }

@@ -2,13 +2,8 @@
 #![tactic(auto)]
 
 mod call;
-mod files;
-mod help;
-mod lines;
-mod status;
-mod words;
+mod restructurer;
 
 pub use call::regoto;
-pub use files::MOST_BYTES;
-pub use status::Status;
-pub use words::{Job, command};
+pub use command_lines::{Job, Status, command};
+pub use file_commands::MOST_BYTES;

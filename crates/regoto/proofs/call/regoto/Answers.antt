@@ -1,7 +1,6 @@
 use Rattle.std.proofs.Common.{◌≡◌, Option, Some, List, ℕ, option_map, refl, ◌∙◌}
 use Rattle.std.specs.Borrow.{Bor}
-use Rattle.regoto.specs.Command.{Command, Restructure}
-use Rattle.regoto.proofs.Handed.{completes}
+use Rattle.command_lines.specs.Command.{Command, Restructure, Show, Moves}
 use Rattle.regoto.proofs.call.regoto.Goals as goal
 
 pub returns-in-Some-Restructure-clause-restructure : goal.returns-in-Some-Restructure-clause-restructure
@@ -12,8 +11,18 @@ returns-in-Some-Restructure-clause-restructure g c = λ from to report e.
     let same_from : c.in-Some-Restructure.from.now ≡ from = cc in
     let same_to : c.in-Some-Restructure.text.now ≡ to = cc in
     let same_report : named ≡ report = cc in
-    (refl, rw (← same_from, ← same_to, ← same_report) c.restructure.ensures)
+    (refl, rw (← same_from, ← same_to, ← same_report) c.write.ensures.writes)
 
-pub returns-in-Some-Restructure-clause-complete : goal.returns-in-Some-Restructure-clause-complete
-returns-in-Some-Restructure-clause-complete g c = λ from to report e.
-    completes _ from to report _ _ _ _ _ _ c.restructure.result (returns-in-Some-Restructure-clause-restructure g c from to report e).1
+pub returns-in-Some-Show-clause-show : goal.returns-in-Some-Show-clause-show
+returns-in-Some-Show-clause-show g c = λ from e.
+    let words = rw c.in-Some-Show.field-0-is at c.in-Some-Show.ensures in
+    let same : ◌≡◌ {A = Option Command} (Some (Show c.in-Some-Show.from.now)) (Some (Show from)) = words ∙ e in
+    let same_from : c.in-Some-Show.from.now ≡ from = cc in
+    (c.show.ensures.kept, c.show.ensures.writes, rw (← same_from) c.show.ensures.shows)
+
+pub returns-in-Some-Moves-clause-moves : goal.returns-in-Some-Moves-clause-moves
+returns-in-Some-Moves-clause-moves g c = λ from e.
+    let words = rw c.in-Some-Moves.field-0-is at c.in-Some-Moves.ensures in
+    let same : ◌≡◌ {A = Option Command} (Some (Moves c.in-Some-Moves.from.now)) (Some (Moves from)) = words ∙ e in
+    let same_from : c.in-Some-Moves.from.now ≡ from = cc in
+    (c.show-in-Some-Moves.ensures.kept, c.show-in-Some-Moves.ensures.writes, rw (← same_from) c.show-in-Some-Moves.ensures.shows)

@@ -1,0 +1,5 @@
+pub mod Command
+pub mod Status
+pub mod Lines
+pub mod Help
+pub mod Numbers

@@ -1,0 +1,14 @@
+//! The words of the commands, how they end, and what they tell about it.
+#![tactic(auto)]
+
+mod help;
+mod lines;
+mod numbers;
+mod status;
+mod words;
+
+pub use help::write_help;
+pub use lines::{Summary, tell, tell_absent, tell_refusal, tell_summary};
+pub use numbers::number;
+pub use status::Status;
+pub use words::{Job, command};

@@ -1,0 +1,102 @@
+ghost use Rattle.std.specs.Prelude.{◌≡◌, map, option_map, string_bytes, [], ◌∷◌};
+ghost use Rattle.command_lines.specs.Command.{names_file, asks_for_report, command_of, seen};
+
+/// What the words of a command ask for (docs/COMMANDS.md).
+#[derive(Clone, Copy, Debug, PartialEq, Eq)]
+pub enum Job<'a> {
+    /// Restructure the first file, write the second, and the report of the moves to the third if there is one.
+    Restructure(&'a str, &'a str, Option<&'a str>),
+    /// Write the list of commands.
+    Help,
+    /// Restructure the file, and write the text to the standard output.
+    Show(&'a str),
+    /// Restructure the file, and write the report of the moves to the standard output.
+    Moves(&'a str),
+}
+
+/// Whether a word names a file: it isn't empty and doesn't begin with `-`.
+fn names_a_file(word: &str) -> bool
+    ensures { result ≡ names_file word.now }
+{
+    match word.as_bytes() {
+        [] => false,
+        [first, ..] => *first != b'-',
+    }
+}
+
+/// The job that the words ask for, or `None` where they fit no form. It takes no memory.
+pub fn command<'a>(words: &'a [String]) -> Option<Job<'a>>
+    ensures { option_map seen result ≡ command_of (map string_bytes words.now) }
+{
+    match words {
+        [word] => {
+            if word.as_str() == "help" {
+                Some(Job::Help)
+            } else {
+                None
+            }
+        }
+        [word, from] => shown_job(word.as_str(), from.as_str()),
+        [word, from, to] => restructure_job(word.as_str(), from.as_str(), to.as_str()),
+        [word, from, to, flag, report] => report_job(
+            word.as_str(),
+            from.as_str(),
+            to.as_str(),
+            flag.as_str(),
+            report.as_str(),
+        ),
+        [] => None,
+        [_, _, _, _] => None,
+        [_, _, _, _, _, _, ..] => None,
+    }
+}
+
+fn shown_job<'a>(word: &str, from: &'a str) -> Option<Job<'a>>
+    ensures { option_map seen result ≡ command_of (word.now ∷ from.now ∷ []) }
+{
+    if word == "show" && names_a_file(from) {
+        Some(Job::Show(from))
+    } else if word == "moves" && names_a_file(from) {
+        Some(Job::Moves(from))
+    } else {
+        None
+    }
+}
+
+fn restructure_job<'a>(word: &str, from: &'a str, to: &'a str) -> Option<Job<'a>>
+    ensures { option_map seen result ≡ command_of (word.now ∷ from.now ∷ to.now ∷ []) }
+{
+    if word == "restructure" && names_a_file(from) && names_a_file(to) {
+        Some(Job::Restructure(from, to, None))
+    } else {
+        None
+    }
+}
+
+fn report_job<'a>(
+    word: &str,
+    from: &'a str,
+    to: &'a str,
+    flag: &str,
+    report: &'a str,
+) -> Option<Job<'a>>
+    ensures { option_map seen result ≡ command_of (word.now ∷ from.now ∷ to.now ∷ flag.now ∷ report.now ∷ []) }
+{
+    if asks_report(word, from, to, flag, report) {
+        Some(Job::Restructure(from, to, Some(report)))
+    } else {
+        None
+    }
+}
+
+/// Whether the words ask for a report beside the text.
+fn asks_report(word: &str, from: &str, to: &str, flag: &str, report: &str) -> bool
+    ensures { result ≡ asks_for_report word.now from.now to.now flag.now report.now }
+{
+    word == "restructure"
+        && names_a_file(from)
+        && names_a_file(to)
+        && flag == "--report"
+        && names_a_file(report)
+        && to != report
+}

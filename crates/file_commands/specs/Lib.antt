@@ -1,0 +1,4 @@
+pub mod Taken
+pub mod Translated
+pub mod Written
+pub mod Shown

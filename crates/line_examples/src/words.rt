@@ -1,0 +1,61 @@
+//! What words ask for.
+
+use command_lines::{Job, command, number};
+use std::test::Fail;
+
+static COMMANDS: [(&[&str], Option<Job<'static>>); 14] = [
+    (&[], None),
+    (&["help"], Some(Job::Help)),
+    (&["help", "show"], None),
+    (&["show", "a.c"], Some(Job::Show("a.c"))),
+    (&["show"], None),
+    (&["show", ""], None),
+    (&["show", "a.c", "b.c"], None),
+    (&["moves", "a.c"], Some(Job::Moves("a.c"))),
+    (&["moves", "-a"], None),
+    (
+        &["restructure", "a.c", "a.c"],
+        Some(Job::Restructure("a.c", "a.c", None)),
+    ),
+    (
+        &["restructure", "a.c", "b.c", "--report", "a.c"],
+        Some(Job::Restructure("a.c", "b.c", Some("a.c"))),
+    ),
+    (&["restructure", "a.c", "b.c", "--report", "b.c"], None),
+    (&["restructure", "a.c", "b.c", "--report=r.txt"], None),
+    (&["run", "a.c"], None),
+];
+
+#[test]
+fn words_ask_for_a_job(rt: HostRuntime) -> Result<(), Fail> {
+    for (texts, job) in &COMMANDS {
+        let mut words = Vec::new(rt.alloc());
+        for text in *texts {
+            words.push(String::from_str(rt.alloc(), text)?)?;
+        }
+        assert_eq!(rt; command(&words), *job);
+    }
+    Ok(())
+}
+
+static NUMBERS: [(&str, Option<u64>); 11] = [
+    ("0", Some(0)),
+    ("7", Some(7)),
+    ("2000", Some(2000)),
+    ("100000000", Some(100000000)),
+    ("999999999999999999", Some(999999999999999999)),
+    ("1000000000000000000", None),
+    ("", None),
+    ("+1", None),
+    ("-1", None),
+    ("01", None),
+    ("1 ", None),
+];
+
+#[test]
+fn a_number_is_digits_alone(rt: HostRuntime) -> Result<(), Fail> {
+    for (word, value) in &NUMBERS {
+        assert_eq!(rt; number(word), *value, "{word}");
+    }
+    Ok(())
+}
