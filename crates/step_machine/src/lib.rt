@@ -3,4 +3,4 @@
 
 mod machine;
 
-pub use machine::{Machine, Next};
+pub use machine::{MOST_CELLS, Machine, Next};

@@ -1,0 +1,5 @@
+pub mod Steps
+pub mod Files
+pub mod Started
+pub mod Answers
+pub mod Followed

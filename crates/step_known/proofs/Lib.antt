@@ -1,0 +1,3 @@
+pub mod SettledLemmas
+pub mod NameLemmas
+pub mod InvokeLemmas
