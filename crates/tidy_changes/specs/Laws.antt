@@ -1,0 +1,13 @@
+-- What the function of this crate states: changes come to an end.
+use Rattle.std.specs.Prelude.{ℕ, suc, ◌+◌, ◌≡◌, [], length, Contains}
+use Rattle.c_tree.specs.Trees.{Forest}
+use Rattle.jump_meaning.specs.Code.{FunctionTree}
+use Rattle.tidy_changes.specs.Changes.{changes_of, changed, changed_times, times_changed, changed_fully}
+
+pub record ChangeLaws : Type 0 where
+  -- each change takes a variable away
+  pub fewer : (f : FunctionTree) (c : ℕ × Forest) → Contains (changes_of f) c → suc (length (changed f c).slots) ≡ length f.slots
+  -- so that they come to an end
+  pub over : (f : FunctionTree) → changes_of (changed_fully f) ≡ []
+  -- and as many variables are gone as there were changes
+  pub counted : (f : FunctionTree) (n : ℕ) → times_changed n f + length (changed_times n f).slots ≡ length f.slots

@@ -1,0 +1,4 @@
+pub mod Mentions
+pub mod Renumbered
+pub mod Changes
+pub mod Laws

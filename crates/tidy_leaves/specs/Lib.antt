@@ -1,0 +1,4 @@
+pub mod Likeness
+pub mod Tails
+pub mod Steps
+pub mod Laws

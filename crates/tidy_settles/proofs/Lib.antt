@@ -1,0 +1,13 @@
+pub mod Evaluations
+pub mod Apart
+pub mod Operations
+pub mod Expressions
+pub mod Flags
+pub mod Completions
+pub mod Statements
+pub mod Exchanges
+pub mod Running
+pub mod Calls
+pub mod KnownCalls
+pub mod Called
+pub mod SettledRuns

@@ -1,0 +1,3 @@
+pub mod Settles
+pub mod Settled
+pub mod Laws
