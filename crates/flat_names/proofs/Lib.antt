@@ -1,2 +1,3 @@
 mod Tried
 pub mod Steps
+pub mod UsedBelow

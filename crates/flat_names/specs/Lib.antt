@@ -1,2 +1,3 @@
 pub mod FlatNames
 pub mod Gathered
+pub mod Numbers

@@ -4,6 +4,7 @@
 mod constructs;
 mod giving;
 mod labels;
+mod numbers;
 mod variables;
 mod whole;
 
