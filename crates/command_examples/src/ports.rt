@@ -2,7 +2,7 @@
 
 use c_types::{Bytes, List, Memory, Name};
 use regoto::{Status, regoto};
-use rg_ports::{MemShelf, MemSink, NoInput};
+use rg_ports::{MemShelf, MemSink, MemSource};
 use std::alloc::Global;
 
 /// What a command left.
@@ -10,6 +10,7 @@ use std::alloc::Global;
 pub struct Outcome {
     pub status: Status,
     pub shelf: MemShelf,
+    pub input: MemSource,
     pub out: MemSink,
     pub err: MemSink,
 }
@@ -18,6 +19,7 @@ pub struct Outcome {
 #[derive(Clone, Copy)]
 pub struct Failing {
     pub shelf: &'static [u64],
+    pub input: &'static [u64],
     pub out: &'static [u64],
     pub err: &'static [u64],
 }
@@ -25,6 +27,7 @@ pub struct Failing {
 /// No call fails.
 pub static SOUND: Failing = Failing {
     shelf: &[],
+    input: &[],
     out: &[],
     err: &[],
 };
@@ -40,11 +43,22 @@ fn sink(alloc: Global, failing: &[u64]) -> Result<MemSink, Memory> {
     Ok(sink)
 }
 
-/// Runs a command on a shelf with the files `a.c` and `r.txt`.
+/// Runs a command on a shelf with the files `a.c` and `r.txt`, without input.
 pub fn run(
     alloc: Global,
     words: &[&str],
     source: &str,
+    failing: &Failing,
+) -> Result<Outcome, Memory> {
+    run_on(alloc, words, source, "", failing)
+}
+
+/// The same on an input.
+pub fn run_on(
+    alloc: Global,
+    words: &[&str],
+    source: &str,
+    input: &str,
     failing: &Failing,
 ) -> Result<Outcome, Memory> {
     let mut texts = Vec::new(alloc);
@@ -55,13 +69,15 @@ pub fn run(
     files.push(file(alloc, "a.c", source)?)?;
     files.push(file(alloc, "r.txt", "kept")?)?;
     let mut shelf = MemShelf::new(alloc, files, List::from_slice(alloc, failing.shelf)?)?;
-    let mut input = NoInput::new();
+    let start = Bytes::from_slice(alloc, input.as_bytes())?;
+    let mut input = MemSource::new(alloc, start, List::from_slice(alloc, failing.input)?)?;
     let mut out = sink(alloc, failing.out)?;
     let mut err = sink(alloc, failing.err)?;
     let status = regoto(alloc, &texts, &mut shelf, &mut input, &mut out, &mut err);
     Ok(Outcome {
         status,
         shelf,
+        input,
         out,
         err,
     })

@@ -142,6 +142,7 @@ fn is_undone(alloc: Global, case: &Undone, err: &'static [u64]) -> Result<bool, 
         shelf: case.shelf,
         out: case.out,
         err,
+        ..SOUND
     };
     let ran = run(alloc, case.words, case.source, &failing)?;
     let line = if err.is_empty() { case.line } else { "" };
@@ -214,7 +215,7 @@ fn helps(rt: HostRuntime) -> Result<(), Fail> {
     assert_eq!(rt; ran.status, Status::Done);
     assert_eq!(rt;
         ran.out.bytes(),
-        b"regoto restructure IN OUT [--report R]\nregoto help\nregoto show IN\nregoto moves IN\n".as_slice()
+        b"regoto restructure IN OUT [--report R]\nregoto run FILE [--steps N]\nregoto help\nregoto show IN\nregoto moves IN\n".as_slice()
     );
     assert_eq!(rt; ran.err.bytes().len(), 0);
     Ok(())

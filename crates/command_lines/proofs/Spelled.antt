@@ -11,8 +11,7 @@ model = numerals_by_value _ tells_all_ascii_digits
 
 digits : (bs : List ℕ) → spells_number bs ≡ true → (all_ascii_digits bs ≡ true) × (0 < length bs) × (length bs ≤ 18)
 digits [] h = cc
-digits (d ∷ []) h = search rules
-digits (d ∷ e ∷ ds) h = search rules
+digits (d ∷ ds) h = search rules
 
 -- what is parsed from a word that is a number
 pub parsed : {E : Type 0} (bs : List ℕ) (r : Result ℕ E) → spells_number bs ≡ true → ParsesUnsigned 64 10 bs r → result_ok r ≡ number_of bs

@@ -1,10 +1,10 @@
 -- Bytes that are written in several calls.
-use Rattle.std.proofs.Common.{◌≡◌, ℕ, zero, suc, ◌+◌, ◌≤◌, ◌<◌, Bool, true, false, List, [], ◌∷◌, ◌++◌, length, take, drop, get_or, inl, inr, refl, sym, ap, ◌∙◌, arith, add-one, append_assoc}
+use Rattle.std.proofs.Common.{◌≡◌, ℕ, ℤ, subst, zero, suc, ◌+◌, ◌≤◌, ◌<◌, Bool, true, false, List, [], ◌∷◌, ◌++◌, length, take, drop, get_or, inl, inr, refl, sym, ap, ◌∙◌, arith, add-one, append_assoc}
 use Rattle.std.specs.List.{flat_map}
 use Rattle.rg_ports.specs.Count.{Rose}
 use Rattle.rg_ports.specs.Written.{Written, more}
 use Rattle.rg_ports.proofs.WrittenLemmas.{more-more, front-first, front-then}
-use Rattle.command_lines.specs.Lines.{Writes}
+use Rattle.command_lines.specs.Lines.{Writes, Tells, ended_line}
 
 pub rose_since : (f g h : ℕ) → f ≤ g → Rose g h → Rose f h
 rose_since f g h le rose = elim rose [ inl up ↦ inl (omega arith) | inr last ↦ inr last ]
@@ -36,3 +36,12 @@ parted f (x ∷ xs) (suc i) d h =
     ap (λ r. f x ++ r) (parted f xs i d at ∙ rw add-one refl)
     ∙ sym (append_assoc (f x) (flat_map f (take i xs)) (f (get_or xs i d) ++ flat_map f (drop (suc i) xs)))
     ∙ rw add-one refl
+
+-- what was written is told, all of it or a front
+pub tells_of : (a b : Written) (f g : ℕ) (bytes : List ℕ) (done : Bool) → Writes done a b f g bytes → Tells a b f g bytes
+tells_of a b f g bytes true p = inl p
+tells_of a b f g bytes false p = inr p
+
+-- the same of a value that is read another way
+pub ended_as : (a b : Written) (f g : ℕ) (y z : ℤ) → y ≡ z → Tells a b f g (ended_line y) → Tells a b f g (ended_line z)
+ended_as a b f g y z e t = subst (λ x. Tells a b f g (ended_line x)) e t

@@ -1,12 +1,15 @@
 -- The words of a command.
 use Rattle.std.specs.Prelude.{ℕ, Bool, false, ◌&&◌, not, ◌==◌, List, [], ◌∷◌, Option, Some, None, option_map, codes, if◌then◌else◌}
 use Rattle.std.specs.Str.{bytes_eq}
+use Rattle.command_lines.specs.Numbers.{number_of}
 use Rattle.command_lines.specs.declared.words.Job.{Job}
 use Rattle.command_lines.specs.declared.words.Job.TheVariants as job
 
 pub data Command : Type 0 where
   -- the file that is read, the one that is written, and that of the report where one is asked for
   Restructure : List ℕ → List ℕ → Option (List ℕ) → Command
+  -- the file that is run, and the most steps
+  Run : List ℕ → ℕ → Command
   Help : Command
   -- the file that is read
   Show : List ℕ → Command
@@ -27,14 +30,18 @@ abbrev pub command_of : List (List ℕ) → Option Command
 command_of (word ∷ []) = if bytes_eq word (codes "help") then Some Help else None
 command_of (word ∷ from ∷ []) =
     if bytes_eq word (codes "show") && names_file from then Some (Show from)
-    else (if bytes_eq word (codes "moves") && names_file from then Some (Moves from) else None)
+    else (if bytes_eq word (codes "moves") && names_file from then Some (Moves from)
+    else (if bytes_eq word (codes "run") && names_file from then Some (Run from 10000000) else None))
 command_of (word ∷ from ∷ to ∷ []) = if bytes_eq word (codes "restructure") && names_file from && names_file to then Some (Restructure from to None) else None
+command_of (word ∷ from ∷ flag ∷ steps ∷ []) =
+    if bytes_eq word (codes "run") && names_file from && bytes_eq flag (codes "--steps") then option_map (λ n. Run from n) (number_of steps) else None
 command_of (word ∷ from ∷ to ∷ flag ∷ report ∷ []) = if asks_for_report word from to flag report then Some (Restructure from to (Some report)) else None
 command_of _ = None
 
 -- a job without where its words lie
 abbrev pub seen : Job → Command
 seen (job.Restructure from to report) = Restructure from.now to.now (option_map (λ name. name.now) report)
+seen (job.Run from steps) = Run from.now steps
 seen job.Help = Help
 seen (job.Show from) = Show from.now
 seen (job.Moves from) = Moves from.now

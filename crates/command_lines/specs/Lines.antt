@@ -1,6 +1,9 @@
 -- The one line that a command writes to the standard error.
-use Rattle.std.specs.Prelude.{◌≡◌, ℕ, ◌⊎◌, ◌==◌, ◌≤◌, Bool, true, false, List, [], ◌++◌, codes, decimal, if◌then◌else◌}
+use Rattle.std.specs.Prelude.{◌≡◌, ℕ, ℤ, ◌⊎◌, ◌==◌, ◌≤◌, Bool, true, false, List, [], ◌++◌, codes, decimal, if◌then◌else◌}
+use Rattle.std.specs.Fmt.{signed_decimal}
 use Rattle.c_types.specs.declared.refusal.Refusal.{Refusal}
+use Rattle.c_types.specs.declared.trap.Trap.{Trap}
+use Rattle.c_types.specs.Traps.{trap_number, trap_text}
 use Rattle.rg_ports.specs.Count.{Rose}
 use Rattle.rg_ports.specs.Written.{Written, more, FrontWritten}
 use Rattle.command_lines.specs.declared.lines.Summary.{Summary}
@@ -38,8 +41,10 @@ reason_text reason =
     else (if reason == 38 then codes "array handed to an external function"
     else (if reason == 39 then codes "function too tangled"
     else (if reason == 40 then codes "bad printf"
+    else (if reason == 41 then codes "no main"
+    else (if reason == 42 then codes "call of a function without body"
     else (if reason == 43 then codes "parameter without a name"
-    else [])))))))))))))))))))))))))))))
+    else [])))))))))))))))))))))))))))))))
 
 abbrev pub counts_line : ℕ → ℕ → ℕ → List ℕ
 counts_line jumps moves guards =
@@ -71,6 +76,19 @@ write_line = codes "regoto: write failed\n"
 
 abbrev pub absent_line : List ℕ → List ℕ
 absent_line file = codes "regoto: no file " ++ file ++ codes "\n"
+
+-- how a program that was run ended
+abbrev pub ended_line : ℤ → List ℕ
+ended_line value = codes "regoto: ended with " ++ signed_decimal value ++ codes "\n"
+
+abbrev pub numbered_line : ℕ → List ℕ → List ℕ
+numbered_line number text = codes "regoto: trap " ++ (decimal number ++ (codes ": " ++ (text ++ codes "\n")))
+
+abbrev pub trap_line : Trap → List ℕ
+trap_line trap = numbered_line (trap_number trap) (trap_text trap)
+
+abbrev pub spent_line : ℕ → List ℕ
+spent_line steps = codes "regoto: stopped after " ++ decimal steps ++ codes " steps\n"
 
 -- All the bytes were written, and the count of faults did not fall.
 pub record Wrote (old new : Written) (faults faults' : ℕ) (bytes : List ℕ) : Type 0 where

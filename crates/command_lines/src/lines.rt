@@ -30,7 +30,7 @@ fn put_line_end<E: Sink>(err: &mut E, text: &str) -> bool
 }
 
 /// Writes the pieces one after another, as far as they are taken.
-fn write_pieces<E: Sink>(err: &mut E, pieces: &[&str]) -> bool
+pub fn write_pieces<E: Sink>(err: &mut E, pieces: &[&str]) -> bool
     ensures { Writes result (E.written err.old) (E.written err.new) (E.faults err.old) (E.faults err.new) (flat_map (λ piece. piece.now) pieces.now) }
 {
     for piece in pieces {
@@ -112,6 +112,8 @@ fn reason_text(reason: u32) -> &'static str
         38 => "array handed to an external function",
         39 => "function too tangled",
         40 => "bad printf",
+        41 => "no main",
+        42 => "call of a function without body",
         43 => "parameter without a name",
         _ => "",
     }

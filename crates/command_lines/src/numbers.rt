@@ -17,12 +17,11 @@ fn spells_number(bytes: &[u8]) -> bool
 {
     match bytes {
         [] => false,
-        [b'0', _, ..] => false,
         digits => digits.len() <= 18 && are_digits(digits),
     }
 }
 
-/// The number that a word spells by 1 to 18 decimal digits, without a leading zero.
+/// The number that a word spells by 1 to 18 decimal digits.
 pub fn number(word: &str) -> Option<u64>
     ensures { result ≡ number_of word.now }
 {

@@ -1,11 +1,18 @@
 ghost use Rattle.std.specs.Prelude.{◌≡◌, map, option_map, string_bytes, [], ◌∷◌};
 ghost use Rattle.command_lines.specs.Command.{names_file, asks_for_report, command_of, seen};
 
+use crate::numbers::number;
+
+/// How many steps a program makes at most where no number is given.
+pub const STEPS: u64 = 10000000;
+
 /// What the words of a command ask for (docs/COMMANDS.md).
 #[derive(Clone, Copy, Debug, PartialEq, Eq)]
 pub enum Job<'a> {
     /// Restructure the first file, write the second, and the report of the moves to the third if there is one.
     Restructure(&'a str, &'a str, Option<&'a str>),
+    /// Run `main` of the file for at most so many steps.
+    Run(&'a str, u64),
     /// Write the list of commands.
     Help,
     /// Restructure the file, and write the text to the standard output.
@@ -36,8 +43,14 @@ pub fn command<'a>(words: &'a [String]) -> Option<Job<'a>>
                 None
             }
         }
-        [word, from] => shown_job(word.as_str(), from.as_str()),
+        [word, from] => file_job(word.as_str(), from.as_str()),
         [word, from, to] => restructure_job(word.as_str(), from.as_str(), to.as_str()),
+        [word, from, flag, steps] => steps_job(
+            word.as_str(),
+            from.as_str(),
+            flag.as_str(),
+            steps.as_str(),
+        ),
         [word, from, to, flag, report] => report_job(
             word.as_str(),
             from.as_str(),
@@ -46,18 +59,32 @@ pub fn command<'a>(words: &'a [String]) -> Option<Job<'a>>
             report.as_str(),
         ),
         [] => None,
-        [_, _, _, _] => None,
         [_, _, _, _, _, _, ..] => None,
     }
 }
 
-fn shown_job<'a>(word: &str, from: &'a str) -> Option<Job<'a>>
+fn file_job<'a>(word: &str, from: &'a str) -> Option<Job<'a>>
     ensures { option_map seen result ≡ command_of (word.now ∷ from.now ∷ []) }
 {
     if word == "show" && names_a_file(from) {
         Some(Job::Show(from))
     } else if word == "moves" && names_a_file(from) {
         Some(Job::Moves(from))
+    } else if word == "run" && names_a_file(from) {
+        Some(Job::Run(from, STEPS))
+    } else {
+        None
+    }
+}
+
+fn steps_job<'a>(word: &str, from: &'a str, flag: &str, steps: &str) -> Option<Job<'a>>
+    ensures { option_map seen result ≡ command_of (word.now ∷ from.now ∷ flag.now ∷ steps.now ∷ []) }
+{
+    if word == "run" && names_a_file(from) && flag == "--steps" {
+        match number(steps) {
+            Some(steps) => Some(Job::Run(from, steps)),
+            None => None,
+        }
     } else {
         None
     }

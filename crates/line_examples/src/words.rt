@@ -3,7 +3,7 @@
 use command_lines::{Job, command, number};
 use std::test::Fail;
 
-static COMMANDS: [(&[&str], Option<Job<'static>>); 14] = [
+static COMMANDS: [(&[&str], Option<Job<'static>>); 20] = [
     (&[], None),
     (&["help"], Some(Job::Help)),
     (&["help", "show"], None),
@@ -23,7 +23,16 @@ static COMMANDS: [(&[&str], Option<Job<'static>>); 14] = [
     ),
     (&["restructure", "a.c", "b.c", "--report", "b.c"], None),
     (&["restructure", "a.c", "b.c", "--report=r.txt"], None),
-    (&["run", "a.c"], None),
+    (&["run", "a.c"], Some(Job::Run("a.c", 10000000))),
+    (&["run", "a.c", "--steps", "0"], Some(Job::Run("a.c", 0))),
+    (
+        &["run", "a.c", "--steps", "0070"],
+        Some(Job::Run("a.c", 70)),
+    ),
+    (&["run", "a.c", "--steps", "-1"], None),
+    (&["run", "a.c", "--steps=5"], None),
+    (&["run", "a.c", "--steps"], None),
+    (&["demo", "2"], None),
 ];
 
 #[test]
@@ -38,17 +47,18 @@ fn words_ask_for_a_job(rt: HostRuntime) -> Result<(), Fail> {
     Ok(())
 }
 
-static NUMBERS: [(&str, Option<u64>); 11] = [
+static NUMBERS: [(&str, Option<u64>); 12] = [
     ("0", Some(0)),
     ("7", Some(7)),
     ("2000", Some(2000)),
     ("100000000", Some(100000000)),
     ("999999999999999999", Some(999999999999999999)),
     ("1000000000000000000", None),
+    ("0000000000000000001", None),
     ("", None),
     ("+1", None),
     ("-1", None),
-    ("01", None),
+    ("01", Some(1)),
     ("1 ", None),
 ];
 

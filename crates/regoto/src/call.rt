@@ -1,14 +1,17 @@
 ghost use Rattle.std.specs.Prelude.{◌≡◌, ◌↔◌, ℕ, List, Option, map, string_bytes, Some, None};
 ghost use Rattle.command_lines.specs.Lines.{Tells, usage_line};
-ghost use Rattle.command_lines.specs.Command.{Restructure, Help, Show, Moves, command_of};
+ghost use Rattle.command_lines.specs.Command.{Restructure, Run, Help, Show, Moves, command_of};
 ghost use Rattle.command_lines.specs.Help.{Helps};
+ghost use Rattle.text_runs.specs.Texts.{RunsText, CompletesText};
 ghost use Rattle.regoto.specs.Restructure.{Restructures, ShowsRestructured, Completes};
 
 use crate::restructurer::Restructurer;
 use command_lines::{Job, Status, command, tell, write_help};
 use file_commands::{Part, Targets, show, write};
 use rg_ports::{Shelf, Sink, Source};
+use run_commands::run_file;
 use std::alloc::Global;
+use text_runs::TextReader;
 
 /// Carries out the command that the words after the program's name are, through these ports.
 /// docs/COMMANDS.md lists the words, the statuses and the lines on `err`.
@@ -56,7 +59,19 @@ pub fn regoto<H: Shelf, I: Source, O: Sink, E: Sink>(
     ensures complete_moves { (from : List ℕ) → command_of (map string_bytes words.now) ≡ Some (Moves from)
         → Completes from (H.held shelf.old) (H.read_faults shelf.old) (H.read_faults shelf.new) (O.faults out.old) (O.faults out.new) result }
 
-    ensures input { input.new ≡ input.old }
+    ensures run { (from : List ℕ) (steps : ℕ) → command_of (map string_bytes words.now) ≡ Some (Run from steps)
+        → (H.held shelf.new ≡ H.held shelf.old) × (H.write_faults shelf.new ≡ H.write_faults shelf.old)
+        × RunsText (λ line. Tells (E.written err.old) (E.written err.new) (E.faults err.old) (E.faults err.new) line) from steps
+        (H.held shelf.old) (H.read_faults shelf.old) (H.read_faults shelf.new)
+        ((input.new ≡ input.old) × (out.new ≡ out.old)) (I.rest input.old) (I.rest input.new) (I.faults input.old) (I.faults input.new)
+        (O.written out.old) (O.written out.new) (O.faults out.old) (O.faults out.new) result }
+
+    ensures complete_run { (from : List ℕ) (steps : ℕ) → command_of (map string_bytes words.now) ≡ Some (Run from steps)
+        → CompletesText from steps (H.held shelf.old) (H.read_faults shelf.old) (H.read_faults shelf.new)
+        (I.rest input.old) (I.faults input.old) (I.faults input.new) (O.faults out.old) (O.faults out.new) result }
+
+    // Every other command leaves the input untouched.
+    ensures input { ((from : List ℕ) (steps : ℕ) → ¬ (command_of (map string_bytes words.now) ≡ Some (Run from steps))) → input.new ≡ input.old }
 {
     match command(words) {
         None => {
@@ -72,6 +87,9 @@ pub fn regoto<H: Shelf, I: Source, O: Sink, E: Sink>(
                 shelf,
                 err,
             )
+        }
+        Some(Job::Run(from, steps)) => {
+            run_file(alloc, &TextReader, from, steps, shelf, input, out, err)
         }
         Some(Job::Help) => write_help(out, err),
         Some(Job::Show(from)) => show(alloc, &Restructurer, from, Part::Text, shelf, out, err),

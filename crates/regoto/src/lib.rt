@@ -5,5 +5,6 @@ mod call;
 mod restructurer;
 
 pub use call::regoto;
-pub use command_lines::{Job, Status, command};
+pub use command_lines::{Job, STEPS, Status, command};
 pub use file_commands::MOST_BYTES;
+pub use run_commands::MOST_RUN_BYTES;

@@ -1,6 +1,6 @@
-use Rattle.std.proofs.Common.{◌≡◌, Option, Some, List, ℕ, option_map, refl, ◌∙◌}
+use Rattle.std.proofs.Common.{◌≡◌, Option, Some, List, ℕ, option_map, refl, sym, ◌∙◌}
 use Rattle.std.specs.Borrow.{Bor}
-use Rattle.command_lines.specs.Command.{Command, Restructure, Show, Moves}
+use Rattle.command_lines.specs.Command.{Command, Restructure, Run, Show, Moves}
 use Rattle.regoto.proofs.call.regoto.Goals as goal
 
 pub returns-in-Some-Restructure-clause-restructure : goal.returns-in-Some-Restructure-clause-restructure
@@ -26,3 +26,24 @@ returns-in-Some-Moves-clause-moves g c = λ from e.
     let same : ◌≡◌ {A = Option Command} (Some (Moves c.in-Some-Moves.from.now)) (Some (Moves from)) = words ∙ e in
     let same_from : c.in-Some-Moves.from.now ≡ from = cc in
     (c.show-in-Some-Moves.ensures.kept, c.show-in-Some-Moves.ensures.writes, rw (← same_from) c.show-in-Some-Moves.ensures.shows)
+
+pub returns-in-Some-Run-clause-run : goal.returns-in-Some-Run-clause-run
+returns-in-Some-Run-clause-run g c = λ from steps e.
+    let words = rw c.in-Some-Run.field-0-is at c.in-Some-Run.ensures in
+    let same : ◌≡◌ {A = Option Command} (Some (Run c.in-Some-Run.from.now c.in-Some-Run.steps)) (Some (Run from steps)) = words ∙ e in
+    let same_from : c.in-Some-Run.from.now ≡ from = cc in
+    let same_steps : c.in-Some-Run.steps ≡ steps = cc in
+    (c.run_file.ensures.kept, c.run_file.ensures.writes, rw (← same_from, ← same_steps) c.run_file.ensures.runs)
+
+pub returns-in-Some-Run-clause-complete_run : goal.returns-in-Some-Run-clause-complete_run
+returns-in-Some-Run-clause-complete_run g c = λ from steps e.
+    let words = rw c.in-Some-Run.field-0-is at c.in-Some-Run.ensures in
+    let same : ◌≡◌ {A = Option Command} (Some (Run c.in-Some-Run.from.now c.in-Some-Run.steps)) (Some (Run from steps)) = words ∙ e in
+    let same_from : c.in-Some-Run.from.now ≡ from = cc in
+    let same_steps : c.in-Some-Run.steps ≡ steps = cc in
+    rw (← same_from, ← same_steps) c.run_file.ensures.completes
+
+pub returns-in-Some-Run-clause-input : goal.returns-in-Some-Run-clause-input
+returns-in-Some-Run-clause-input g c = λ other.
+    let words = rw c.in-Some-Run.field-0-is at c.in-Some-Run.ensures in
+    absurd (other c.in-Some-Run.from.now c.in-Some-Run.steps (sym words))
