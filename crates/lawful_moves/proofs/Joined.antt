@@ -1,0 +1,218 @@
+-- Each join takes one Leap, and no other move takes or adds one.
+use Rattle.std.proofs.Common.{inl, inr, ◌≡◌, ℕ, ◌+◌, Bool, true, false, eqb, cond, List, [], ◌∷◌, Option, Some, None, refl, sym, ap, subst, ◌∙◌, arith}
+use Rattle.std.specs.Prelude.{sum_by}
+use Rattle.std.proofs.lemmas.List.Sums.{sum_by-append}
+use Rattle.c_tree.specs.declared.tree.Item.{Item}
+use Rattle.c_tree.specs.declared.tree.Function.{Function}
+use Rattle.c_tree.specs.declared.tree.Path.{Path}
+use Rattle.c_tree.specs.declared.tree.Top.{Top}
+use Rattle.c_tree.specs.declared.tree.Top.TheVariants as T
+use Rattle.c_tree.specs.InRange.{body_of}
+use Rattle.c_tree.specs.Trees.{Tree, Forest, Nil, Then, Sections, NoSection, Section, Evaluate, Return, If, While, Do, For, Switch, Block, Local, Break, Continue, Goto, Mark, Arm, Leap, Land, Arrival, Note, trees_of}
+use Rattle.c_tree.specs.Everywhere.{total_of, total_in, Everywhere, EverywhereOf, EverywhereIn}
+use Rattle.simpler_core.proofs.Kept.{IsStable, simplified_kept}
+use Rattle.unread_guards.proofs.DroppedItems.{Becomes, becomes}
+use Rattle.move_core.specs.Bodies.{with_body}
+use Rattle.plain_core.specs.Laws.{IsNoLeap}
+use Rattle.move_records.specs.declared.moves.Move.{Move}
+use Rattle.move_records.specs.declared.moves.MoveKind.{MoveKind}
+use Rattle.move_records.specs.declared.moves.MoveKind.TheVariants.{Out, Lift, Inward}
+use Rattle.derivation.specs.Counts.{is_join}
+use Rattle.derivation.specs.Leaps.{leap_of, leaps}
+use Rattle.derivation.specs.Next.{Point, MovesBy}
+use Rattle.derivation.proofs.LeapsLeft.{one_fewer, same_leaps}
+use Rattle.derived_functions.specs.Counts.{joined}
+use Rattle.body_moves.specs.Moving.{MovesTo}
+use Rattle.body_simplify.specs.Lawful.{IsMadeIn}
+use Rattle.guard_simplify.specs.declared.choice.Choice.{Choice}
+use Rattle.guard_simplify.specs.Choice.{Among, barred, choices}
+use Rattle.guard_simplify.proofs.Members.{located}
+use Rattle.whole_core.proofs.BodiesKept.{IsSimplified, chosen_simplified}
+use Rattle.whole_core.proofs.Flattened.{body_is}
+use Rattle.lawful_moves.specs.Lawful as L
+use Rattle.lawful_moves.specs.Lawful.{IsLeapMoved, IsSimplifiedBy, IsMovedBy, OneMoved, Moves, none, more}
+use Rattle.lawful_moves.specs.Replayed.{top_leaps}
+use Rattle.lawful_moves.proofs.Bodies.{IsChanged}
+
+-- ---- no Leap
+
+mutual
+  pub no_leap : (a : Forest) → leaps a ≡ 0 → Everywhere IsNoLeap a
+  no_leap Nil h = tt
+  no_leap (Then x a) h = (no_leap_of x (omega (arith, h)), no_leap a (omega (arith, h)))
+
+  no_leap_of : (x : Tree) → total_of leap_of x ≡ 0 → EverywhereOf IsNoLeap x
+  no_leap_of (If t a b) h = (tt, no_leap a (omega (arith, h)), no_leap b (omega (arith, h)))
+  no_leap_of (While t a) h = (tt, no_leap a (omega (arith, h)))
+  no_leap_of (Do a t) h = (tt, no_leap a (omega (arith, h)))
+  no_leap_of (For first t u a) h = (tt, no_leap first (omega (arith, h)), no_leap a (omega (arith, h)))
+  no_leap_of (Switch s c) h = (tt, no_leap_in c (omega (arith, h)))
+  no_leap_of (Block a) h = (tt, no_leap a (omega (arith, h)))
+  no_leap_of (Leap l) h = absurd (omega (arith, h))
+  no_leap_of (Evaluate e) h = tt
+  no_leap_of (Return e) h = tt
+  no_leap_of (Local x e) h = tt
+  no_leap_of Break h = tt
+  no_leap_of Continue h = tt
+  no_leap_of (Goto l) h = tt
+  no_leap_of (Mark l) h = tt
+  no_leap_of (Arm l e) h = tt
+  no_leap_of (Land l) h = tt
+  no_leap_of (Arrival e) h = tt
+  no_leap_of (Note bs) h = tt
+
+  no_leap_in : (c : Sections) → total_in leap_of c ≡ 0 → EverywhereIn IsNoLeap c
+  no_leap_in NoSection h = tt
+  no_leap_in (Section cases default a ends c) h = (no_leap a (omega (arith, h)), no_leap_in c (omega (arith, h)))
+
+mutual
+  none_counted : (a : Forest) → Everywhere IsNoLeap a → leaps a ≡ 0
+  none_counted Nil h = refl
+  none_counted (Then x a) h = let i = none_counted_of x h.0 in let j = none_counted a h.1 in omega (arith, i, j)
+
+  none_counted_of : (x : Tree) → EverywhereOf IsNoLeap x → total_of leap_of x ≡ 0
+  none_counted_of (If t a b) h = let i = none_counted a h.1 in let j = none_counted b h.2 in omega (arith, i, j)
+  none_counted_of (While t a) h = let i = none_counted a h.1 in omega (arith, i)
+  none_counted_of (Do a t) h = let i = none_counted a h.1 in omega (arith, i)
+  none_counted_of (For first t u a) h = let i = none_counted first h.1 in let j = none_counted a h.2 in omega (arith, i, j)
+  none_counted_of (Switch s c) h = let i = none_counted_in c h.1 in omega (arith, i)
+  none_counted_of (Block a) h = let i = none_counted a h.1 in omega (arith, i)
+  none_counted_of (Leap l) h = absurd h
+  none_counted_of (Evaluate e) h = refl
+  none_counted_of (Return e) h = refl
+  none_counted_of (Local x e) h = refl
+  none_counted_of Break h = refl
+  none_counted_of Continue h = refl
+  none_counted_of (Goto l) h = refl
+  none_counted_of (Mark l) h = refl
+  none_counted_of (Arm l e) h = refl
+  none_counted_of (Land l) h = refl
+  none_counted_of (Arrival e) h = refl
+  none_counted_of (Note bs) h = refl
+
+  none_counted_in : (c : Sections) → EverywhereIn IsNoLeap c → total_in leap_of c ≡ 0
+  none_counted_in NoSection h = refl
+  none_counted_in (Section cases default a ends c) h = let i = none_counted a h.0 in let j = none_counted_in c h.1 in omega (arith, i, j)
+
+leapless_stable : IsStable IsNoLeap
+leapless_stable = record {
+  ifs = λ t a b a' b' e h. tt;
+  whiles = λ t a a' n h. tt;
+  dos = λ t a a' n h. tt;
+  fors = λ first t u a a' n h. tt;
+  switches = λ s c d e h. tt;
+  blocks = λ a a' h. tt;
+  if_tests = λ a b r h. tt;
+  while_tests = λ a r h. tt;
+  do_tests = λ a r h. tt;
+  selectors = λ c r h. tt;
+  nests = λ t u a o h j. tt;
+}
+
+leapless_become : (d : ℕ → Bool) → Becomes d IsNoLeap IsNoLeap
+leapless_become d = record {
+  arm = λ l e i h. h;
+  arm_if = λ l e i h. tt;
+  land = λ l i h. tt;
+  ifs = λ t a b h. tt;
+  whiles = λ t a h. tt;
+  dos = λ t a h. tt;
+  fors = λ first t u a h. tt;
+  switches = λ s c h. tt;
+  blocks = λ a h. tt;
+  others = λ x o h. h;
+}
+
+simplified_leapless : (old new : List Item) → IsSimplified old new → Everywhere IsNoLeap (trees_of old) → Everywhere IsNoLeap (trees_of new)
+simplified_leapless old new s h = elim s.either [
+  | inl r ↦ simplified_kept IsNoLeap leapless_stable r h
+  | inr d ↦ subst (Everywhere IsNoLeap) (sym d.1) (becomes (eqb d.0) IsNoLeap IsNoLeap (leapless_become (eqb d.0)) (trees_of old) h)
+]
+
+-- a simplification leaves none
+pub still_leapless : (name : List ℕ) (labels : List (List ℕ)) (m : Move) (old new : List Item) → leaps (trees_of old) ≡ 0 → IsMadeIn name labels m old new → leaps (trees_of new) ≡ 0
+still_leapless name labels m old new z h = none_counted (trees_of new) (simplified_leapless old new (chosen_simplified h.choice old new h.named.among h.applied) (no_leap (trees_of old) z))
+
+-- ---- one move
+
+abbrev pub one : MoveKind → ℕ
+one k = cond (is_join k) 1 0
+
+moved_none : (k : MoveKind) (l : ℕ) (p q : Point) → MovesBy k l p q → one k ≡ 0
+moved_none Out l p q h = refl
+moved_none Lift l p q h = refl
+moved_none Inward l p q h = refl
+moved_none _ l p q h = absurd h
+
+to_leaps : (to : Option Path) (k : MoveKind) (l : ℕ) (p : Point) (new : List Item) → MovesTo to k l p new → one k + leaps (trees_of new) ≡ leaps (trees_of p.body)
+to_leaps None k l p new h = let e : one k ≡ 1 = ap one h.0 in let f = one_fewer l p new h.1 in omega (arith, e, f)
+to_leaps (Some to) k l p new h =
+    let q : Point = record { body = new; at = to } in
+    let e = moved_none k l p q h in
+    let f = same_leaps k l p q h in
+    omega (arith, e, f)
+
+no_join : (c : Choice) (body : List Item) → Among c (choices (trees_of body)) → is_join c.kind ≡ false
+no_join c body h =
+    let l = located (λ l. barred l (trees_of body)) c.path.steps body c refl h in
+    elim l.shape [
+      | inl a ↦ ap is_join a.0
+      | inr s ↦ elim s [
+        | inl a ↦ ap is_join a.0
+        | inr s ↦ elim s [
+          | inl a ↦ ap is_join a.0
+          | inr s ↦ elim s [
+            | inl a ↦ ap is_join a.0
+            | inr a ↦ ap is_join a.0
+          ]
+        ]
+      ]
+    ]
+
+pub body_leaps : (name : List ℕ) (labels : List (List ℕ)) (m : Move) (old new : List Item) → IsChanged name labels m old new → one m.kind + leaps (trees_of new) ≡ leaps (trees_of old)
+body_leaps name labels m old new h = elim h [
+  | inl j ↦ to_leaps j.to m.kind j.label (record { body = old; at = m.path }) new j.moves.moves
+  | inr z ↦
+      let e : one m.kind ≡ 0 = ap one (sym z.made.named.kind) ∙ ap (λ b. cond {A = ℕ} b 1 0) (no_join z.made.choice old z.made.named.among) in
+      let f = still_leapless name labels m old new z.leapless z.made in
+      let g = z.leapless in
+      omega (arith, e, f, g)
+]
+
+flat_leaps : (f : Function) (a : List Item) → f.flat ≡ true → f.body ≡ Some a → top_leaps (T.Function f) ≡ leaps (trees_of a)
+flat_leaps f a e i = ap (λ b. cond b (leaps (body_of f)) 0) e ∙ ap leaps (body_is f a i)
+
+function_leaps : (m : Move) (f g : Function) → IsMovedBy m f g → one m.kind + top_leaps (T.Function g) ≡ top_leaps (T.Function f)
+function_leaps m f g h =
+    let e = body_leaps f.name f.labels m h.body h.new h.made in
+    let a = flat_leaps f h.body h.flat h.body_is in
+    let b = ap (λ (z : Function). top_leaps (T.Function z)) h.result ∙ flat_leaps (with_body f h.new) h.new h.flat refl in
+    omega (arith, e, a, b)
+
+-- ---- of a program
+
+tops_more : (t : Top) (ts : List Top) → sum_by top_leaps (t ∷ ts) ≡ top_leaps t + sum_by top_leaps ts
+tops_more t ts = let a = sum_by-append top_leaps (t ∷ []) ts in omega (arith, a)
+
+joined-more : (m : Move) (ms : List Move) → joined (m ∷ ms) ≡ one m.kind + joined ms
+joined-more m ms = let a = sum_by-append (λ (m : Move). one m.kind) (m ∷ []) ms in omega (arith, a)
+
+tops_leaps : {m : Move} {ts us : List Top} → OneMoved m ts us → one m.kind + sum_by top_leaps us ≡ sum_by top_leaps ts
+tops_leaps {m = m} (L.this_function {f = f} {g = g} ts h) =
+    let a = tops_more (T.Function f) ts in
+    let b = tops_more (T.Function g) ts in
+    let e = function_leaps m f g h in
+    omega (arith, a, b, e)
+tops_leaps (L.later_function t {ts = ts} {us = us} o h) =
+    let a = tops_more t ts in
+    let b = tops_more t us in
+    let e = tops_leaps h in
+    omega (arith, a, b, e)
+
+pub joins : {ts us : List Top} {ms : List Move} → Moves ts ms us → joined ms + sum_by top_leaps us ≡ sum_by top_leaps ts
+joins none = omega arith
+joins (more {m = m} {ms = ms} h r) =
+    let a = joined-more m ms in
+    let b = tops_leaps h in
+    let c = joins r in
+    omega (arith, a, b, c)

@@ -1,0 +1,19 @@
+use Rattle.lawful_moves.specs.Lawful.{none}
+use Rattle.lawful_steps.proofs.Making.{got, one_more}
+use Rattle.lawful_steps.proofs.all_moves.make_moves.Goals as goal
+
+pub loop-i-init : goal.loop-i-init
+loop-i-init c = (none, c.requires)
+
+pub returns-then-not-branch-clause-stopped : goal.returns-then-not-branch-clause-stopped
+returns-then-not-branch-clause-stopped c = record {
+  move = c.index-moves-i.result;
+  reached = c.loop-i.tops;
+  moved = c.loop-i.invariant.0;
+  next = got c.args.moves.now c.loop-i.i c.index-moves-i.result c.loop-i-test.true c.index-moves-i.is;
+  unlawful = λ w. c.in_ok-make_move.ensures.no c.if-not-branch.true w.after w.moved;
+}
+
+pub loop-i-preserved : goal.loop-i-preserved
+loop-i-preserved c =
+    one_more c.args.tops.now c.loop-i.tops c.make_move.new.tops c.args.moves.now c.loop-i.i c.index-moves-i.result (got c.args.moves.now c.loop-i.i c.index-moves-i.result c.loop-i-test.true c.index-moves-i.is) c.loop-i.invariant (c.in_ok-make_move.ensures.yes c.if-not-branch.false)
