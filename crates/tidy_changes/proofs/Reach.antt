@@ -91,7 +91,7 @@ without_length (suc g) (s ∷ ss) h = ap suc (without_length g ss (let i : suc g
 pub fewer : (f : FunctionTree) (c : ℕ × Forest) → Contains (changes_of f) c → suc (length (changed f c).slots) ≡ length f.slots
 fewer f c k = without_length c.0 f.slots (in_reach f c k).1
 
-first_among : {A : Type 0} (c : A) (cs : List A) → Contains (c ∷ cs) c
+pub first_among : {A : Type 0} (c : A) (cs : List A) → Contains (c ∷ cs) c
 first_among c cs = (0, (let i : 0 < suc (length cs) = omega arith in i), refl)
 
 -- ---- changes one after another
@@ -134,5 +134,9 @@ counted_after (suc n) f = at (changes_of f) refl (counted_after n)
 pub counted : (f : FunctionTree) (n : ℕ) → times_changed n f + length (changed_times n f).slots ≡ length f.slots
 counted f n = counted_after n f
 
+last_of : (n : ℕ) (f : FunctionTree) → changed_times (suc n) f ≡ changed_once (changed_times n f)
+last_of zero f = refl
+last_of (suc n) f = last_of n (changed_once f)
+
 pub change_law : ChangeLaws
-change_law = record { fewer = fewer; over = over; counted = counted }
+change_law = record { fewer = fewer; over = over; counted = counted; last = λ f n. last_of n f }

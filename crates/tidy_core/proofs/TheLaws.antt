@@ -25,17 +25,19 @@ use Rattle.tidy_leaves.proofs.Statements.{likes_itself}
 use Rattle.tidy_leaves.proofs.Programs.{leaving_law}
 use Rattle.tidy_changes.specs.Mentions.{list_lacks}
 use Rattle.tidy_changes.specs.Renumbered.{without, renumbered_list}
-use Rattle.tidy_changes.specs.Changes.{is_flag, declares, undeclared, changes, changes_of, changed}
+use Rattle.tidy_changes.specs.Changes.{is_flag, declares, undeclared, changes, changes_of, changed, changed_first, changed_once}
 use Rattle.tidy_core.specs.Laws.{HasKinds, IsChanged, IsChangedCode, BehaveAlike, TidyLaws}
 use Rattle.tidy_settles.proofs.Expressions.{both}
 use Rattle.tidy_settles.specs.Settles.{Items}
 use Rattle.tidy_settles.specs.Settled.{SettledBody, SettledFunction, SettledCode}
 use Rattle.tidy_settles.proofs.SettledRuns.{settled_law}
+use Rattle.tidy_core.proofs.Programs.{program_kinds}
+use Rattle.tidy_core.proofs.ChangedPrograms.{programs_changed}
 use Rattle.tidy_core.proofs.Unnamed.{items_free}
 use Rattle.tidy_core.proofs.Tailed.{plain_items}
 use Rattle.tidy_core.proofs.ChangedLists.{Makes}
 use Rattle.tidy_core.proofs.Changing.{lists_made}
-use Rattle.tidy_changes.proofs.Reach.{of_change, no_element, in_reach}
+use Rattle.tidy_changes.proofs.Reach.{of_change, no_element, in_reach, first_among}
 
 -- ---- slots
 
@@ -234,5 +236,12 @@ tidied_alike p h =
 sections : (n : ℕ) (p : ℕ → Code) → ((i : ℕ) → i < n → HasKinds (p i)) → ((i : ℕ) → i < n → IsChangedCode (p i) (p (suc i))) → IsCodeStructured (p n) → BehaveAlike (p 0) (tidy_code (p n))
 sections n p h k s = then_alike (p 0) (p n) (tidy_code (p n)) (several n p h k) (tidied_alike (p n) s)
 
+first_change : (f : FunctionTree) → IsChanged f (changed_once f)
+first_change f = at (changes_of f) refl
+  where
+    at : (cs : List (ℕ × Forest)) → changes_of f ≡ cs → IsChanged f (changed_first f (changes_of f))
+    at [] e = inl (ap (changed_first f) e)
+    at (c ∷ cs) e = inr (c, subst (λ ds. Contains ds c) (sym e) (first_among c cs), ap (changed_first f) e)
+
 pub tidy_law : TidyLaws
-tidy_law = record { changes = alike; several = several; sections = sections }
+tidy_law = record { first = first_change; kinds = program_kinds; programs = programs_changed; changes = alike; several = several; sections = sections }

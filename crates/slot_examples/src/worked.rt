@@ -1,0 +1,60 @@
+use c_tree::{Expression, Home, Item, Node, Place, Test};
+use c_types::{Boxed, IntKind, List, Memory};
+use slot_mentions::{item_names, items_name, list_names, names, test_names};
+use slot_removal::{
+    expression_without, list_without, new_number, option_without, test_without, values_without,
+};
+use std::alloc::Global;
+use std::test::Fail;
+
+fn expression(node: Node) -> Expression {
+    Expression {
+        kind: Some(IntKind::Int),
+        node,
+    }
+}
+
+fn read(slot: u32) -> Expression {
+    expression(Node::Read(Place::Var(Home::Slot(slot))))
+}
+
+/// `to = from;`
+fn assigned(alloc: Global, to: u32, from: u32) -> Result<Item, Memory> {
+    let from = Boxed::new(alloc, read(from))?;
+    Ok(Item::Evaluate(expression(Node::Assign(Place::Var(Home::Slot(to)), from))))
+}
+
+/// A loop that assigns one slot to another while that one isn't 0, and the declaration of that one.
+fn body(alloc: Global, to: u32, from: u32) -> Result<List<Item>, Memory> {
+    let mut inner = List::new(alloc);
+    inner.push(assigned(alloc, to, from)?)?;
+    let mut list = List::new(alloc);
+    list.push(Item::While(Test::Source(read(to)), inner))?;
+    list.push(Item::Local(to, None))?;
+    Ok(list)
+}
+
+#[test]
+fn slots_are_named(rt: HostRuntime) -> Result<(), Fail> {
+    let list = body(rt.alloc(), 2, 0)?;
+    assert!(rt; list_names(0, &list));
+    assert!(rt; !list_names(1, &list));
+    assert!(rt; items_name(2, list.as_slice()));
+    assert!(rt; item_names(2, &Item::Local(2, None)));
+    assert!(rt; names(3, &read(3)));
+    assert!(rt; !test_names(3, &Test::Source(read(2))));
+    Ok(())
+}
+
+#[test]
+fn later_slots_have_one_number_less(rt: HostRuntime) -> Result<(), Fail> {
+    let list = body(rt.alloc(), 2, 0)?;
+    let without = list_without(rt.alloc(), 1, &list)?;
+    assert!(rt; without == body(rt.alloc(), 1, 0)?);
+    assert_eq!(rt; new_number(1, 5), 4);
+    assert!(rt; expression_without(rt.alloc(), 1, &read(2))? == read(1));
+    assert!(rt; option_without(rt.alloc(), 1, &Some(read(2)))? == Some(read(1)));
+    assert!(rt; test_without(rt.alloc(), 1, &Test::Source(read(2)))? == Test::Source(read(1)));
+    assert!(rt; values_without(rt.alloc(), 1, &None)? == None);
+    Ok(())
+}
