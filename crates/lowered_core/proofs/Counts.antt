@@ -1,0 +1,247 @@
+-- How often a label stands in a flat list: no more often than the source, the constructs and the Arrivals have it.
+use Rattle.std.proofs.Common.{ℕ, zero, suc, ◌+◌, ◌-◌, ◌≤◌, ℤ, Bool, true, false, eqb, List, [], ◌∷◌, ◌++◌, length, Option, Some, None, ◌≡◌, refl, arith}
+use Rattle.std.specs.Option.{option_map_or}
+use Rattle.c_types.specs.declared.kinds.IntKind.{IntKind}
+use Rattle.c_tree.specs.ExpressionTrees.{ExpressionTree}
+use Rattle.c_tree.specs.Cases.{case_number}
+use Rattle.c_tree.specs.TestTrees.{TestTree, Source}
+use Rattle.c_tree.specs.Everywhere.{total, total_of, total_in}
+use Rattle.c_tree.specs.Exits.{breaks, continues}
+use Rattle.c_tree.specs.Trees.{Tree, Forest, Nil, Then, Sections, NoSection, Section, Evaluate, Return, If, While, Do, For, Switch, Block, Local, Break, Continue, Goto, Mark, Arm, Leap, Land, Arrival, Note, join}
+use Rattle.c_tree.specs.Changed.{one}
+use Rattle.jump_meaning.specs.Code.{entry_or}
+use Rattle.jump_meaning.specs.World.{no_slot}
+use Rattle.jump_meaning.specs.Step.{switch_kind}
+use Rattle.loose_core.specs.Pieces.{Aim, Stays, Becomes, Absent, mark_of, third_items, with_third, Names, case_marks, assigned_cells, is_number, test_for, tests_for, tests, tests_in, tests_among}
+use Rattle.loose_core.specs.Placed.{places}
+use Rattle.loose_core.specs.Loose.{Arrivals, NoArrival, Arrives}
+use Rattle.flat_core.specs.Parts.{arrivals, arrivals_in, leaves, section_labels, switch_labels, Here}
+use Rattle.flat_core.specs.FlatForm.{names_of, scatter_aim, otherwise_label, exit, end_goto, assigned, mark_if, arrival}
+use Rattle.flat_core.proofs.Counts.{one_if, places_join, aim_places, scatter_places, labelled, labelled_append, marks_places, sourced}
+use Rattle.lowered_core.specs.Straight.{jump_if, while_items, ever_items, do_items}
+use Rattle.lowered_core.specs.Lowered.{Layout, past, past_item, inside, jump_of, lowered_if, lowered_do, lowered_for, break_aim, for_aim, continue_aim, lowered, lowered_item, lowered_among}
+use Rattle.lowered_core.proofs.Ranges.{gathered, gathered_in, gathered_among}
+
+third_places : (L : ℕ) (u : Option ExpressionTree) → places L (third_items u) ≡ 0
+third_places L None = refl
+third_places L (Some e) = refl
+
+cells_places : (L : ℕ) (k : IntKind) (x i : ℕ) (es : List ExpressionTree) (m : ℕ) → places L (assigned_cells k x i es m) ≡ 0
+cells_places L k x i (e ∷ es) m = let h = cells_places L k x (suc i) es m in omega (arith, h)
+cells_places L k x i [] zero = refl
+cells_places L k x i [] (suc m) = let h = cells_places L k x (suc i) [] m in omega (arith, h)
+
+assigned_places : (L : ℕ) (k : IntKind) (x : ℕ) (o : Option ℕ) (es : List ExpressionTree) → places L (assigned k x o es) ≡ 0
+assigned_places L k x None [] = refl
+assigned_places L k x None (e ∷ es) = refl
+assigned_places L k x (Some n) es = cells_places L k x 0 es (n - length es)
+
+module _ (L : ℕ) (number : IntKind → ℤ → ExpressionTree) (k : IntKind) (v : ℕ) (names : Names) where
+  test_places : (e : ExpressionTree) → places L (test_for number k v names e) ≡ 0
+  test_places e = at (case_number k e)
+    where
+      at : (o : Option ℤ) → places L (option_map_or (λ n. one (If (Source (is_number k v (number k n))) (one (Goto (names (Some e)))) Nil)) o Nil) ≡ 0
+      at None = refl
+      at (Some n) = refl
+
+  tests_for_places : (es : List ExpressionTree) → places L (tests_for number k v names es) ≡ 0
+  tests_for_places [] = refl
+  tests_for_places (e ∷ es) =
+      let h = places_join L (test_for number k v names e) (tests_for number k v names es) in
+      let i = test_places e in
+      let j = tests_for_places es in omega (arith, h, i, j)
+
+  mutual
+    tests_places : (a : Forest) → places L (tests number k v names a) ≡ 0
+    tests_places Nil = refl
+    tests_places (Then x a) =
+        let h = places_join L (tests_in number k v names x) (tests number k v names a) in
+        let i = tests_places_in x in
+        let j = tests_places a in omega (arith, h, i, j)
+
+    tests_places_in : (x : Tree) → places L (tests_in number k v names x) ≡ 0
+    tests_places_in (If t a b) =
+        let h = places_join L (tests number k v names a) (tests number k v names b) in
+        let i = tests_places a in
+        let j = tests_places b in omega (arith, h, i, j)
+    tests_places_in (While t a) = tests_places a
+    tests_places_in (Do a t) = tests_places a
+    tests_places_in (For f t u a) = tests_places a
+    tests_places_in (Block a) = tests_places a
+    tests_places_in (Arrival None) = refl
+    tests_places_in (Arrival (Some e)) = test_places e
+    tests_places_in _ = refl
+
+  tests_among_places : (d : Sections) → places L (tests_among number k v names d) ≡ 0
+  tests_among_places NoSection = refl
+  tests_among_places (Section cases default a ends d) =
+      let h = places_join L (tests_for number k v names cases) (join (tests number k v names a) (tests_among number k v names d)) in
+      let g = places_join L (tests number k v names a) (tests_among number k v names d) in
+      let i = tests_for_places cases in
+      let j = tests_places a in
+      let l = tests_among_places d in omega (arith, h, g, i, j, l)
+
+-- those of Arrivals
+abbrev arrived : ℕ → Arrivals → List (Option ExpressionTree) → ℕ
+arrived L NoArrival es = 0
+arrived L (Arrives names) es = labelled L names es
+
+arrived_append : (L : ℕ) (r : Arrivals) (xs ys : List (Option ExpressionTree)) → arrived L r (xs ++ ys) ≡ arrived L r xs + arrived L r ys
+arrived_append L NoArrival xs ys = refl
+arrived_append L (Arrives names) xs ys = labelled_append L names xs ys
+
+exit_break : (L : ℕ) (b : Aim) → places L (exit b Break) ≡ 0
+exit_break L Stays = refl
+exit_break L (Becomes l) = refl
+exit_break L Absent = refl
+
+exit_continue : (L : ℕ) (b : Aim) → places L (exit b Continue) ≡ 0
+exit_continue L Stays = refl
+exit_continue L (Becomes l) = refl
+exit_continue L Absent = refl
+
+mark_places : (L l : ℕ) (y : Bool) → places L (mark_if y l) ≤ one_if (eqb L l)
+mark_places L l true = omega arith
+mark_places L l false = omega arith
+
+arrival_places : (L : ℕ) (r : Arrivals) (e : Option ExpressionTree) → places L (arrival r e) ≤ arrived L r (e ∷ [])
+arrival_places L NoArrival e = omega arith
+arrival_places L (Arrives names) e = omega arith
+
+end_places : (L : ℕ) (y : Bool) (b : Aim) (ys : Forest) → places L (join (end_goto y b) ys) ≡ places L ys
+end_places L true Stays ys = refl
+end_places L true (Becomes l) ys = omega arith
+end_places L true Absent ys = refl
+end_places L false b ys = refl
+
+-- ---- the labels that a construct makes
+
+-- of a construct with this number
+abbrev pub five : ℕ → Layout → ℕ → ℕ
+five L q k = (one_if (eqb L (q.plan.break_label k)) + one_if (eqb L (q.plan.continue_label k)) + one_if (eqb L (q.plan.default_label k))) + (one_if (eqb L (q.head_label k)) + one_if (eqb L (q.list_label k)))
+
+abbrev pub makes : ℕ → Layout → Tree → Here → ℕ
+makes L q (Switch s d) h = labelled L (names_of q.plan h (switch_kind s) d) (switch_labels d) + one_if (eqb L (q.plan.break_label h.construct))
+makes L q x h = five L q h.construct
+
+with_third_places : (L : ℕ) (u : Option ExpressionTree) (a : Forest) (c : Aim) → places L (with_third a c u) ≡ places L a + places L (mark_of c)
+with_third_places L u a c =
+    let h = places_join L a (join (mark_of c) (third_items u)) in
+    let i = places_join L (mark_of c) (third_items u) in
+    let j = third_places L u in omega (arith, h, i, j)
+
+while_places : (L : ℕ) (t : TestTree) (h b e : ℕ) (a : Forest) → places L (while_items t h b e a) ≡ one_if (eqb L h) + one_if (eqb L b) + one_if (eqb L e) + places L a
+while_places L t h b e a = let i = places_join L a (Then (Goto h) (one (Mark e))) in omega (arith, i)
+
+module _ (L : ℕ) (q : Layout) where
+  if_places : (h : Here) (t : TestTree) (o : Option ℕ) (a b : Forest) → places L (lowered_if q h t o a b) ≤ five L q h.construct + (places L a + places L b)
+  if_places h t (Some l) a b = omega arith
+  if_places h t None a b =
+      let e = q.plan.break_label h.construct in
+      let l = q.list_label h.construct in
+      let i = places_join L b (Then (Goto e) (Then (Mark l) (join a (one (Mark e))))) in
+      let j = places_join L a (one (Mark e)) in omega (arith, i, j)
+
+  do_places : (h : Here) (t : TestTree) (a x : Forest) → places L (lowered_do q h t a (break_aim q h x) (continue_aim q h x)) ≤ five L q h.construct + places L a
+  do_places h t a x =
+      let m = break_aim q h x in
+      let n = continue_aim q h x in
+      let i = places_join L (do_items t (q.list_label h.construct) (join a (mark_of n))) (mark_of m) in
+      let j = places_join L (join a (mark_of n)) (one (jump_if t (q.list_label h.construct))) in
+      let k = places_join L a (mark_of n) in
+      let o = aim_places L true (breaks x) (q.plan.break_label h.construct) in
+      let r = aim_places L true (continues x) (q.plan.continue_label h.construct) in omega (arith, i, j, k, o, r)
+
+  for_places : (h : Here) (t u : Option ExpressionTree) (a x : Forest) → places L (lowered_for q h t u a (for_aim q h t x) (continue_aim q h x)) ≤ five L q h.construct + places L a
+  for_places h (Some t) u a x =
+      let n = continue_aim q h x in
+      let i = while_places L (Source t) (q.head_label h.construct) (q.list_label h.construct) (q.plan.break_label h.construct) (with_third a n u) in
+      let j = with_third_places L u a n in
+      let r = aim_places L true (continues x) (q.plan.continue_label h.construct) in omega (arith, i, j, r)
+  for_places h None u a x =
+      let m = break_aim q h x in
+      let n = continue_aim q h x in
+      let i = places_join L (ever_items (q.head_label h.construct) (with_third a n u)) (mark_of m) in
+      let j = places_join L (with_third a n u) (one (Goto (q.head_label h.construct))) in
+      let k = with_third_places L u a n in
+      let o = aim_places L true (breaks x) (q.plan.break_label h.construct) in
+      let r = aim_places L true (continues x) (q.plan.continue_label h.construct) in omega (arith, i, j, k, o, r)
+
+  abbrev bound : Here → Arrivals → Forest → ℕ
+  bound h r xs = total (sourced L q.plan) xs + gathered (makes L q) h xs + arrived L r (arrivals xs)
+
+  abbrev bound_in : Here → Arrivals → Tree → ℕ
+  bound_in h r x = total_of (sourced L q.plan) x + gathered_in (makes L q) h x + arrived L r (arrivals_in x)
+
+  mutual
+    pub bounded : (xs : Forest) (h : Here) (b c : Aim) (r : Arrivals) → places L (lowered q h b c r xs) ≤ bound h r xs
+    bounded Nil h b c r = omega arith
+    bounded (Then x xs) h b c r =
+        let i = bounded_in x h b c r in
+        let j = bounded xs (past_item x h) b c r in
+        let k = places_join L (lowered_item q h b c r x) (lowered q (past_item x h) b c r xs) in
+        let l = arrived_append L r (arrivals_in x) (arrivals xs) in omega (arith, i, j, k, l)
+
+    bounded_in : (x : Tree) (h : Here) (b c : Aim) (r : Arrivals) → places L (lowered_item q h b c r x) ≤ bound_in h r x
+    bounded_in (If t x y) h b c r =
+        let h' = inside (If t x y) h in
+        let i = bounded x h' b c r in
+        let j = bounded y (past x h') b c r in
+        let k = if_places h t (jump_of q.plan.live x y) (lowered q h' b c r x) (lowered q (past x h') b c r y) in
+        let l = arrived_append L r (arrivals x) (arrivals y) in omega (arith, i, j, k, l)
+    bounded_in (While t a) h b c r =
+        let h' = inside (While t a) h in
+        let e = q.plan.break_label h.construct in
+        let g = q.head_label h.construct in
+        let i = bounded a h' (Becomes e) (Becomes g) r in
+        let j = while_places L t g (q.list_label h.construct) e (lowered q h' (Becomes e) (Becomes g) r a) in omega (arith, i, j)
+    bounded_in (Do a t) h b c r =
+        let h' = inside (Do a t) h in
+        let i = bounded a h' (break_aim q h a) (continue_aim q h a) r in
+        let j = do_places h t (lowered q h' (break_aim q h a) (continue_aim q h a) r a) a in omega (arith, i, j)
+    bounded_in (For first t u a) h b c r =
+        let m = for_aim q h t a in
+        let n = continue_aim q h a in
+        let h' = inside (For first t u a) h in
+        let fa = lowered q (past first h') m n r a in
+        let i = bounded first h' b c NoArrival in
+        let j = bounded a (past first h') m n r in
+        let k = places_join L (lowered q h' b c NoArrival first) (lowered_for q h t u fa m n) in
+        let l = for_places h t u fa a in omega (arith, i, j, k, l)
+    bounded_in (Block a) h b c r = let i = bounded a h b c r in omega (arith, i)
+    bounded_in (Local x None) h b c r = omega arith
+    bounded_in (Local x (Some es)) h b c r = let i = assigned_places L (entry_or no_slot q.plan.slots x).kind x (entry_or no_slot q.plan.slots x).cells es in omega (arith, i)
+    bounded_in Break h b c r = let i = exit_break L b in omega (arith, i)
+    bounded_in Continue h b c r = let i = exit_continue L c in omega (arith, i)
+    bounded_in (Goto l) h b c r = omega arith
+    bounded_in (Mark l) h b c r = let i = mark_places L (q.plan.source l) (q.plan.live l) in omega (arith, i)
+    bounded_in (Arrival e) h b c r = let i = arrival_places L r e in omega (arith, i)
+    bounded_in (Switch s d) h b c r =
+        let names = names_of q.plan h (switch_kind s) d in
+        let h' = inside (Switch s d) h in
+        let sp = lowered_among q h' (scatter_aim q.plan h d) c names d in
+        let i = bounded_among d h' (scatter_aim q.plan h d) c names in
+        let j = scatter_places L (leaves d) (q.plan.break_label h.construct) in
+        let ts = tests_among q.plan.number (switch_kind s) h.variable names d in
+        let k = places_join L ts (Then (Goto (otherwise_label q.plan h d)) sp) in
+        let l = tests_among_places L q.plan.number (switch_kind s) h.variable names d in omega (arith, i, j, k, l)
+    bounded_in (Evaluate e) h b c r = omega arith
+    bounded_in (Return e) h b c r = omega arith
+    bounded_in (Arm l e) h b c r = omega arith
+    bounded_in (Leap l) h b c r = omega arith
+    bounded_in (Land l) h b c r = omega arith
+    bounded_in (Note bs) h b c r = omega arith
+
+    bounded_among : (d : Sections) (h : Here) (b c : Aim) (names : Names) → places L (lowered_among q h b c names d) ≤ places L (mark_of b) + (total_in (sourced L q.plan) d + gathered_among (makes L q) h d) + labelled L names (switch_labels d)
+    bounded_among NoSection h b c names = omega arith
+    bounded_among (Section cases default a ends d) h b c names =
+        let fa = lowered q h b c (Arrives names) a in
+        let sp = lowered_among q (past a h) b c names d in
+        let i = bounded a h b c (Arrives names) in
+        let j = bounded_among d (past a h) b c names in
+        let k = places_join L (case_marks names cases default) (join fa (join (end_goto ends b) sp)) in
+        let l = places_join L fa (join (end_goto ends b) sp) in
+        let m = end_places L ends b sp in
+        let n = marks_places L names cases default in
+        let o = labelled_append L names (section_labels cases default) (arrivals a ++ switch_labels d) in
+        let z = labelled_append L names (arrivals a) (switch_labels d) in omega (arith, i, j, k, l, m, n, o, z)
