@@ -4,8 +4,9 @@ use Rattle.c_grammar.specs.declared.syntax.Syntax.{Syntax}
 use Rattle.c_source.specs.Items.{Declarator}
 use Rattle.c_source.specs.ItemViews.{declarator_of, declarators_of}
 use Rattle.c_source.specs.Tops.{Enumerator, Parameter}
-use Rattle.c_source.specs.TopViews.{enumerator_of, parameter_of, top_of}
-use Rattle.c_scopes.specs.NodeViews.{enumerators_of, parameters_of, tops_in}
+use Rattle.c_source.specs.TopViews.{enumerator_of, parameter_of}
+use Rattle.comment_places.proofs.Nodes.{tops-next}
+use Rattle.c_scopes.specs.NodeViews.{enumerators_of, parameters_of}
 
 -- what may be an item, in front of others
 abbrev pub in_front : {X : Type 0} → Option X → List X → List X
@@ -52,10 +53,6 @@ pub parameters-some : (word : ℕ → List ℕ) (xs : List Syntax) (i : ℕ) (d 
 parameters-some word xs i d e h n = parameters_at word xs i d h ∙ ap (λ o. in_front o (parameters_of word (drop (i + 1) xs))) n
 
 pub ruleset parameters = (parameters-none, parameters-some, append_assoc)
-
-pub tops-next : (word : ℕ → List ℕ) (xs : List Syntax) (i : ℕ) (d : Syntax) → i < length xs
-    → tops_in word (drop i xs) ≡ top_of word (get_or xs i d) ∷ tops_in word (drop (i + 1) xs)
-tops-next word xs i d h = rw (add-one, drop-cons xs i d) refl
 
 pub ruleset tops = (tops-next, append_assoc)
 

@@ -7,11 +7,12 @@ ghost use Rattle.c_source.specs.TopViews.{function_form, top_form, top_of};
 ghost use Rattle.c_source.specs.Views.{words_of};
 ghost use Rattle.c_statements.specs.NoteViews.{all_now, notes_of};
 ghost use Rattle.c_source.specs.Tops as tops;
+ghost use Rattle.comment_places.specs.NodeViews.{tops_in};
 ghost use Rattle.c_scopes.specs.Enums as enums;
 ghost use Rattle.c_scopes.specs.FunctionNames as names;
 ghost use Rattle.c_scopes.specs.Files as spec;
 ghost use Rattle.c_scopes.specs.FileViews.{env, file_of, state_of};
-ghost use Rattle.c_scopes.specs.NodeViews.{enumerators_of, tops_in};
+ghost use Rattle.c_scopes.specs.NodeViews.{enumerators_of};
 ghost use Rattle.c_tree.specs.declared.tree.Top.TheVariants as top;
 
 use crate::enums::read_enum;

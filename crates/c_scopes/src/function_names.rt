@@ -5,8 +5,9 @@ ghost use Rattle.std.specs.Option.{option_copied};
 ghost use Rattle.c_kinds.specs.Views.{env_of};
 ghost use Rattle.c_source.specs.TopViews.{function_form, top_of};
 ghost use Rattle.c_source.specs.Views.{words_of};
+ghost use Rattle.comment_places.specs.NodeViews.{tops_in};
 ghost use Rattle.c_scopes.specs.FunctionNames as spec;
-ghost use Rattle.c_scopes.specs.NodeViews.{parameters_of, tops_in};
+ghost use Rattle.c_scopes.specs.NodeViews.{parameters_of};
 
 use crate::file_names::bind_name;
 use crate::signatures::{result_kind, same_result, same_signature, signature};

@@ -1,4 +1,4 @@
-//! Files: names of file scope, the places of comments, and the resolved program of a text.
+//! Files: names of file scope, and the resolved program of a text.
 #![tactic(auto)]
 
 mod blocks;
@@ -11,11 +11,8 @@ mod flat_counter;
 mod function_names;
 mod functions;
 mod globals;
-mod labels;
-mod notes;
 mod outermost;
 mod parameters;
-mod places;
 mod resolving;
 mod signatures;
 mod tangle;
@@ -30,9 +27,7 @@ pub use flat_counter::FlatCounter;
 pub use function_names::{FunctionNames, add_body, bodies_of, declare_function, has_body};
 pub use functions::{Outside, read_function};
 pub use globals::read_globals;
-pub use notes::place_notes;
 pub use parameters::read_parameters;
-pub use places::place_in;
 pub use resolving::{resolve, resolve_with};
 pub use signatures::{same_signature, signature};
 pub use tangle::{is_tangled, measures_of};

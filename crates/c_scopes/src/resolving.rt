@@ -6,16 +6,15 @@ ghost use Rattle.c_lexer.specs.Pieces.{IsWithin};
 ghost use Rattle.c_source.specs.Parts.{file_of};
 ghost use Rattle.c_source.specs.Views.{words_of};
 ghost use Rattle.c_types.specs.Stop.{Gives};
+ghost use Rattle.comment_places.specs.NodeViews.{tops_in};
 ghost use Rattle.c_scopes.specs.FileViews as views;
 ghost use Rattle.c_scopes.specs.Files.{file_faults, start, tops_of as the_tops};
-ghost use Rattle.c_scopes.specs.NodeViews.{tops_in};
 ghost use Rattle.c_scopes.specs.Resolving as spec;
 
 use crate::files::{FileContext, read_tops};
 use crate::flat_counter::FlatCounter;
 use crate::function_names::{FunctionNames, bodies_of};
 use crate::functions::Outside;
-use crate::notes::place_notes;
 use crate::violations::{least, refused};
 use c_bodies::State;
 use c_grammar::Syntax;
@@ -24,6 +23,7 @@ use c_lexer::{Span, Token, comments};
 use c_source::{Words, tops_of};
 use c_tree::{Program, Top};
 use c_types::{List, Memory, ReadStop, Stack};
+use comment_places::place_notes;
 use std::alloc::Global;
 
 /// What stands at file scope, and the violations, the last first.

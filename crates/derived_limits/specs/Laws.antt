@@ -6,7 +6,7 @@ use Rattle.c_grammar.specs.TokenClasses.{classes_of}
 use Rattle.c_grammar.specs.Derives.{Derives}
 use Rattle.c_source.specs.Words.{word_of}
 use Rattle.c_source.specs.Parts.{file_of}
-use Rattle.c_scopes.specs.Notes.{notes_of}
+use Rattle.comment_places.specs.Notes.{notes_of}
 use Rattle.c_resolved.specs.PrintableExpressions.{AreBytes}
 use Rattle.resolving_core.specs.Read.{IsRead}
 

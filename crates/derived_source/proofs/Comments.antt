@@ -13,7 +13,7 @@ use Rattle.c_lexer.proofs.PieceLemmas.{Stands}
 use Rattle.c_lexer.proofs.Truths.{both_true}
 use Rattle.c_statements.specs.declared.anchors.Anchor.{Anchor}
 use Rattle.c_source.specs.Tops.{Top}
-use Rattle.c_scopes.specs.Notes.{notes_of, place_in, next_token}
+use Rattle.comment_places.specs.Notes.{notes_of, place_in, next_token}
 use Rattle.c_statements.specs.Context.{same_place}
 use Rattle.c_resolved.specs.Verbatims.{IsComment}
 use Rattle.c_resolved.specs.Within.{Each}

@@ -15,7 +15,7 @@ use Rattle.c_source.specs.Words.{word_of}
 use Rattle.c_source.specs.Parts.{file_of}
 use Rattle.c_source.specs.Tops.{Top}
 use Rattle.c_statements.specs.declared.anchors.Anchor.{Anchor}
-use Rattle.c_scopes.specs.Notes.{notes_of}
+use Rattle.comment_places.specs.Notes.{notes_of}
 use Rattle.c_resolved.specs.PrintableExpressions.{AreBytes}
 use Rattle.c_resolved.specs.Verbatims.{IsComment}
 use Rattle.c_resolved.specs.Within.{Each}

@@ -18,7 +18,7 @@ use Rattle.c_kinds.specs.Scopes as kinds
 use Rattle.c_statements.specs.declared.anchors.Anchor.{Anchor}
 use Rattle.c_statements.specs.Functions as read
 use Rattle.c_scopes.specs.FunctionNames.{has_function, with_function, bodies_of}
-use Rattle.c_scopes.specs.Notes.{form_place}
+use Rattle.comment_places.specs.Notes.{form_place}
 use Rattle.c_resolved.specs.Limits.{FlatCounts}
 use Rattle.c_resolved.specs.Names.{Names}
 use Rattle.c_resolved.specs.Scopes.{Scope, Meaning, AConstant, AVariable, AFunction, bind, bind_constants, behind_top}

@@ -12,7 +12,7 @@ use Rattle.c_grammar.specs.TokenClasses.{classes_of}
 use Rattle.c_source.specs.Tops.{Top}
 use Rattle.c_statements.specs.declared.anchors.Anchor.{Anchor}
 use Rattle.c_statements.specs.Context.{same_place}
-use Rattle.c_scopes.specs.Notes.{place_in, next_token, comment_bytes, comment_place, notes_of}
+use Rattle.comment_places.specs.Notes.{place_in, next_token, comment_bytes, comment_place, notes_of}
 use Rattle.c_resolved.specs.Within.{Each}
 use Rattle.printed_syntax.specs.Reread.{placed_at, tokens_behind}
 use Rattle.printed_syntax.proofs.Tokens.{bare_front}

@@ -10,7 +10,7 @@ use Rattle.c_tree.specs.declared.tree.Program.{Program}
 use Rattle.c_tree.specs.Text.{text_of}
 use Rattle.c_source.specs.Words.{word_of}
 use Rattle.c_source.specs.Tops.{Top}
-use Rattle.c_scopes.specs.Notes.{place_in, notes_of}
+use Rattle.comment_places.specs.Notes.{place_in, notes_of}
 use Rattle.c_resolved.specs.PrintablePrograms.{IsPrintable}
 use Rattle.printed_syntax.specs.Reread.{spellings, class_of_spelling, read_at}
 use Rattle.printed_syntax.specs.FileDerivations.{file_of}

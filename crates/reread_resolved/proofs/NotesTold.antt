@@ -19,7 +19,7 @@ use Rattle.c_source.specs.Items as s
 use Rattle.c_source.specs.Parts.{list_of_item}
 use Rattle.c_statements.specs.declared.anchors.Anchor.{Anchor}
 use Rattle.c_statements.specs.declared.anchors.Anchor.TheVariants.{Before, AtEnd, AtSection}
-use Rattle.c_scopes.specs.Notes.{item_place, plain_place, body_place, list_place, or_behind}
+use Rattle.comment_places.specs.Notes.{item_place, plain_place, body_place, list_place, or_behind}
 use Rattle.c_resolved.specs.Form.{HasSourceForm, AreSections, IsKept}
 use Rattle.printed_syntax.specs.Reread.{Comments}
 use Rattle.printed_syntax.specs.Notes.{else_tokens, item_notes, items_notes, sections_notes}

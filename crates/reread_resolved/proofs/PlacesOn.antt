@@ -17,7 +17,7 @@ use Rattle.c_statements.specs.declared.anchors.Anchor.{Anchor}
 use Rattle.c_statements.specs.declared.anchors.Anchor.TheVariants.{Before, AtEnd}
 use Rattle.c_statements.specs.Labels.{has_case}
 use Rattle.c_statements.specs.Violations.{is_null}
-use Rattle.c_scopes.specs.Notes.{item_after, plain_after, label_after, labels_place, section_place, section_label_place, or_behind, item_place, plain_place, statement_place, body_place, list_place, members_place, member_place}
+use Rattle.comment_places.specs.Notes.{item_after, plain_after, label_after, labels_place, section_place, section_label_place, or_behind, item_place, plain_place, statement_place, body_place, list_place, members_place, member_place}
 use Rattle.printed_syntax.specs.StatementDerivations.{conditional_of, slot_declaration, statement_of, items_of}
 use Rattle.reread_core.specs.WrittenExpressions.{conditional_form}
 use Rattle.reread_core.specs.WrittenStatements.{written_declaration, written_items, written_statement, behind_labels}

@@ -10,7 +10,7 @@ use Rattle.c_grammar.specs.StatementSyntax.{items_end}
 use Rattle.c_source.specs.Items as s
 use Rattle.c_statements.specs.declared.anchors.Anchor.{Anchor}
 use Rattle.c_statements.specs.declared.anchors.Anchor.TheVariants.{Before}
-use Rattle.c_scopes.specs.Notes.{item_after, plain_after}
+use Rattle.comment_places.specs.Notes.{item_after, plain_after}
 use Rattle.c_resolved.specs.Form.{IsKept}
 use Rattle.printed_syntax.specs.StatementDerivations.{labels_of, labelled, null_statement, starts_with_local, is_nil, ends_with_note, is_last, optional_item, section_end, items_of, sections_of}
 use Rattle.reread_core.specs.WrittenStatements.{written_items}

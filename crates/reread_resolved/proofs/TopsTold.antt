@@ -18,7 +18,7 @@ use Rattle.c_grammar.specs.FileSyntax.{function_end, body_end, top_end}
 use Rattle.c_source.specs.Tops as tops
 use Rattle.c_statements.specs.declared.anchors.Anchor.{Anchor}
 use Rattle.c_statements.specs.declared.anchors.Anchor.TheVariants.{Before, Last}
-use Rattle.c_scopes.specs.Notes.{place_in, form_place, function_place}
+use Rattle.comment_places.specs.Notes.{place_in, form_place, function_place}
 use Rattle.c_resolved.specs.Form.{HasSourceForm}
 use Rattle.printed_syntax.specs.Reread.{Comments}
 use Rattle.printed_syntax.specs.Notes.{body_notes, tops_notes}

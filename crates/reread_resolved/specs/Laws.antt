@@ -9,7 +9,7 @@ use Rattle.c_source.specs.Words.{word_of}
 use Rattle.c_source.specs.Tops.{Top}
 use Rattle.c_statements.specs.Functions.{FlatCounts}
 use Rattle.c_scopes.specs.Files.{File}
-use Rattle.c_scopes.specs.Notes.{notes_of}
+use Rattle.comment_places.specs.Notes.{notes_of}
 use Rattle.c_scopes.specs.Resolving.{file_at, resolved}
 use Rattle.c_resolved.specs.Limits as limits
 use Rattle.c_resolved.specs.Resolved.{IsResolvedWith}

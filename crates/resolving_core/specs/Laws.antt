@@ -14,7 +14,7 @@ use Rattle.c_tree.specs.InRange.{body_of}
 use Rattle.c_source.specs.Words.{word_of}
 use Rattle.c_source.specs.Parts.{file_of}
 use Rattle.c_statements.specs.Functions.{FlatCounts}
-use Rattle.c_scopes.specs.Notes.{notes_of}
+use Rattle.comment_places.specs.Notes.{notes_of}
 use Rattle.c_scopes.specs.Resolving.{resolved}
 use Rattle.c_resolved.specs.Files.{HaveValues, IsGlobal, DeclarationsAgree, MainIsFormed}
 use Rattle.c_resolved.specs.Form.{HasForm}

@@ -1,0 +1,4 @@
+pub mod NodeViews
+pub mod Notes
+pub mod Steps
+pub mod Frames
