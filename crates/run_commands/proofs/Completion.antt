@@ -50,7 +50,7 @@ lacking before files from text told there h =
     let none : get files from ≡ None = subst (λ b. Lacks b from) told h in
     let both = sym none ∙ there in cc
 
-runnable_not_blocked : (p : Program) (refusal : Refusal) → IsRunnable p → IsBlocked p refusal → ⊥
+pub runnable_not_blocked : (p : Program) (refusal : Refusal) → IsRunnable p → IsBlocked p refusal → ⊥
 runnable_not_blocked p refusal h b = elim b [
   | inl lacks ↦ lacks.0 h.main
   | inr calls ↦ false≢true (sym h.closed ∙ calls.1)

@@ -5,5 +5,5 @@ mod answer;
 mod ready;
 mod running;
 
-pub use ready::{MOST_RUN_BYTES, ProgramReader};
+pub use ready::{MOST_RUN_BYTES, ProgramReader, Ready, ready_program};
 pub use running::run_file;

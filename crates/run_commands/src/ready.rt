@@ -89,7 +89,7 @@ fn blocked(program: &Program, entry: &Entry) -> Option<Refusal>
 }
 
 /// The program with the start of its run, if it can be run. Else how the command ends, which is told.
-fn ready_program<E: Sink>(
+pub fn ready_program<E: Sink>(
     alloc: Global,
     program: Program,
     from: &str,

@@ -1,2 +1,3 @@
 pub mod UnsignedLemmas
 pub mod SlotLemmas
+pub mod FunctionLemmas

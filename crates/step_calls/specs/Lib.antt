@@ -1,3 +1,4 @@
 pub mod Lookups
+pub mod Functions
 pub mod Zeros
 pub mod Readings

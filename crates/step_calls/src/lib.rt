@@ -1,9 +1,11 @@
 #![tactic(auto)]
 
+mod functions;
 mod known;
 mod lookup;
 mod slots;
 
+pub use functions::{Functions, Routine, functions_of, routine_of};
 pub use known::printed;
 pub use lookup::{cells_of, definition, global_cells};
 pub use slots::rooms_at_start;

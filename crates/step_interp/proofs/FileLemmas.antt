@@ -1,5 +1,10 @@
 -- The variables of the file, one declaration after the other.
-use Rattle.std.proofs.Common.{ℕ, zero, suc, ◌+◌, ◌<◌, ◌≤◌, ◌⊎◌, inl, inr, ℤ, pos, Bool, true, false, ◌||◌, cond, List, [], map, option_and_then, ◌∷◌, ◌++◌, length, get_or, slice_get, Some, ◌≡◌, refl, sym, ap, ◌∙◌, subst, true≢false, bytes_eq, arith}
+use Rattle.std.proofs.Common.{ℕ, zero, suc, ◌+◌, ◌<◌, ◌≤◌, ◌⊎◌, inl, inr, ℤ, pos, Bool, true, false, ◌||◌, cond, List, [], map, option_and_then, ◌∷◌, ◌++◌, length, get_or, slice_get, Option, Some, is_some, ◌≡◌, refl, sym, ap, ◌∙◌, subst, true≢false, bytes_eq, arith}
+use Rattle.std.specs.Borrow.{Bor}
+use Rattle.std.specs.BTreeMap.{BTreeMap, IsEmpty, get_by, is_at}
+use Rattle.std.specs.Cmp.Lexicographic.{slice_cmp}
+use Rattle.std.specs.Map.{lookup}
+use Rattle.std.specs.Ordering.{nat_cmp}
 use Rattle.std.proofs.lemmas.List.{length-append}
 use Rattle.std.proofs.lemmas.Option.{slice_get_within}
 use Rattle.std.proofs.lemmas.Slice.Eq.{bytes_eq-Decides}
@@ -22,7 +27,7 @@ use Rattle.step_memory.specs.Rooms.{IsRoom}
 use Rattle.step_memory.specs.Stores.{HoldsWorld, names_of, room_at}
 use Rattle.step_memory.specs.Values.{owner_of}
 use Rattle.step_calls.proofs.SlotLemmas.{one_slot_more}
-use Rattle.step_interp.specs.Files.{first_cell, has_name, HasFile}
+use Rattle.step_interp.specs.Files.{first_cell, has_name, HasFile, HasPlaces}
 
 -- ---- first numbers
 
@@ -147,6 +152,21 @@ added tops left names file g room e k h = record {
 -- a declaration of no variable
 pub other_top : (tops left : List Top) (names : List (List ℕ)) (file : List Room) (t : Top) → ((m : List ℕ) → global_named m (t ∷ left) ≡ global_named m left) → HasFile tops (t ∷ left) names file → HasFile tops left names file
 other_top tops left names file t e h = record { count = h.count; rooms = h.rooms; apart = h.apart; others = λ m n. h.others m n ∙ e m }
+
+-- ---- places
+
+pub no_places : (names : List (Bor (List ℕ))) (places : BTreeMap (Bor (List ℕ)) ℕ) → names ≡ [] → IsEmpty places → HasPlaces (map (λ n. n.now) names) places
+no_places names places e k m = ap (λ es. is_some (lookup (is_at (λ b. slice_cmp nat_cmp m b.now)) es)) k ∙ sym (ap (λ ns. has_name (map (λ n. n.now) ns) m) e)
+
+-- a name more
+pub place_added : (names : List (List ℕ)) (n : List ℕ) (i : ℕ) (old new : BTreeMap (Bor (List ℕ)) ℕ) → HasPlaces names old
+    → ((m : List ℕ) → get_by (λ k. slice_cmp nat_cmp m k.now) new ≡ cond (bytes_eq n m) (Some i) (get_by (λ k. slice_cmp nat_cmp m k.now) old)) → HasPlaces (names ++ n ∷ []) new
+place_added names n i old new h u m = ap is_some (u m) ∙ at (bytes_eq n m) (get_by (λ k. slice_cmp nat_cmp m k.now) old) (has_name names m) (h m) ∙ sym (name_added names n m) where
+  at : (b : Bool) (o : Option ℕ) (c : Bool) → is_some o ≡ c → is_some (cond b (Some i) o) ≡ (c || b)
+  at true o true e = refl
+  at true o false e = refl
+  at false o true e = e
+  at false o false e = e
 
 -- ---- the whole file
 

@@ -12,8 +12,12 @@ use Rattle.jump_meaning.specs.Behaviour as B
 use Rattle.jump_meaning.specs.Step.{State, HasTrapped, begin_call}
 use Rattle.jump_meaning.specs.Runs.{shows, start, IsOver}
 use Rattle.step_tasks.specs.declared.call.Call.{Call}
+use Rattle.step_tasks.specs.declared.labels.Labels.{Labels}
+use Rattle.step_tasks.specs.Labels.{AreLabelsOf}
+use Rattle.step_calls.specs.declared.functions.Functions.{Functions}
+use Rattle.step_calls.specs.Functions.{AreFunctionsOf}
 use Rattle.step_machine.specs.declared.machine.Machine.{Machine}
-use Rattle.step_machine.specs.Machines.{IsFunctionOf, frames_of}
+use Rattle.step_machine.specs.Machines.{IsFunctionOf, IsCallOf, frames_of}
 use Rattle.step_machine.specs.Moves.{StandsFor}
 use Rattle.step_memory.specs.Stores.{names_of}
 use Rattle.step_machine.proofs.EnterLemmas.{state_at}
@@ -99,9 +103,9 @@ too_many p m f xs given e h =
     start_as p m f xs given e
     ∙ ap (λ b. begin_call m (items_of f) (cond b (Err Trap.Cells) (Ok (enter_call f (map Integer xs) (world_at_start (code_of p) given [])))) [] (world_at_start (code_of p) given [])) h
 
-pub begins : (p : Program) (m : List ℕ) (f : Function) (xs : List ℤ) (cells : ℕ) (machine : Machine) (given : List ℕ) → (code_of p).functions m ≡ function_tree f → f.name ≡ m
-    → cells ≡ global_cells p.tops + cells_of f.slots → nat_lt most_cells cells ≡ false → BeginsIn p f xs cells machine → StandsFor (start (code_of p) m xs given []) machine given []
-begins p m f xs cells machine given e k c h b =
+pub begins : (p : Program) (t : Functions) (m : List ℕ) (f : Function) (ls : Labels) (xs : List ℤ) (cells : ℕ) (machine : Machine) (given : List ℕ) → (code_of p).functions m ≡ function_tree f → f.name ≡ m
+    → cells ≡ global_cells p.tops + cells_of f.slots → nat_lt most_cells cells ≡ false → AreFunctionsOf p t → AreLabelsOf f ls → BeginsIn p t f ls xs cells machine → StandsFor (start (code_of p) m xs given []) machine given []
+begins p t m f ls xs cells machine given e k c h fs a b =
     let w = enter_call (function_tree f) (map Integer xs) (world_at_start (code_of p) given []) in record {
       world = w;
       same = start_as p m (function_tree f) xs given e
@@ -111,8 +115,12 @@ begins p m f xs cells machine given e k c h b =
         holds = b.holds given;
         cells = sym (b.cells ∙ c);
         answers = refl;
-        called = subst (λ q. IsFunctionOf q machine.call.function.now) (sym b.program) (subst (IsFunctionOf p) (sym b.function) (ap (code_of p).functions k ∙ e));
-        waiting = subst (λ cs. All (λ (x : Call). IsFunctionOf machine.program.now x.function.now) cs) (sym b.waiting) (λ i d l. absurd (omega (arith, l)));
+        linked = subst (λ q. AreFunctionsOf q machine.functions.now) (sym b.program) (subst (AreFunctionsOf p) (sym b.functions) fs);
+        called = (
+          subst (λ q. IsFunctionOf q machine.call.function.now) (sym b.program) (subst (IsFunctionOf p) (sym b.function) (ap (code_of p).functions k ∙ e)),
+          subst (λ g. AreLabelsOf g machine.call.labels.now) (sym b.function) (subst (AreLabelsOf f) (sym b.labels) a),
+        );
+        waiting = subst (λ cs. All (λ (x : Call). IsCallOf machine.program.now x) cs) (sym b.waiting) (λ i d l. absurd (omega (arith, l)));
       };
       input = refl;
       events = refl;

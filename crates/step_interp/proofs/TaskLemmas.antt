@@ -21,7 +21,8 @@ use Rattle.step_tasks.specs.Effects.{Comes, IsTrapped, Changes}
 use Rattle.step_tasks.specs.Tasks.{task_of, tasks_of}
 use Rattle.step_machine.specs.declared.machine.Machine.{Machine}
 use Rattle.step_machine.specs.declared.machine.Next.{Next}
-use Rattle.step_machine.specs.Machines.{HasWorld, IsFunctionOf, frames_of, state_of}
+use Rattle.step_tasks.specs.Labels.{AreLabelsOf}
+use Rattle.step_machine.specs.Machines.{HasWorld, IsCallOf, IsFunctionOf, frames_of, state_of}
 use Rattle.step_machine.specs.Moves.{Reaches, StandsFor}
 use Rattle.step_known.specs.Calls.{QuietlyReaches}
 use Rattle.step_known.proofs.SettledLemmas.{at_once, reaches_weaker}
@@ -69,9 +70,9 @@ comes_to P (Leaves x u) f g before after cs vs w c = absurd c
 -- ---- of a machine
 
 -- a task of an item, a test or a selector
-pub control_performed : (old : Machine) (new : Call) (t : Task) (w : World) → new.function ≡ old.call.function → Moves (task_of t) old.store old.call new → HasWorld old w
+pub control_performed : (old : Machine) (new : Call) (t : Task) (w : World) → new.function ≡ old.call.function → new.labels ≡ old.call.labels → Moves (task_of t) old.store old.call new → HasWorld old w
     → StandsFor (step (code_of old.program.now) (state_with t old w)) (record old { call = new }) w.input w.events
-control_performed old new t w e m h =
+control_performed old new t w e l m h =
     let P = code_of old.program.now in
     let ns = names_of old.store in
     let name = old.call.function.now.name in
@@ -79,13 +80,18 @@ control_performed old new t w e m h =
     let v = values_of ns old.call.values in
     let cs = frames_of ns old.waiting in record {
       world = w;
-      same = ap (λ f. move P (view (items_of f) g (task_of t ∷ tasks_of old.call.tasks)) name g v cs w) h.called
-          ∙ m P name cs w h.holds
+      same = ap (λ f. move P (view (items_of f) g (task_of t ∷ tasks_of old.call.tasks)) name g v cs w) h.called.0
+          ∙ m P name cs w h.holds h.called.1
           ∙ ap (λ f. At f.now.name (guards_of new.guards) (tasks_of new.tasks) (values_of ns new.values) cs w) (sym e);
-      has = record { holds = h.holds; cells = h.cells; answers = h.answers; called = subst (λ f. IsFunctionOf old.program.now f.now) (sym e) h.called; waiting = h.waiting };
+      has = record { holds = h.holds; cells = h.cells; answers = h.answers; linked = h.linked; called = kept; waiting = h.waiting };
       input = refl;
       events = refl;
-    }
+    } where
+      kept : IsCallOf old.program.now new
+      kept = (
+        subst (λ f. IsFunctionOf old.program.now f.now) (sym e) h.called.0,
+        subst (λ f. AreLabelsOf f.now new.labels.now) (sym e) (subst (λ x. AreLabelsOf old.call.function.now x.now) (sym l) h.called.1),
+      )
 
 -- the state after a task of an expression is what its effect comes to
 op_stepped : (old : Machine) (t : Task) (o : Op) (w : World) → task_of t ≡ T.Works o
@@ -113,7 +119,7 @@ op_performed old t o s tasks values w e n m h =
       same = op_stepped old t o w e
           ∙ comes_to P (effect o (values_of (names_of old.store) old.call.values) w) name g (tasks_of old.call.tasks) (tasks_of tasks) (frames_of (names_of old.store) old.waiting) (values_of (names_of old.store) values) r.0 r.1
           ∙ ap (λ m. At name g (tasks_of tasks) (values_of (map (λ x. x.now) m.items) values) (frames_of (map (λ x. x.now) m.items) old.waiting) r.0) (sym n);
-      has = record { holds = r.2; cells = differ.cells ∙ h.cells; answers = differ.answers ∙ h.answers; called = h.called; waiting = h.waiting };
+      has = record { holds = r.2; cells = differ.cells ∙ h.cells; answers = differ.answers ∙ h.answers; linked = h.linked; called = h.called; waiting = h.waiting };
       input = differ.input;
       events = differ.events;
     }
@@ -132,4 +138,4 @@ stepped old k w next new e r =
 
 -- what a machine has doesn't depend on its tasks
 pub has_tasks : (old : Machine) (tasks : List Work) (w : World) → HasWorld old w → HasWorld (record old { call = record old.call { tasks = tasks } }) w
-has_tasks old tasks w h = record { holds = h.holds; cells = h.cells; answers = h.answers; called = h.called; waiting = h.waiting }
+has_tasks old tasks w h = record { holds = h.holds; cells = h.cells; answers = h.answers; linked = h.linked; called = h.called; waiting = h.waiting }

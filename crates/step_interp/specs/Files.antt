@@ -1,6 +1,10 @@
 -- The variables of the file at the start of a run.
-use Rattle.std.specs.Prelude.{ℕ, ◌<◌, ℤ, pos, Bool, false, List, [], ◌∷◌, map, ◌≡◌, length, slice_get, Some}
+use Rattle.std.specs.Prelude.{ℕ, ◌<◌, ℤ, pos, Bool, false, List, [], ◌∷◌, map, ◌≡◌, length, slice_get, Some, is_some}
+use Rattle.std.specs.Borrow.{Bor}
+use Rattle.std.specs.BTreeMap.{BTreeMap, get_by}
+use Rattle.std.specs.Cmp.Lexicographic.{slice_cmp}
 use Rattle.std.specs.List.{list_any}
+use Rattle.std.specs.Ordering.{nat_cmp}
 use Rattle.std.specs.Str.{bytes_eq}
 use Rattle.c_types.specs.declared.kinds.IntKind.{IntKind}
 use Rattle.c_types.specs.Numbers.{converted}
@@ -21,6 +25,10 @@ AreFirstCells k es cells = (i : ℕ) → i < length cells → slice_get cells i 
 -- whether the name is among these
 abbrev pub has_name : List (List ℕ) → List ℕ → Bool
 has_name ns m = list_any (λ n. bytes_eq n m) ns
+
+-- the table of places has these names
+abbrev pub HasPlaces : List (List ℕ) → BTreeMap (Bor (List ℕ)) ℕ → Type 0
+HasPlaces names places = (m : List ℕ) → is_some (get_by (λ k. slice_cmp nat_cmp m k.now) places) ≡ has_name names m
 
 -- the rooms are the variables of the declarations, of which these are left, by the table of names
 pub record HasFile (tops left : List Top) (names : List (List ℕ)) (file : List Room) : Type 0 where

@@ -13,6 +13,8 @@ use Rattle.step_memory.specs.declared.store.Store.{Store}
 use Rattle.step_memory.specs.Stores.{HoldsWorld}
 use Rattle.step_tasks.specs.Controls.{body_of}
 use Rattle.step_tasks.specs.Tasks.{tasks_of}
+use Rattle.step_tasks.specs.declared.labels.Labels.{Labels}
+use Rattle.step_calls.specs.declared.functions.Functions.{Functions}
 use Rattle.step_machine.specs.declared.machine.Machine.{Machine}
 use Rattle.step_machine.specs.Moves.{StandsFor}
 
@@ -21,10 +23,12 @@ abbrev pub HoldsFirst : Program → Store → Type 0
 HoldsFirst p s = (input : List ℕ) → HoldsWorld s (world_at_start (code_of p) input [])
 
 -- the function is called with these arguments, and no other call is present
-pub record BeginsIn (p : Program) (f : Function) (arguments : List ℤ) (count : ℕ) (m : Machine) : Type 0 where
+pub record BeginsIn (p : Program) (t : Functions) (f : Function) (ls : Labels) (arguments : List ℤ) (count : ℕ) (m : Machine) : Type 0 where
   pub program : m.program.now ≡ p
+  pub functions : m.functions.now ≡ t
   pub cells : m.cells ≡ count
   pub function : m.call.function.now ≡ f
+  pub labels : m.call.labels.now ≡ ls
   pub guards : m.call.guards ≡ []
   pub tasks : tasks_of m.call.tasks ≡ items (body_of f) []
   pub values : m.call.values ≡ []

@@ -3,13 +3,14 @@ ghost use Rattle.c_types.specs.Numbers.{converted};
 ghost use Rattle.c_tree.specs.ExpressionTrees.{expression_tree};
 ghost use Rattle.jump_meaning.specs.Code.{constant_or_zero, initial_variable};
 ghost use Rattle.step_memory.specs.Rooms.{IsRoom};
-ghost use Rattle.step_interp.specs.Files.{AddsTop, AreFirstCells, first_cell, has_name as the_name};
+ghost use Rattle.step_interp.specs.Files.{AddsTop, AreFirstCells, HasPlaces, first_cell};
 ghost use Rattle.step_interp.specs.Started.{HoldsFirst};
 
 use c_constants::constant_value;
 use c_tree::{Expression, GlobalVariable, Program, Top};
 use c_types::{IntKind, List, Memory, Name, convert};
 use std::alloc::Global;
+use std::collections::BTreeMap;
 use step_memory::{Cells, Room, Store};
 
 /// The value of an initialiser, converted, where that of one that traps is 0.
@@ -66,35 +67,32 @@ fn global_room(alloc: Global, global: &GlobalVariable) -> Result<Room, Memory>
     Ok(Room { kind, cells })
 }
 
-/// Whether the name is in the table.
-fn has_name(names: &[&Name], name: &Name) -> bool
-    ensures { result ≡ the_name (map (λ n. n.now) names.now) name.now }
-{
-    for other in names {
-        if other.as_str() == name.as_str() {
-            return true;
-        }
-    }
-    false
-}
-
 /// Adds the variable that is declared to those of the file, if there is none of its name yet.
 fn add_top<'a>(
     alloc: Global,
     names: &mut Vec<&'a Name>,
+    places: &mut BTreeMap<&'a str, u32>,
     file: &mut List<Room>,
     top: &'a Top,
 ) -> Result<(), Memory>
-    ensures { OnOk result (AddsTop top.now (map (λ n. n.now) names.old.items) file.old (map (λ n. n.now) names.new.items) file.new) }
+    requires { HasPlaces (map (λ n. n.now) names.old.items) places.old }
+    ensures places { OnOk result (HasPlaces (map (λ n. n.now) names.new.items) places.new) }
+    ensures file { OnOk result (AddsTop top.now (map (λ n. n.now) names.old.items) file.old (map (λ n. n.now) names.new.items) file.new) }
 {
     let Top::Global(global) = top else {
         return Ok(());
     };
-    if has_name(names.as_slice(), &global.slot.name) {
+    let name = &global.slot.name;
+    if places.contains_key(name.as_str()) {
         return Ok(());
     }
+    let at = names.len();
+    if at > 4294967295 {
+        return Err(Memory);
+    }
     file.push(global_room(alloc, global)?)?;
-    names.push(&global.slot.name)?;
+    names.push(name)?;
+    places.insert(name.as_str(), at as u32)?;
     Ok(())
 }
 
@@ -103,14 +101,16 @@ pub fn store_at_start<'a>(alloc: Global, program: &'a Program) -> Result<Store<'
     ensures { IfOk result (λ it. HoldsFirst program.now it) }
 {
     let mut names = Vec::new(alloc);
+    let mut places = BTreeMap::new(alloc);
     let mut file = List::new(alloc);
     for top in program.tops.as_slice() {
-        add_top(alloc, &mut names, &mut file, top)?;
+        add_top(alloc, &mut names, &mut places, &mut file, top)?;
     }
     let mut calls = List::new(alloc);
     calls.push(List::new(alloc))?;
     Ok(Store {
         names,
+        places,
         file,
         calls,
         newest: 0,

@@ -5,6 +5,7 @@ ghost use Rattle.rg_ports.specs.Written.{Written};
 ghost use Rattle.jump_meaning.specs.Code.{code_of};
 ghost use Rattle.jump_meaning.specs.Runs.{IsEntry};
 ghost use Rattle.jump_meaning.specs.World.{World};
+ghost use Rattle.step_calls.specs.Functions.{AreFunctionsOf};
 ghost use Rattle.step_machine.specs.Machines.{HasWorld};
 ghost use Rattle.step_interp.specs.Answers.{AgreesOver, Answers, AnswersOver, Beginning};
 ghost use Rattle.step_interp.specs.Followed.{Followed, Follows, HasPorts, IsReadFault, IsWriteFault, ReadsNext};
@@ -16,6 +17,7 @@ use c_tree::Program;
 use c_types::{Memory, Trap};
 use rg_ports::{Failed, Sink, Source, write_all};
 use std::alloc::Global;
+use step_calls::{Functions, functions_of};
 use step_machine::{Machine, Next};
 
 /// How a run stood when it was left; the `u64` is the number of steps.
@@ -55,7 +57,7 @@ fn read_byte<I: Source>(input: &mut I) -> Result<i128, Failed>
 
 /// One step, with what it reads and writes; `steps` is its number, from 1.
 fn step_with<I: Source, O: Sink>(
-    machine: &mut Machine<'_>,
+    machine: &mut Machine<'_, '_>,
     steps: u64,
     input: &mut I,
     out: &mut O,
@@ -93,7 +95,7 @@ fn step_with<I: Source, O: Sink>(
 
 /// Runs a machine for at most so many steps.
 fn run_machine<I: Source, O: Sink>(
-    machine: &mut Machine<'_>,
+    machine: &mut Machine<'_, '_>,
     budget: u64,
     input: &mut I,
     out: &mut O,
@@ -115,10 +117,38 @@ fn run_machine<I: Source, O: Sink>(
     RunAnswer::Spent
 }
 
-/// Runs the program from the entry, for at most so many steps.
-fn run_entry<I: Source, O: Sink>(
+/// Runs the program, which has these functions, from the entry, for at most so many steps.
+fn run_linked<'t, 'a, I: Source, O: Sink>(
     alloc: Global,
-    program: &Program,
+    program: &'a Program,
+    functions: &'t Functions<'a>,
+    entry: &Entry,
+    budget: u64,
+    input: &mut I,
+    out: &mut O,
+) -> RunAnswer
+    requires { AreFunctionsOf program.now functions.now }
+    ensures answers { AnswersOver program.now entry.now budget result (I.rest input.old) (I.rest input.new) (O.written out.old) (O.written out.new) }
+    ensures read_fault { result ≡ RunAnswer.ReadFault → Rose (I.faults input.old) (I.faults input.new) }
+    ensures write_fault { result ≡ RunAnswer.WriteFault → Rose (O.faults out.old) (O.faults out.new) }
+    ensures reads { I.faults input.old ≤ I.faults input.new }
+    ensures writes { O.faults out.old ≤ O.faults out.new }
+{
+    let arguments = entry.arguments.as_slice();
+    match start(alloc, program, functions, &entry.function, arguments) {
+        Ok(Some(machine)) => {
+            let mut machine = machine;
+            run_machine(&mut machine, budget, input, out)
+        }
+        Ok(None) => RunAnswer::Trapped(Trap::Cells, 0),
+        Err(Memory) => RunAnswer::Memory,
+    }
+}
+
+/// Runs the program from the entry, for at most so many steps.
+fn run_entry<'a, I: Source, O: Sink>(
+    alloc: Global,
+    program: &'a Program,
     entry: &Entry,
     budget: u64,
     input: &mut I,
@@ -130,13 +160,8 @@ fn run_entry<I: Source, O: Sink>(
     ensures reads { I.faults input.old ≤ I.faults input.new }
     ensures writes { O.faults out.old ≤ O.faults out.new }
 {
-    let started = start(alloc, program, &entry.function, entry.arguments.as_slice());
-    match started {
-        Ok(Some(machine)) => {
-            let mut machine = machine;
-            run_machine(&mut machine, budget, input, out)
-        }
-        Ok(None) => RunAnswer::Trapped(Trap::Cells, 0),
+    match functions_of(alloc, program) {
+        Ok(functions) => run_linked(alloc, program, &functions, entry, budget, input, out),
         Err(Memory) => RunAnswer::Memory,
     }
 }

@@ -1,13 +1,14 @@
 ghost use Rattle.std.specs.Prelude.{◌≡◌, ◌∷◌, ℕ, List, map, IfOk, OnOk};
 ghost use Rattle.jump_meaning.specs.Values.{Integer};
 ghost use Rattle.step_memory.specs.Values.{values_of};
+ghost use Rattle.step_calls.specs.Functions.{AreFunctionsOf};
 ghost use Rattle.step_interp.specs.Started.{BeginsIn, StartsAs};
 
 use crate::files::store_at_start;
-use c_tree::{Function, Program};
+use c_tree::Program;
 use c_types::{Memory, Name, Stack};
 use std::alloc::Global;
-use step_calls::{cells_of, definition, global_cells, rooms_at_start};
+use step_calls::{Functions, Routine, cells_of, global_cells, rooms_at_start, routine_of};
 use step_machine::{MOST_CELLS, Machine};
 use step_memory::Value;
 use step_tasks::{Call, Values};
@@ -33,23 +34,26 @@ fn first_values<'a>(alloc: Global, arguments: &[i128]) -> Result<Values<'a>, Mem
 }
 
 /// The first call of a run, before its first step.
-fn machine_at_start<'a>(
+fn machine_at_start<'t, 'a>(
     alloc: Global,
     program: &'a Program,
-    function: &'a Function,
+    functions: &'t Functions<'a>,
+    routine: &'t Routine<'a>,
     arguments: &[i128],
     cells: u64,
-) -> Result<Machine<'a>, Memory>
-    ensures { IfOk result (λ m. BeginsIn program.now function.now arguments.now cells m) }
+) -> Result<Machine<'t, 'a>, Memory>
+    ensures { IfOk result (λ m. BeginsIn program.now functions.now routine.now.function.now routine.now.labels arguments.now cells m) }
 {
+    let function = routine.function;
     let values = first_values(alloc, arguments)?;
     let rooms = rooms_at_start(alloc, function, values)?;
     let mut store = store_at_start(alloc, program)?;
     store.enter(rooms)?;
-    let call = Call::new(alloc, function)?;
+    let call = Call::new(alloc, function, &routine.labels)?;
     Ok(Machine {
         alloc,
         program,
+        functions,
         store,
         call,
         waiting: Stack::new(alloc),
@@ -57,22 +61,24 @@ fn machine_at_start<'a>(
     })
 }
 
-/// The start of a run: the entry is the first call, and there may be too many cells for it.
-pub fn start<'a>(
+/// The start of a run of a program that has these functions: the entry is the first call, and there may
+/// be too many cells for it.
+pub fn start<'t, 'a>(
     alloc: Global,
     program: &'a Program,
+    functions: &'t Functions<'a>,
     name: &Name,
     arguments: &[i128],
-) -> Result<Option<Machine<'a>>, Memory>
-    ensures ok { IfOk result (λ m. StartsAs program.now name.now arguments.now m) }
+) -> Result<Option<Machine<'t, 'a>>, Memory>
+    ensures ok { IfOk result (λ m. AreFunctionsOf program.now functions.now → StartsAs program.now name.now arguments.now m) }
 {
-    let Some(function) = definition(program, name) else {
+    let Some(routine) = routine_of(functions, name) else {
         return Err(Memory);
     };
-    let cells = global_cells(&program.tops).saturating_add(cells_of(&function.slots));
+    let cells = global_cells(&program.tops).saturating_add(cells_of(&routine.function.slots));
     if cells > MOST_CELLS {
         return Ok(None);
     }
-    let machine = machine_at_start(alloc, program, function, arguments, cells)?;
+    let machine = machine_at_start(alloc, program, functions, routine, arguments, cells)?;
     Ok(Some(machine))
 }

@@ -7,7 +7,7 @@ use step_machine::{Machine, Next};
 use step_tasks::{Done, Task, act, control, is_control, next_task};
 
 /// A task that is neither a call nor its end.
-fn perform<'a>(machine: &mut Machine<'a>, task: Task<'a>) -> Result<Next, Memory>
+fn perform<'a>(machine: &mut Machine<'_, 'a>, task: Task<'a>) -> Result<Next, Memory>
     ensures program { machine.new.program ≡ machine.old.program }
     ensures ok { IfOk result (λ next. Performs task.entry machine.old next machine.new) }
 {
@@ -23,7 +23,7 @@ fn perform<'a>(machine: &mut Machine<'a>, task: Task<'a>) -> Result<Next, Memory
 }
 
 /// One step: the next task of the newest call.
-pub fn step(machine: &mut Machine<'_>) -> Result<Next, Memory>
+pub fn step(machine: &mut Machine<'_, '_>) -> Result<Next, Memory>
     ensures program { machine.new.program ≡ machine.old.program }
     ensures ok { IfOk result (λ next. Steps machine.old next machine.new) }
 {

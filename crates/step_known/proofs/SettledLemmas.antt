@@ -45,13 +45,14 @@ has_later m w input events h = record {
   holds = record { rooms = h.holds.rooms; apart = h.holds.apart; newest = h.holds.newest };
   cells = h.cells;
   answers = h.answers;
+  linked = h.linked;
   called = h.called;
   waiting = h.waiting;
 }
 
 -- nor are the values pending
 has_values : (old new : Machine) (w : World) → new ≡ record old { call = record old.call { values = new.call.values } } → HasWorld old w → HasWorld new w
-has_values old new w e h = subst (λ m. HasWorld m w) (sym e) (record { holds = h.holds; cells = h.cells; answers = h.answers; called = h.called; waiting = h.waiting })
+has_values old new w e h = subst (λ m. HasWorld m w) (sym e) (record { holds = h.holds; cells = h.cells; answers = h.answers; linked = h.linked; called = h.called; waiting = h.waiting })
 
 pub settled_at : (old new : Machine) (x : Meant.Value) (w : World)
     → values_of (names_of old.store) new.call.values ≡ x ∷ values_of (names_of old.store) old.call.values

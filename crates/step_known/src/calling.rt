@@ -1,6 +1,7 @@
 ghost use Rattle.std.specs.Prelude.{◌≡◌, ℕ, List, IfOk};
 ghost use Rattle.jump_meaning.specs.Calls.{arguments_taken, without_last};
 ghost use Rattle.step_memory.specs.Values.{values_of};
+ghost use Rattle.step_tasks.specs.Labels.{AreLabelsOf};
 ghost use Rattle.step_machine.specs.Machines.{IsFunctionOf};
 ghost use Rattle.step_known.specs.Calls.{Called, CallsFunction};
 
@@ -8,9 +9,9 @@ use crate::known::call_without_body;
 use c_tree::Function;
 use c_types::{Memory, Name};
 use std::alloc::Global;
-use step_calls::definition;
+use step_calls::routine_of;
 use step_machine::{Machine, Next};
-use step_tasks::Values;
+use step_tasks::{Labels, Values};
 
 /// Takes so many of the values pending, so that the first of them is on top.
 fn take_arguments<'a>(
@@ -31,18 +32,20 @@ fn take_arguments<'a>(
     Ok(arguments)
 }
 
-/// A call of a function of the program, with these arguments, the first one on top.
-fn call_function<'a>(
-    machine: &mut Machine<'a>,
+/// A call of a function of the program, which has these labels, with these arguments, the first one on
+/// top.
+fn call_function<'t, 'a>(
+    machine: &mut Machine<'t, 'a>,
     function: &'a Function,
+    labels: &'t Labels<'a>,
     arguments: Values<'a>,
 ) -> Result<Next, Memory>
-    requires { IsFunctionOf machine.old.program.now function.now }
     ensures program { machine.new.program ≡ machine.old.program }
-    ensures ok { IfOk result (λ next. CallsFunction function.now arguments.entry machine.old next machine.new) }
+    ensures ok { IfOk result (λ next. IsFunctionOf machine.old.program.now function.now → AreLabelsOf function.now labels.now
+        → CallsFunction function.now arguments.entry machine.old next machine.new) }
 {
     if function.body.is_some() {
-        return machine.enter(function, arguments);
+        return machine.enter(function, labels, arguments);
     }
     call_without_body(
         machine,
@@ -53,13 +56,13 @@ fn call_function<'a>(
 }
 
 /// A call of the function of a name, which takes so many of the values pending.
-pub fn invoke<'a>(machine: &mut Machine<'a>, name: &'a Name, count: u32) -> Result<Next, Memory>
+pub fn invoke<'a>(machine: &mut Machine<'_, 'a>, name: &'a Name, count: u32) -> Result<Next, Memory>
     ensures program { machine.new.program ≡ machine.old.program }
     ensures ok { IfOk result (λ next. Called name.now count machine.old next machine.new) }
 {
     let arguments = take_arguments(machine.alloc, &mut machine.call.values, count)?;
-    match definition(machine.program, name) {
-        Some(function) => call_function(machine, function, arguments),
+    match routine_of(machine.functions, name) {
+        Some(routine) => call_function(machine, routine.function, &routine.labels, arguments),
         None => call_without_body(machine, name, false, arguments),
     }
 }

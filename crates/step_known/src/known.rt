@@ -40,7 +40,7 @@ fn first_byte(arguments: &mut Values<'_>) -> u8
 }
 
 /// The byte is the value of the call.
-fn give_byte(machine: &mut Machine<'_>, byte: u8) -> Result<(), Memory>
+fn give_byte(machine: &mut Machine<'_, '_>, byte: u8) -> Result<(), Memory>
     ensures program { machine.new.program ≡ machine.old.program }
     ensures ok { OnOk result (IsGiven (pos byte) machine.old machine.new) }
 {
@@ -48,7 +48,7 @@ fn give_byte(machine: &mut Machine<'_>, byte: u8) -> Result<(), Memory>
 }
 
 /// The number of bytes, converted to an int, is the value of the call.
-fn give_count(machine: &mut Machine<'_>, count: usize) -> Result<(), Memory>
+fn give_count(machine: &mut Machine<'_, '_>, count: usize) -> Result<(), Memory>
     ensures program { machine.new.program ≡ machine.old.program }
     ensures ok { OnOk result (IsGiven (converted Int (pos count)) machine.old machine.new) }
 {
@@ -56,7 +56,7 @@ fn give_count(machine: &mut Machine<'_>, count: usize) -> Result<(), Memory>
 }
 
 /// `putchar`: the byte is written, and is the value.
-fn put_char<'a>(machine: &mut Machine<'a>, arguments: Values<'a>) -> Result<Next, Memory>
+fn put_char<'a>(machine: &mut Machine<'_, 'a>, arguments: Values<'a>) -> Result<Next, Memory>
     ensures program { machine.new.program ≡ machine.old.program }
     ensures ok { IfOk result (λ next. Settles ⊥ (write_byte (residue UChar (the_next (values_of (names_of machine.old.store) arguments.entry)))) machine.old next machine.new) }
 {
@@ -67,7 +67,7 @@ fn put_char<'a>(machine: &mut Machine<'a>, arguments: Values<'a>) -> Result<Next
 }
 
 /// `printf`: the bytes are written, and their number is the value.
-fn print<'a>(machine: &mut Machine<'a>, arguments: Values<'a>) -> Result<Next, Memory>
+fn print<'a>(machine: &mut Machine<'_, 'a>, arguments: Values<'a>) -> Result<Next, Memory>
     ensures program { machine.new.program ≡ machine.old.program }
     ensures ok { IfOk result (λ next. Settles ⊥ (write_bytes (printed_bytes (values_of (names_of machine.old.store) arguments.entry))) machine.old next machine.new) }
 {
@@ -78,7 +78,7 @@ fn print<'a>(machine: &mut Machine<'a>, arguments: Values<'a>) -> Result<Next, M
 }
 
 /// A function of no known name without a body, for which no answer is left.
-fn declared(machine: &mut Machine<'_>, gives: bool) -> Result<Next, Memory>
+fn declared(machine: &mut Machine<'_, '_>, gives: bool) -> Result<Next, Memory>
     ensures program { machine.new.program ≡ machine.old.program }
     ensures ok { IfOk result (λ next. (m : List ℕ) (f : FunctionTree) (vs : List TheValue) → gives ≡ is_some f.result → SettlesQuietly ⊥ (call_declared m f vs) machine.old next machine.new) }
 {
@@ -92,7 +92,7 @@ fn declared(machine: &mut Machine<'_>, gives: bool) -> Result<Next, Memory>
 /// A call that enters no body, of a function that gives a value or none, with these arguments, the
 /// first one on top.
 pub fn call_without_body<'a>(
-    machine: &mut Machine<'a>,
+    machine: &mut Machine<'_, 'a>,
     name: &Name,
     gives: bool,
     arguments: Values<'a>,

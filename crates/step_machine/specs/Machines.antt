@@ -11,7 +11,8 @@ use Rattle.jump_meaning.specs.Step.{Frame, Waits, State, At}
 use Rattle.step_tasks.specs.declared.call.Call.{Call}
 use Rattle.step_machine.specs.declared.machine.Machine.{Machine}
 use Rattle.step_memory.specs.Stores.{names_of, HoldsWorld}
-use Rattle.step_tasks.specs.Controls.{guards_of}
+use Rattle.step_calls.specs.Functions.{AreFunctionsOf}
+use Rattle.step_tasks.specs.Controls.{guards_of, HasLabels}
 use Rattle.step_tasks.specs.Tasks.{tasks_of}
 use Rattle.step_memory.specs.Values.{values_of}
 
@@ -28,13 +29,18 @@ state_of m w = At m.call.function.now.name (guards_of m.call.guards) (tasks_of m
 abbrev pub IsFunctionOf : Program → Function → Type 0
 IsFunctionOf p f = function_named f.name p.tops ≡ function_tree f
 
+-- a call of a function of the program, with its labels
+abbrev pub IsCallOf : Program → Call → Type 0
+IsCallOf p c = IsFunctionOf p c.function.now × HasLabels c
+
 -- the variables of the machine are those of the world, and its functions those of the program
 pub record HasWorld (m : Machine) (w : World) : Type 0 where
   pub holds : HoldsWorld m.store w
   pub cells : w.cells ≡ m.cells
   pub answers : w.answers ≡ []
-  pub called : IsFunctionOf m.program.now m.call.function.now
-  pub waiting : All (λ k. IsFunctionOf m.program.now k.function.now) m.waiting
+  pub linked : AreFunctionsOf m.program.now m.functions.now
+  pub called : IsCallOf m.program.now m.call
+  pub waiting : All (λ k. IsCallOf m.program.now k) m.waiting
 
 -- what a call of `getchar` gives of an input, and what is left of it
 abbrev pub IsRead : List ℕ → ℤ → List ℕ → Type 0

@@ -7,6 +7,7 @@ ghost use Rattle.jump_meaning.specs.World.{World, push};
 ghost use Rattle.step_memory.specs.Stores.{names_of};
 ghost use Rattle.step_memory.specs.Values.{value_of, values_of};
 ghost use Rattle.step_tasks.specs.Controls.{body_of};
+ghost use Rattle.step_tasks.specs.Labels.{AreLabelsOf};
 ghost use Rattle.step_machine.specs.Machines.{HasWorld, IsFunctionOf, IsGiven, frames_of};
 ghost use Rattle.step_machine.specs.Moves.{EndsRun, Reaches, with_waiting};
 
@@ -14,9 +15,9 @@ use c_tree::{Function, Program};
 use c_types::{Bytes, Memory, Stack, Trap, convert};
 use std::alloc::Global;
 use std::mem;
-use step_calls::{cells_of, rooms_at_start};
+use step_calls::{Functions, cells_of, rooms_at_start};
 use step_memory::{Store, Value};
-use step_tasks::{Call, Values, drops_next, integer, leave_number, take};
+use step_tasks::{Call, Labels, Values, drops_next, integer, leave_number, take};
 
 /// The most calls in one another.
 pub const MOST_CALLS: u32 = 10000;
@@ -24,15 +25,16 @@ pub const MOST_CALLS: u32 = 10000;
 /// The most cells of arrays that are present.
 pub const MOST_CELLS: u64 = 4194304;
 
-/// A run at one time: its variables, the newest call, the calls that wait for it, the newest first,
-/// and the number of cells of arrays that are present.
+/// A run at one time: the functions of its program, its variables, the newest call, the calls that wait
+/// for it, the newest first, and the number of cells of arrays that are present.
 #[derive(Drop)]
-pub struct Machine<'a> {
+pub struct Machine<'t, 'a> {
     pub alloc: Global,
     pub program: &'a Program,
+    pub functions: &'t Functions<'a>,
     pub store: Store<'a>,
-    pub call: Call<'a>,
-    pub waiting: Stack<Call<'a>>,
+    pub call: Call<'t, 'a>,
+    pub waiting: Stack<Call<'t, 'a>>,
     pub cells: u64,
 }
 
@@ -75,7 +77,7 @@ fn end_run(function: &Function, value: Value<'_>) -> Next
     Next::Ends(integer(value))
 }
 
-impl<'a> Machine<'a> {
+impl<'t, 'a> Machine<'t, 'a> {
     /// The byte that was read, or -1 at the end of the input, is the value of the call.
     pub fn give(&mut self, number: i128) -> Result<(), Memory>
         ensures ok { OnOk result (IsGiven number self.old self.new) }
@@ -85,7 +87,7 @@ impl<'a> Machine<'a> {
     }
 
     /// The newest call is over, and leaves its value with the one that called it.
-    fn return_to(&mut self, caller: Call<'a>, value: Value<'a>) -> Result<Next, Memory>
+    fn return_to(&mut self, caller: Call<'t, 'a>, value: Value<'a>) -> Result<Next, Memory>
         ensures program { self.new.program ≡ self.old.program }
         ensures ok { IfOk result (λ next. (w : World) → HasWorld (with_waiting caller.entry self.old) w
             → Reaches ⊥ (the_leave (function_tree self.old.call.function.now) (value_of (names_of self.old.store) value.entry) (frames_of (names_of self.old.store) (caller.entry ∷ self.old.waiting)) w) w next self.new) }
@@ -142,10 +144,16 @@ impl<'a> Machine<'a> {
         }
     }
 
-    /// A call of a function with a body, with these arguments, the first one on top.
-    pub fn enter(&mut self, function: &'a Function, arguments: Values<'a>) -> Result<Next, Memory>
+    /// A call of a function with a body, which has these labels, with these arguments, the first one on
+    /// top.
+    pub fn enter(
+        &mut self,
+        function: &'a Function,
+        labels: &'t Labels<'a>,
+        arguments: Values<'a>,
+    ) -> Result<Next, Memory>
         ensures program { self.new.program ≡ self.old.program }
-        ensures ok { IfOk result (λ next. IsFunctionOf self.old.program.now function.now → (w : World) → HasWorld self.old w
+        ensures ok { IfOk result (λ next. IsFunctionOf self.old.program.now function.now → AreLabelsOf function.now labels.now → (w : World) → HasWorld self.old w
             → Reaches ⊥ (begin_call function.now.name (body_of function.now) (push (function_tree function.now) (values_of (names_of self.old.store) arguments.entry) w) (frames_of (names_of self.old.store) (self.old.call ∷ self.old.waiting)) w) w next self.new) }
     {
         if self.store.newest >= MOST_CALLS {
@@ -156,7 +164,7 @@ impl<'a> Machine<'a> {
             return Ok(Next::Traps(Trap::Cells));
         }
         let rooms = rooms_at_start(self.alloc, function, arguments)?;
-        let call = Call::new(self.alloc, function)?;
+        let call = Call::new(self.alloc, function, labels)?;
         self.store.enter(rooms)?;
         self.cells = cells;
         let caller = mem::replace(&mut self.call, call);

@@ -9,11 +9,14 @@ use crate::room::{Cells, Room};
 use crate::value::Owner;
 use c_tree::Home;
 use c_types::{IntKind, List, Memory, Name};
+use std::collections::BTreeMap;
 
 /// The variables: those of the file, by the table of their names, and those of each call.
 #[derive(Drop)]
 pub struct Store<'a> {
     pub names: Vec<&'a Name>,
+    /// Where each of these names stands among them.
+    pub places: BTreeMap<&'a str, u32>,
     pub file: List<Room>,
     /// The slots of each call, whose numbers begin at 1. What an ended call held stays until the
     /// next call of its number.
@@ -22,16 +25,29 @@ pub struct Store<'a> {
     pub newest: u32,
 }
 
-/// The place of a name in the table.
-fn place_of(names: &[&Name], name: &Name) -> Result<u32, Memory>
+/// The name at a place of the table, if it is this one.
+fn is_at(names: &[&Name], at: u32, name: &Name) -> Result<u32, Memory>
     ensures { IfOk result (λ i. entry_or [] (map (λ n. n.now) names.now) i ≡ name.now) }
 {
-    for (at, other) in names.iter().enumerate() {
-        if other.as_str() == name.as_str() && at <= 4294967295 {
-            return Ok(at as u32);
-        }
+    let place = at as usize;
+    if place >= names.len() {
+        return Err(Memory);
+    }
+    let other = names[place];
+    if other.as_str() == name.as_str() {
+        return Ok(at);
     }
     Err(Memory)
+}
+
+/// The place of a name in the table.
+fn place_of(names: &[&Name], places: &BTreeMap<&str, u32>, name: &Name) -> Result<u32, Memory>
+    ensures { IfOk result (λ i. entry_or [] (map (λ n. n.now) names.now) i ≡ name.now) }
+{
+    match places.get(name.as_str()) {
+        Some(at) => is_at(names, *at, name),
+        None => Err(Memory),
+    }
 }
 
 impl<'a> Store<'a> {
@@ -58,7 +74,11 @@ impl<'a> Store<'a> {
         ensures { IfOk result (λ o. Names self.now home.now o) }
     {
         match home {
-            Home::Global(name) => Ok(Owner::File(place_of(self.names.as_slice(), name)?)),
+            Home::Global(name) => Ok(Owner::File(place_of(
+                self.names.as_slice(),
+                &self.places,
+                name,
+            )?)),
             Home::Slot(at) => Ok(Owner::Call(self.newest, *at)),
         }
     }

@@ -12,11 +12,15 @@ use Rattle.step_memory.specs.Stores.{names_of}
 use Rattle.step_memory.specs.Values.{values_of}
 use Rattle.step_tasks.specs.declared.call.Call.{Call}
 use Rattle.step_tasks.specs.declared.work.Work.{Work}
-use Rattle.step_tasks.specs.Controls.{guards_of, body_of, GoesTo, MovesAlways, Turned, returns}
+use Rattle.step_tasks.specs.Controls.{guards_of, body_of, GoesTo, HasLabels, MovesAlways, Turned, returns}
 use Rattle.step_tasks.specs.Tasks.{turn_of, tasks_of}
 
 pub goes : (t : T.Task) (c : Call) (ts : List Work) → view (body_of c.function.now) (guards_of c.guards) (t ∷ tasks_of c.tasks) ≡ Goes (tasks_of ts) → MovesAlways t c (record c { tasks = ts })
-goes t c ts e s P f cs w h = ap (λ v. move P v f (guards_of c.guards) (values_of (names_of s) c.values) cs w) e
+goes t c ts e s P f cs w h a = ap (λ v. move P v f (guards_of c.guards) (values_of (names_of s) c.values) cs w) e
+
+-- a jump, where the call has the labels of its function
+pub jumps : (t : T.Task) (c : Call) (ts : List Work) → (HasLabels c → view (body_of c.function.now) (guards_of c.guards) (t ∷ tasks_of c.tasks) ≡ Goes (tasks_of ts)) → MovesAlways t c (record c { tasks = ts })
+jumps t c ts e s P f cs w h a = goes t c ts (e a) s P f cs w h a
 
 -- the tasks are replaced, whatever the guards are
 pub goes_to : (t : T.Task) (c : Call) (ts : List Work) → GoesTo t c.tasks ts → MovesAlways t c (record c { tasks = ts })
@@ -24,13 +28,13 @@ goes_to t c ts g = goes t c ts (g (body_of c.function.now) (guards_of c.guards))
 
 pub yields : (t : T.Task) (c : Call) (vs : List Value) (n : ℤ) → view (body_of c.function.now) (guards_of c.guards) (t ∷ tasks_of c.tasks) ≡ Yields n (tasks_of c.tasks)
     → ((ns : List (List ℕ)) → values_of ns vs ≡ Meant.Integer n ∷ values_of ns c.values) → MovesAlways t c (record c { values = vs })
-yields t c vs n e v s P f cs w h =
+yields t c vs n e v s P f cs w h a =
     ap (λ x. move P x f (guards_of c.guards) (values_of (names_of s) c.values) cs w) e
     ∙ ap (λ x. At f (guards_of c.guards) (tasks_of c.tasks) x cs w) (sym (v (names_of s)))
 
 pub guards : (t : T.Task) (c : Call) (gs : List ℕ) (l : ℕ) (b : Bool) → view (body_of c.function.now) (guards_of c.guards) (t ∷ tasks_of c.tasks) ≡ Guarding l b (tasks_of c.tasks)
     → guards_of gs ≡ with_guard l b (guards_of c.guards) → MovesAlways t c (record c { guards = gs })
-guards t c gs l b e g s P f cs w h =
+guards t c gs l b e g s P f cs w h a =
     ap (λ x. move P x f (guards_of c.guards) (values_of (names_of s) c.values) cs w) e
     ∙ ap (λ x. At f x (tasks_of c.tasks) (values_of (names_of s) c.values) cs w) (sym g)
 
@@ -38,7 +42,7 @@ pub takes : (t : T.Task) (c : Call) (ts : List Work) (vs : List Value) (next : M
     → view (body_of c.function.now) (guards_of c.guards) (t ∷ tasks_of c.tasks) ≡ Takes next
     → ((ns : List (List ℕ)) → tasks_of ts ≡ next (top (values_of ns c.values))) → ((ns : List (List ℕ)) → values_of ns vs ≡ rest (values_of ns c.values))
     → MovesAlways t c (record c { tasks = ts; values = vs })
-takes t c ts vs next e k v s P f cs w h =
+takes t c ts vs next e k v s P f cs w h a =
     ap (λ x. move P x f (guards_of c.guards) (values_of (names_of s) c.values) cs w) e
     ∙ ap (λ x. At f (guards_of c.guards) x (rest (values_of (names_of s) c.values)) cs w) (sym (k (names_of s)))
     ∙ ap (λ x. At f (guards_of c.guards) (tasks_of ts) x cs w) (sym (v (names_of s)))

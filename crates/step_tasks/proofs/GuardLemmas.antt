@@ -11,7 +11,7 @@ use Rattle.step_tasks.specs.Controls.{guards_of}
 pub any_at : (l : ℕ) (xs : List ℕ) (i d : ℕ) → i < length xs → list_any (eqb l) (drop i xs) ≡ eqb l (get_or xs i d) || list_any (eqb l) (drop (i + 1) xs)
 any_at l xs i d h = rw (add-one, drop-cons xs i d) refl
 
-either : (b : Bool) → (b ≡ true) ⊎ (b ≡ false)
+pub either : (b : Bool) → (b ≡ true) ⊎ (b ≡ false)
 either true = inl refl
 either false = inr refl
 

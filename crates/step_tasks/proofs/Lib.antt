@@ -11,3 +11,4 @@ pub mod ControlLemmas
 pub mod StoredLemmas
 pub mod SearchLemmas
 pub mod ActLemmas
+pub mod LabelLemmas

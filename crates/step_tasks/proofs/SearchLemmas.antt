@@ -1,5 +1,5 @@
 -- Searches for a label, item by item.
-use Rattle.std.proofs.Common.{ℕ, suc, ◌-◌, take, ◌+◌, ◌<◌, arith, ℤ, Bool, true, false, cond, List, [], ◌∷◌, length, get_or, drop, Option, Some, None, ◌≡◌, sym, ap, ◌∙◌, add-one, drop-cons}
+use Rattle.std.proofs.Common.{ℕ, suc, ◌-◌, take, ◌+◌, ◌<◌, arith, ℤ, Bool, true, false, cond, List, [], ◌∷◌, length, get_or, drop, Option, Some, None, ◌≡◌, refl, sym, ap, ◌∙◌, add-one, drop-cons}
 use Rattle.std.proofs.lemmas.List.{take_all, length-drop}
 use Rattle.c_types.specs.declared.kinds.IntKind.{IntKind}
 use Rattle.c_tree.specs.declared.tree.Expression.{Expression}
@@ -9,13 +9,17 @@ use Rattle.c_tree.specs.declared.tree.Item.TheVariants.{rolls-Mark, rolls-Land, 
 use Rattle.c_tree.specs.declared.tree.Section as Real
 use Rattle.c_tree.specs.declared.tree.Selector.{Selector}
 use Rattle.c_tree.specs.declared.tree.Test.{Test}
-use Rattle.c_tree.specs.Trees.{tree_of, trees_of, section_tree, sections_of}
+use Rattle.c_tree.specs.TestTrees.{SelectorTree}
+use Rattle.c_tree.specs.Trees as Tree
+use Rattle.c_tree.specs.Trees.{Sections, tree_of, trees_of, section_tree, sections_of}
 use Rattle.c_tree.proofs.ChangeLemmas.{layer_tree, tree-roll}
 use Rattle.c_tree.proofs.TreeLaws.{trees-none, trees-more, sections-none, sections-more}
 use Rattle.jump_meaning.specs.Search.{Goal, ToLabel, ToCase, ToDefault, is_goal, is_section_goal, or_else, seek, seek_in, seek_sections, first_of_three}
 use Rattle.jump_meaning.specs.Tasks.{Task, items, end_of, tail_tasks}
 use Rattle.step_tasks.specs.declared.work.Work.{Work}
-use Rattle.step_tasks.specs.Controls.{HasNoLabel, Sought}
+use Rattle.step_tasks.specs.declared.search.Goal as Mine
+use Rattle.step_tasks.specs.declared.search.Goal.TheVariants as Kinds
+use Rattle.step_tasks.specs.Controls.{HasNoLabel, Sought, goal_of}
 use Rattle.step_tasks.specs.Tasks.{tasks_of}
 
 -- ---- items that are no label, and items without lists
@@ -63,7 +67,8 @@ from_here g x xs k =
     ap (λ f. seek g f k) (trees-more x xs)
     ∙ ap (λ f. or_else (cond (is_goal g (tree_of x)) (Some (items f k)) (seek_in g (tree_of x) (items (trees_of xs) k))) (seek g (trees_of xs) k)) (sym (trees-more x xs))
 
-from_place : (g : Goal) (xs : List Item) (i : ℕ) (x : Item) (k : List Task) → i < length xs → x ≡ get_or xs i x
+-- what is found from a place on: in the item there, or else behind it
+pub from_place : (g : Goal) (xs : List Item) (i : ℕ) (x : Item) (k : List Task) → i < length xs → x ≡ get_or xs i x
     → seek g (trees_of (drop i xs)) k
     ≡ or_else (cond (is_goal g (tree_of x)) (Some (items (trees_of (drop i xs)) k)) (seek_in g (tree_of x) (items (trees_of (drop (i + 1) xs)) k))) (seek g (trees_of (drop (i + 1) xs)) k)
 from_place g xs i x k h e =
@@ -99,7 +104,8 @@ past_last g xs k e = ap (λ ys. seek g (trees_of ys) k) e ∙ ap (λ f. seek g f
 
 -- ---- the sections of a switch, from one on
 
-among : (g : Goal) (cs : List Real.Section) (i : ℕ) (c : Real.Section) (k : List Task) → i < length cs → c ≡ get_or cs i c
+-- the same in the sections of a switch
+pub among : (g : Goal) (cs : List Real.Section) (i : ℕ) (c : Real.Section) (k : List Task) → i < length cs → c ≡ get_or cs i c
     → let s = section_tree c in
     seek_sections g (sections_of (drop i cs)) k
     ≡ or_else (cond (is_section_goal g s.cases s.default) (Some (tail_tasks (sections_of (drop i cs)) k)) (seek g s.list (end_of s.ends (tail_tasks (sections_of (drop (i + 1) cs)) k)))) (seek_sections g (sections_of (drop (i + 1) cs)) k)
@@ -139,6 +145,11 @@ pub past_sections : (g : Goal) (cs : List Real.Section) (k : List Task) → cs �
 past_sections g cs k e = ap (λ ys. seek_sections g (sections_of ys) k) e ∙ ap (λ s. seek_sections g s k) sections-none
 
 -- ---- what a search comes to
+
+-- a case of a switch isn't sought in the switches inside
+pub no_switch : (g : Mine.Goal) (s : SelectorTree) (c : Sections) (k : List Task) → seek_in (goal_of g) (Tree.Switch s c) k ≡ None
+no_switch (Kinds.Case j n) s c k = refl
+no_switch Kinds.Default s c k = refl
 
 pub sought_as : (b : Bool) (o p : Option (List Task)) (old new : List Work) → o ≡ p → Sought b p old new → Sought b o old new
 sought_as true o p old new e h = e ∙ h

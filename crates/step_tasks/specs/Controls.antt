@@ -19,12 +19,13 @@ use Rattle.step_memory.specs.Stores.{names_of, HoldsWorld}
 use Rattle.step_memory.specs.Values.{values_of}
 use Rattle.step_tasks.specs.declared.call.Call.{Call}
 use Rattle.step_tasks.specs.declared.search.Goal.{Goal}
-use Rattle.step_tasks.specs.declared.search.Goal.TheVariants.{Label, Case, Default}
+use Rattle.step_tasks.specs.declared.search.Goal.TheVariants.{Case, Default}
 use Rattle.step_tasks.specs.declared.work.Stage.TheVariants as Stages
 use Rattle.step_tasks.specs.declared.work.Task.{Task}
 use Rattle.step_tasks.specs.declared.work.Task.TheVariants as My
 use Rattle.step_tasks.specs.declared.work.Work.{Work}
 use Rattle.step_tasks.specs.declared.work.Work.TheVariants as Several
+use Rattle.step_tasks.specs.Labels.{AreLabelsOf}
 use Rattle.step_tasks.specs.Tasks.{task_of, tasks_of}
 
 -- the guards of these labels are set, and no others
@@ -35,6 +36,10 @@ guards_of ls l = list_any (eqb l) ls
 abbrev pub body_of : Function → Forest
 body_of f = items_of (function_tree f)
 
+-- the call has the labels of its function
+abbrev pub HasLabels : Call → Type 0
+HasLabels c = AreLabelsOf c.function.now c.labels.now
+
 -- the task is replaced by others, whatever the guards are
 abbrev pub GoesTo : T.Task → List Work → List Work → Type 0
 GoesTo t old new = (b : Forest) (g : Guards) → view b g (t ∷ tasks_of old) ≡ Goes (tasks_of new)
@@ -42,7 +47,7 @@ GoesTo t old new = (b : Forest) (g : Guards) → view b g (t ∷ tasks_of old) �
 -- the step of the meaning from the call with this task before its others comes to the call as it is now, and the world stays
 abbrev pub Moves : T.Task → Store → Call → Call → Type 0
 Moves t s old new =
-    (P : Code) (f : List ℕ) (cs : List Frame) (w : World) → HoldsWorld s w
+    (P : Code) (f : List ℕ) (cs : List Frame) (w : World) → HoldsWorld s w → HasLabels old
     → move P (view (body_of old.function.now) (guards_of old.guards) (t ∷ tasks_of old.tasks)) f (guards_of old.guards) (values_of (names_of s) old.values) cs w
     ≡ At f (guards_of new.guards) (tasks_of new.tasks) (values_of (names_of s) new.values) cs w
 
@@ -63,7 +68,6 @@ returns (Some e) k = T.Works (Computes e) ∷ T.Works (Ends true) ∷ k
 -- ---- searches
 
 abbrev pub goal_of : Goal → Search.Goal
-goal_of (Label l) = Search.ToLabel l
 goal_of (Case k n) = Search.ToCase k n
 goal_of Default = Search.ToDefault
 

@@ -1,4 +1,5 @@
 pub mod Tasks
 pub mod Effects
+pub mod Labels
 pub mod Controls
 pub mod Indexes

@@ -38,8 +38,9 @@ pub fn is_control(task: &Task<'_>) -> bool
 }
 
 /// A task of an item, a test or a selector. Any other is refused.
-pub fn control<'a>(call: &mut Call<'a>, store: &Store<'a>, task: Task<'a>) -> Result<(), Memory>
+pub fn control<'a>(call: &mut Call<'_, 'a>, store: &Store<'a>, task: Task<'a>) -> Result<(), Memory>
     ensures function { call.new.function ≡ call.old.function }
+    ensures labels { call.new.labels ≡ call.old.labels }
     ensures ok { OnOk result (Moves (task_of task.entry) store.now call.old call.new) }
 {
     match task {

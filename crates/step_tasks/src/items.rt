@@ -63,12 +63,13 @@ fn expand<'a>(tasks: &mut Tasks<'a>, item: &'a Item) -> Result<(), Memory>
 
 /// A declaration, with its initialisers, if it has any.
 fn declare<'a>(
-    call: &mut Call<'a>,
+    call: &mut Call<'_, 'a>,
     store: &Store<'a>,
     slot: u32,
     initialisers: &'a Option<List<Expression>>,
 ) -> Result<(), Memory>
     ensures function { call.new.function ≡ call.old.function }
+    ensures labels { call.new.labels ≡ call.old.labels }
     ensures ok { OnOk result (Moves (Runs (Local slot (option_map expression_trees initialisers.now))) store.now call.old call.new) }
 {
     match initialisers {
@@ -81,8 +82,13 @@ fn declare<'a>(
 }
 
 /// The guard of a label is set, or is to be set to whether an expression isn't 0.
-fn arms<'a>(call: &mut Call<'a>, label: u32, value: &'a Option<Expression>) -> Result<(), Memory>
+fn arms<'a>(
+    call: &mut Call<'_, 'a>,
+    label: u32,
+    value: &'a Option<Expression>,
+) -> Result<(), Memory>
     ensures function { call.new.function ≡ call.old.function }
+    ensures labels { call.new.labels ≡ call.old.labels }
     ensures ok { OnOk result (MovesAlways (Runs (TheArm label (option_map expression_tree value.now))) call.old call.new) }
 {
     match value {
@@ -96,24 +102,30 @@ fn arms<'a>(call: &mut Call<'a>, label: u32, value: &'a Option<Expression>) -> R
 }
 
 /// A jump to the label if its guard is set.
-fn leap(call: &mut Call<'_>, label: u32) -> Result<(), Memory>
+fn leap(call: &mut Call<'_, '_>, label: u32) -> Result<(), Memory>
     ensures function { call.new.function ≡ call.old.function }
+    ensures labels { call.new.labels ≡ call.old.labels }
     ensures ok { OnOk result (MovesAlways (Runs (Leap label)) call.old call.new) }
 {
     if is_set(&call.guards, label) {
-        return jump(&mut call.tasks, call.function, label);
+        return jump(&mut call.tasks, call.labels, label);
     }
     Ok(())
 }
 
 /// An item. Control in it goes to its parts.
-pub fn run_item<'a>(call: &mut Call<'a>, store: &Store<'a>, item: &'a Item) -> Result<(), Memory>
+pub fn run_item<'a>(
+    call: &mut Call<'_, 'a>,
+    store: &Store<'a>,
+    item: &'a Item,
+) -> Result<(), Memory>
     ensures function { call.new.function ≡ call.old.function }
+    ensures labels { call.new.labels ≡ call.old.labels }
     ensures ok { OnOk result (Moves (Runs (tree_of item.now)) store.now call.old call.new) }
 {
     match item {
         Item::Local(slot, initialisers) => declare(call, store, *slot, initialisers),
-        Item::Goto(label) => jump(&mut call.tasks, call.function, *label),
+        Item::Goto(label) => jump(&mut call.tasks, call.labels, *label),
         Item::Arm(label, value) => arms(call, *label, value),
         Item::Leap(label) => leap(call, *label),
         Item::Land(label) => {
@@ -125,8 +137,9 @@ pub fn run_item<'a>(call: &mut Call<'a>, store: &Store<'a>, item: &'a Item) -> R
 }
 
 /// Takes whether the test of an `if` holds.
-pub fn branch<'a>(call: &mut Call<'a>, item: &'a Item) -> Result<(), Memory>
+pub fn branch<'a>(call: &mut Call<'_, 'a>, item: &'a Item) -> Result<(), Memory>
     ensures function { call.new.function ≡ call.old.function }
+    ensures labels { call.new.labels ≡ call.old.labels }
     ensures ok { OnOk result (MovesAlways (branch_of (tree_of item.now)) call.old call.new) }
 {
     let holds = take_truth(&mut call.values);
@@ -143,8 +156,9 @@ pub fn branch<'a>(call: &mut Call<'a>, item: &'a Item) -> Result<(), Memory>
 }
 
 /// A further turn of a loop, if its test holds.
-pub fn turn<'a>(call: &mut Call<'a>, item: &'a Item) -> Result<(), Memory>
+pub fn turn<'a>(call: &mut Call<'_, 'a>, item: &'a Item) -> Result<(), Memory>
     ensures function { call.new.function ≡ call.old.function }
+    ensures labels { call.new.labels ≡ call.old.labels }
     ensures ok { OnOk result (MovesAlways (turn_of (tree_of item.now)) call.old call.new) }
 {
     let holds = take_truth(&mut call.values);

@@ -1,18 +1,22 @@
 ghost use Rattle.std.specs.Prelude.{◌≡◌, [], OnOk};
+ghost use Rattle.c_tree.specs.declared.tree.Function.{Function};
 ghost use Rattle.c_tree.specs.TestTrees.{selector_tree};
 ghost use Rattle.c_tree.specs.Trees.{tree_of};
 ghost use Rattle.jump_meaning.specs.Search.{find};
 ghost use Rattle.jump_meaning.specs.Step.{switch_kind as the_switch_kind};
 ghost use Rattle.jump_meaning.specs.Tasks.{cut as the_cut, cut_to as the_cut_to};
 ghost use Rattle.step_tasks.specs.Controls.{body_of, is_loop as the_loop, is_out as the_out, ends_break as the_break, ends_continue as the_continue, MovesAlways};
+ghost use Rattle.step_tasks.specs.Labels.{AreLabelsOf};
 ghost use Rattle.step_tasks.specs.Tasks.{enter_of, tasks_of};
 
 use crate::call::Call;
+use crate::labels::Labels;
 use crate::operate::operand_kind;
 use crate::pending::take_number;
-use crate::search::{Goal, seek, seek_sections};
+use crate::search::{Goal, seek_sections};
+use crate::table::{restore, start};
 use crate::work::{Stage, Task, Tasks, Work};
-use c_tree::{Function, Item, Selector};
+use c_tree::{Item, Selector};
 use c_types::{IntKind, Memory, promote};
 
 /// Whether the task stands behind the body of a loop.
@@ -84,15 +88,12 @@ fn clear(tasks: &mut Tasks<'_>)
     while let Some(_) = tasks.pop() {}
 }
 
-/// `goto`: the tasks from the label on.
-pub fn jump<'a>(tasks: &mut Tasks<'a>, function: &'a Function, label: u32) -> Result<(), Memory>
-    ensures ok { OnOk result (tasks_of tasks.new ≡ find label (body_of function.now)) }
+/// `goto`: the tasks from the label on, where these are the labels of the function.
+pub fn jump<'a>(tasks: &mut Tasks<'a>, labels: &Labels<'a>, label: u32) -> Result<(), Memory>
+    ensures ok { OnOk result ((f : Function) → AreLabelsOf f labels.now → tasks_of tasks.new ≡ find label (body_of f)) }
 {
     clear(tasks);
-    if let Some(body) = &function.body {
-        seek(tasks, &Goal::Label(label), body.as_slice())?;
-    }
-    Ok(())
+    restore(tasks, labels, start(labels, label))
 }
 
 /// The kind in which the cases of a switch are compared.
@@ -106,8 +107,9 @@ fn switch_kind(selector: &Selector) -> IntKind
 }
 
 /// Takes the value of a selector, and goes to the section that it selects.
-pub fn enter<'a>(call: &mut Call<'a>, item: &'a Item) -> Result<(), Memory>
+pub fn enter<'a>(call: &mut Call<'_, 'a>, item: &'a Item) -> Result<(), Memory>
     ensures function { call.new.function ≡ call.old.function }
+    ensures labels { call.new.labels ≡ call.old.labels }
     ensures ok { OnOk result (MovesAlways (enter_of (tree_of item.now)) call.old call.new) }
 {
     let number = take_number(&mut call.values);

@@ -2,7 +2,7 @@ ghost use Rattle.std.specs.Prelude.{◌≡◌, IsFalse, IfOk};
 ghost use Rattle.std.specs.List.{list_any};
 ghost use Rattle.c_tree.specs.ExpressionTrees.{expression_tree};
 ghost use Rattle.c_tree.specs.Trees.{expression_trees, tree_of, trees_of, section_tree, sections_of};
-ghost use Rattle.jump_meaning.specs.Search.{ToLabel, ToCase, ToDefault, is_case as the_case, is_goal as the_goal, is_section_goal as the_section, enters_switches as the_switches, seek as the_seek, seek_in as the_seek_in, seek_sections as the_seek_sections};
+ghost use Rattle.jump_meaning.specs.Search.{ToCase, ToDefault, is_case as the_case, is_goal as the_goal, is_section_goal as the_section, seek as the_seek, seek_in as the_seek_in, seek_sections as the_seek_sections};
 ghost use Rattle.jump_meaning.specs.Tasks.{items, end_of};
 ghost use Rattle.step_tasks.specs.Controls.{goal_of, HasNoLabel, Sought};
 ghost use Rattle.step_tasks.specs.Tasks.{tasks_of, work_of};
@@ -12,10 +12,9 @@ use c_constants::constant_value;
 use c_tree::{Expression, Item, Section};
 use c_types::{IntKind, Memory, convert};
 
-/// What is sought: a label of the function, or in a switch a case or the default.
+/// What is sought in a switch: a case or the default.
 #[derive(Clone, Copy)]
 pub enum Goal {
-    Label(u32),
     Case(IntKind, i128),
     Default,
 }
@@ -27,17 +26,6 @@ fn is_case(kind: IntKind, number: &i128, case: &Expression) -> bool
     match constant_value(case) {
         Some(value) => *number == convert(kind, value),
         None => false,
-    }
-}
-
-/// Whether an item is this label of the function.
-fn is_mark(label: u32, item: &Item) -> bool
-    ensures { result ≡ the_goal (ToLabel label) (tree_of item.now) }
-{
-    match item {
-        Item::Mark(other) => label == *other,
-        Item::Land(other) => label == *other,
-        _ => false,
     }
 }
 
@@ -72,7 +60,6 @@ fn is_goal(goal: &Goal, item: &Item) -> bool
     ensures { result ≡ the_goal (goal_of goal.now) (tree_of item.now) }
 {
     match goal {
-        Goal::Label(label) => is_mark(*label, item),
         Goal::Case(kind, number) => is_arrival(*kind, number, item),
         Goal::Default => is_default(item),
     }
@@ -94,18 +81,8 @@ fn is_section_goal(goal: &Goal, section: &Section) -> bool
     ensures { result ≡ (let s = section_tree section.now in the_section (goal_of goal.now) s.cases s.default) }
 {
     match goal {
-        Goal::Label(_) => false,
         Goal::Case(kind, number) => has_case(*kind, number, section.cases.as_slice()),
         Goal::Default => section.default,
-    }
-}
-
-fn enters_switches(goal: &Goal) -> bool
-    ensures { result ≡ the_switches (goal_of goal.now) }
-{
-    match goal {
-        Goal::Label(_) => true,
-        _ => false,
     }
 }
 
@@ -152,19 +129,14 @@ fn seek_in<'a>(tasks: &mut Tasks<'a>, goal: &Goal, item: &'a Item) -> Result<boo
             let work = Work::One(Task::Of(Stage::Loop, item));
             seek_before(tasks, goal, a.as_slice(), work)
         }
-        Item::Switch(_, sections) => {
-            if enters_switches(goal) {
-                return seek_sections(tasks, goal, sections.as_slice());
-            }
-            Ok(false)
-        }
+        Item::Switch(_, _) => Ok(false),
         Item::Block(a) => seek(tasks, goal, a.as_slice()),
         _ => Ok(false),
     }
 }
 
 /// Whether an item has lists; in one without lists no label stands.
-fn has_lists(item: &Item) -> bool
+pub fn has_lists(item: &Item) -> bool
     ensures { IsFalse result → HasNoLabel (tree_of item.now) }
 {
     match item {
@@ -201,7 +173,7 @@ fn seek_inside<'a>(
 
 /// Puts the tasks from the label in a list on before the others, if it stands there.
 #[cycle(search)]
-pub fn seek<'a>(tasks: &mut Tasks<'a>, goal: &Goal, list: &'a [Item]) -> Result<bool, Memory>
+fn seek<'a>(tasks: &mut Tasks<'a>, goal: &Goal, list: &'a [Item]) -> Result<bool, Memory>
     ensures ok { IfOk result (λ b. Sought b (the_seek (goal_of goal.now) (trees_of list.now) (tasks_of tasks.old)) tasks.old tasks.new) }
 {
     for at in 0..list.len() {
@@ -218,7 +190,6 @@ pub fn seek<'a>(tasks: &mut Tasks<'a>, goal: &Goal, list: &'a [Item]) -> Result<
 }
 
 /// The same in the sections of a switch.
-#[cycle(search)]
 pub fn seek_sections<'a>(
     tasks: &mut Tasks<'a>,
     goal: &Goal,
@@ -242,7 +213,6 @@ pub fn seek_sections<'a>(
 }
 
 /// The same in the list of one section, with its end behind it.
-#[cycle(search)]
 fn seek_section<'a>(
     tasks: &mut Tasks<'a>,
     goal: &Goal,

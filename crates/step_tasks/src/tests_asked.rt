@@ -13,8 +13,9 @@ use c_tree::{Selector, Test};
 use c_types::{Memory, promote};
 
 /// Takes the value that decides the guard of a label.
-pub fn arm(call: &mut Call<'_>, label: u32) -> Result<(), Memory>
+pub fn arm(call: &mut Call<'_, '_>, label: u32) -> Result<(), Memory>
     ensures function { call.new.function ≡ call.old.function }
+    ensures labels { call.new.labels ≡ call.old.labels }
     ensures ok { OnOk result (MovesAlways (Arms label) call.old call.new) }
 {
     if take_truth(&mut call.values) {
@@ -25,8 +26,9 @@ pub fn arm(call: &mut Call<'_>, label: u32) -> Result<(), Memory>
 }
 
 /// Leaves whether a test holds, or has it computed.
-pub fn ask<'a>(call: &mut Call<'a>, test: &'a Test) -> Result<(), Memory>
+pub fn ask<'a>(call: &mut Call<'_, 'a>, test: &'a Test) -> Result<(), Memory>
     ensures function { call.new.function ≡ call.old.function }
+    ensures labels { call.new.labels ≡ call.old.labels }
     ensures ok { OnOk result (MovesAlways (Asks (test_tree test.now)) call.old call.new) }
 {
     match test {
@@ -49,8 +51,9 @@ pub fn ask<'a>(call: &mut Call<'a>, test: &'a Test) -> Result<(), Memory>
 }
 
 /// Leaves the value of a selector, or has it computed.
-pub fn ask_selector<'a>(call: &mut Call<'a>, selector: &'a Selector) -> Result<(), Memory>
+pub fn ask_selector<'a>(call: &mut Call<'_, 'a>, selector: &'a Selector) -> Result<(), Memory>
     ensures function { call.new.function ≡ call.old.function }
+    ensures labels { call.new.labels ≡ call.old.labels }
     ensures ok { OnOk result (MovesAlways (AsksSelector (selector_tree selector.now)) call.old call.new) }
 {
     match selector {

@@ -8,12 +8,14 @@ use Rattle.step_interp.proofs.starts.machine_at_start.Goals as goal
 
 pub returns : goal.returns
 returns c =
-    let f = function_tree c.args.function.now in
+    let f = function_tree c.args.routine.now.function.now in
     let ns = names_of c.in_ok-store.store in
     record {
       program = refl;
+      functions = refl;
       cells = refl;
       function = c.in_ok-call.ensures.function;
+      labels = c.in_ok-call.ensures.labels;
       guards = c.in_ok-call.ensures.guards;
       tasks = c.in_ok-call.ensures.tasks;
       values = c.in_ok-call.ensures.values;

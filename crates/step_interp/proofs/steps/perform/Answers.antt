@@ -5,7 +5,7 @@ use Rattle.step_interp.proofs.steps.perform.Goals as goal
 
 pub returns-then-is_control-clause-ok : goal.returns-then-is_control-clause-ok
 returns-then-is_control-clause-ok c w h =
-    control_performed c.args.machine.now c.control.new.call c.args.task w c.in_ok-control.ensures.function c.in_ok-control.ensures.ok h
+    control_performed c.args.machine.now c.control.new.call c.args.task w c.in_ok-control.ensures.function c.in_ok-control.ensures.labels c.in_ok-control.ensures.ok h
 
 pub returns-in-Goes-clause-ok : goal.returns-in-Goes-clause-ok
 returns-in-Goes-clause-ok c w h =

@@ -27,7 +27,7 @@ returns-in-None-clause-ok c =
     let none : tasks_of old.call.tasks ≡ [] = subst (λ o. IsNext o old.call.tasks c.next_task.new.tasks) c.in-None.is c.in_ok-next_task.ensures in
     IfOk-weaker c.fall.result (λ next. (w : World) → HasWorld mid w → Reaches ⊥ (leave f (fallen name) cs w) w next c.fall.new.self) (λ next. Steps old next c.fall.new.self)
     (λ next k w h. stepped old [] w next c.fall.new.self none
-    (subst (λ g. Reaches ⊥ (leave g (fallen name) cs w) w next c.fall.new.self) (sym h.called) (k w (has_tasks old c.next_task.new.tasks w h))))
+    (subst (λ g. Reaches ⊥ (leave g (fallen name) cs w) w next c.fall.new.self) (sym h.called.0) (k w (has_tasks old c.next_task.new.tasks w h))))
     c.fall.ensures.ok
 
 pub returns-in-Some-End-true-clause-ok : goal.returns-in-Some-End-true-clause-ok
@@ -41,7 +41,7 @@ returns-in-Some-End-true-clause-ok c =
     subst (λ o. IsNext o old.call.tasks c.next_task.new.tasks) (c.in-Some-End-true.is ∙ ap Some (c.in-Some-End-true.field-0-is ∙ ap End c.in-Some-End-true.field-0-0-test)) c.in_ok-next_task.ensures in
     IfOk-weaker c.end.result (λ next. (w : World) → HasWorld mid w → Reaches ⊥ (leave f (returned f v) cs w) w next c.end.new.self) (λ next. Steps old next c.end.new.self)
     (λ next k w h. stepped old (Works (Ends true) ∷ tasks_of c.next_task.new.tasks) w next c.end.new.self one
-    (subst (λ g. Reaches ⊥ (leave g (returned g v) cs w) w next c.end.new.self) (sym h.called) (k w (has_tasks old c.next_task.new.tasks w h))))
+    (subst (λ g. Reaches ⊥ (leave g (returned g v) cs w) w next c.end.new.self) (sym h.called.0) (k w (has_tasks old c.next_task.new.tasks w h))))
     c.end.ensures.ok
 
 pub returns-in-Some-End-false-clause-ok : goal.returns-in-Some-End-false-clause-ok
@@ -56,7 +56,7 @@ returns-in-Some-End-false-clause-ok c =
     subst (λ o. IsNext o old.call.tasks c.next_task.new.tasks) (c.in-Some-End-false.is ∙ ap Some (c.in-Some-End-false.field-0-is ∙ ap End c.in-Some-End-false.field-0-0-test)) c.in_ok-next_task.ensures in
     IfOk-weaker c.fall-in-Some-End-false.result (λ next. (w : World) → HasWorld mid w → Reaches ⊥ (leave f (fallen name) cs w) w next new) (λ next. Steps old next new)
     (λ next k w h. stepped old (Works (Ends false) ∷ tasks_of c.next_task.new.tasks) w next new one
-    (subst (λ g. Reaches ⊥ (leave g (fallen name) cs w) w next new) (sym h.called) (k w (has_tasks old c.next_task.new.tasks w h))))
+    (subst (λ g. Reaches ⊥ (leave g (fallen name) cs w) w next new) (sym h.called.0) (k w (has_tasks old c.next_task.new.tasks w h))))
     c.fall-in-Some-End-false.ensures.ok
 
 pub returns-in-Some-clause-ok : goal.returns-in-Some-clause-ok

@@ -1,14 +1,14 @@
-use Rattle.std.proofs.Common.{◌∷◌, ◌+◌, drop, Some, None, cond, refl, ap, sym, ◌∙◌, subst, arith}
+use Rattle.std.proofs.Common.{◌∷◌, ◌+◌, drop, Some, refl, ap, sym, ◌∙◌, subst, arith}
 use Rattle.std.proofs.lemmas.Result.{IfOk-weaker}
 use Rattle.std.proofs.lemmas.List.{drop_all}
-use Rattle.c_tree.specs.Trees.{tree_of, trees_of, section_tree, sections_of}
-use Rattle.c_tree.proofs.TreeLaws.{tree-If, tree-While, tree-Do, tree-For, tree-Switch, tree-Block, section-parts}
-use Rattle.jump_meaning.specs.Search.{or_else, seek, seek_in, seek_sections}
-use Rattle.jump_meaning.specs.Tasks.{EndsSection, items, end_of, tail_tasks}
+use Rattle.c_tree.specs.TestTrees.{selector_tree}
+use Rattle.c_tree.specs.Trees.{tree_of, trees_of, sections_of}
+use Rattle.c_tree.proofs.TreeLaws.{tree-If, tree-While, tree-Do, tree-For, tree-Switch, tree-Block}
+use Rattle.jump_meaning.specs.Search.{or_else, seek, seek_in}
+use Rattle.jump_meaning.specs.Tasks.{items}
 use Rattle.step_tasks.specs.Controls.{goal_of, Sought}
 use Rattle.step_tasks.specs.Tasks.{loop_of, tasks_of}
-use Rattle.step_tasks.proofs.SearchLemmas.{no_lists, is_here, is_inside, is_later, past_last, section_here, section_inside, section_later, past_sections, sought_as, sought_true, sought_false, whole}
-use Rattle.step_tasks.proofs.TopLemmas.{popped_back}
+use Rattle.step_tasks.proofs.SearchLemmas.{no_lists, is_here, is_inside, is_later, past_last, sought_as, no_switch, sought_true, sought_false, whole}
 use Rattle.step_tasks.proofs.search.+search.Goals as goal
 
 pub seek-returns-then-is_goal : goal.seek-returns-then-is_goal
@@ -86,17 +86,6 @@ seek_in-returns-in-For t c = record {
       (λ b h. sought_as b _ _ _ _ (ap (λ x. seek_in (goal_of c.args.goal.now) x (tasks_of c.args.tasks.now)) (ap tree_of c.in-For.is ∙ tree-For c.in-For.field-0 c.in-For.field-1 c.in-For.field-2 c.in-For.a) ∙ sym (ap (λ x. seek (goal_of c.args.goal.now) (trees_of c.in-For.a) (loop_of x ∷ (tasks_of c.args.tasks.now))) (ap tree_of c.in-For.is ∙ tree-For c.in-For.field-0 c.in-For.field-1 c.in-For.field-2 c.in-For.a)) ∙ ap (λ xs. seek (goal_of c.args.goal.now) (trees_of xs) (loop_of (tree_of c.args.item.now) ∷ (tasks_of c.args.tasks.now))) (sym c.as_slice-in-For.ensures.value)) h) c.seek_before-in-For.ensures.ok;
 }
 
-pub seek_in-returns-then-enters_switches : goal.seek_in-returns-then-enters_switches
-seek_in-returns-then-enters_switches t c = record {
-  ok = IfOk-weaker c.seek_sections.result (λ b. Sought b (seek_sections (goal_of c.args.goal.now) (sections_of c.as_slice-then-enters_switches.result.now) (tasks_of c.args.tasks.now)) c.args.tasks.now c.seek_sections.new.tasks) (λ b. Sought b (seek_in (goal_of c.args.goal.now) (tree_of c.args.item.now) (tasks_of c.args.tasks.now)) c.args.tasks.now c.seek_sections.new.tasks)
-      (λ b h. sought_as b _ _ _ _ (ap (λ x. seek_in (goal_of c.args.goal.now) x (tasks_of c.args.tasks.now)) (ap tree_of c.in-Switch.is ∙ tree-Switch c.in-Switch.field-0 c.in-Switch.sections) ∙ ap (λ b. cond b (seek_sections (goal_of c.args.goal.now) (sections_of c.in-Switch.sections) (tasks_of c.args.tasks.now)) None) (sym c.enters_switches.ensures ∙ c.if-enters_switches.true) ∙ ap (λ xs. seek_sections (goal_of c.args.goal.now) (sections_of xs) (tasks_of c.args.tasks.now)) (sym c.as_slice-then-enters_switches.ensures.value)) h) c.seek_sections.ensures.ok;
-}
-
-pub seek_in-returns-else-enters_switches : goal.seek_in-returns-else-enters_switches
-seek_in-returns-else-enters_switches t c = record {
-  ok = (ap (λ x. seek_in (goal_of c.args.goal.now) x (tasks_of c.args.tasks.now)) (ap tree_of c.in-Switch.is ∙ tree-Switch c.in-Switch.field-0 c.in-Switch.sections) ∙ ap (λ b. cond b (seek_sections (goal_of c.args.goal.now) (sections_of c.in-Switch.sections) (tasks_of c.args.tasks.now)) None) (sym c.enters_switches.ensures ∙ c.if-enters_switches.false), refl);
-}
-
 pub seek_in-returns-in-Block : goal.seek_in-returns-in-Block
 seek_in-returns-in-Block t c = record {
   ok = IfOk-weaker c.seek-in-Block.result (λ b. Sought b (seek (goal_of c.args.goal.now) (trees_of c.as_slice-in-Block.result.now) (tasks_of c.args.tasks.now)) c.args.tasks.now c.seek-in-Block.new.tasks) (λ b. Sought b (seek_in (goal_of c.args.goal.now) (tree_of c.args.item.now) (tasks_of c.args.tasks.now)) c.args.tasks.now c.seek-in-Block.new.tasks)
@@ -108,56 +97,7 @@ seek_in-returns-in_default t c = record {
   ok = (no_lists c.args.item.now c.in_default.not-If c.in_default.not-While c.in_default.not-Do c.in_default.not-For c.in_default.not-Switch c.in_default.not-Block (goal_of c.args.goal.now) (tasks_of c.args.tasks.now), refl);
 }
 
-pub seek_section-returns-then-section : goal.seek_section-returns-then-section
-seek_section-returns-then-section t c = record {
-  ok = IfOk-weaker c.seek_before.result (λ b. Sought b (seek (goal_of c.args.goal.now) (trees_of c.as_slice-list.result.now) (EndsSection ∷ (tasks_of c.args.tasks.now))) c.args.tasks.now c.seek_before.new.tasks)
-      (λ b. Sought b (let s = section_tree c.args.section.now in seek (goal_of c.args.goal.now) s.list (end_of s.ends (tasks_of c.args.tasks.now))) c.args.tasks.now c.seek_before.new.tasks)
-      (λ b h. sought_as b _ _ _ _ (ap (λ s. seek (goal_of c.args.goal.now) s.list (end_of s.ends (tasks_of c.args.tasks.now))) (section-parts c.args.section.now) ∙ ap (λ e. seek (goal_of c.args.goal.now) (trees_of c.args.section.now.list) (end_of e (tasks_of c.args.tasks.now))) c.if-section.true ∙ ap (λ xs. seek (goal_of c.args.goal.now) (trees_of xs) (EndsSection ∷ (tasks_of c.args.tasks.now))) (sym c.as_slice-list.ensures.value)) h)
-      c.seek_before.ensures.ok;
-}
-
-pub seek_section-returns-else-section : goal.seek_section-returns-else-section
-seek_section-returns-else-section t c = record {
-  ok = IfOk-weaker c.seek.result (λ b. Sought b (seek (goal_of c.args.goal.now) (trees_of c.as_slice-list.result.now) ((tasks_of c.args.tasks.now))) c.args.tasks.now c.seek.new.tasks)
-      (λ b. Sought b (let s = section_tree c.args.section.now in seek (goal_of c.args.goal.now) s.list (end_of s.ends (tasks_of c.args.tasks.now))) c.args.tasks.now c.seek.new.tasks)
-      (λ b h. sought_as b _ _ _ _ (ap (λ s. seek (goal_of c.args.goal.now) s.list (end_of s.ends (tasks_of c.args.tasks.now))) (section-parts c.args.section.now) ∙ ap (λ e. seek (goal_of c.args.goal.now) (trees_of c.args.section.now.list) (end_of e (tasks_of c.args.tasks.now))) c.if-section.false ∙ ap (λ xs. seek (goal_of c.args.goal.now) (trees_of xs) ((tasks_of c.args.tasks.now))) (sym c.as_slice-list.ensures.value)) h)
-      c.seek.ensures.ok;
-}
-
-pub seek_sections-returns-then-is_section_goal : goal.seek_sections-returns-then-is_section_goal
-seek_sections-returns-then-is_section_goal t c = record {
-  ok = sym c.loop-at.invariant.found
-      ∙ section_here (goal_of c.args.goal.now) c.args.sections.now c.loop-at.at c.index-sections-at.result (tasks_of c.args.tasks.now) c.loop-at-test.true c.index-sections-at.is (sym c.is_section_goal.ensures ∙ c.if-is_section_goal.true)
-      ∙ ap Some (sym (ap tasks_of c.in_ok-push.ensures.ok ∙ ap (λ xs. tail_tasks (sections_of xs) (tasks_of c.loop-at.tasks)) (whole c.args.sections.now c.loop-at.at) ∙ ap (λ ts. tail_tasks (sections_of (drop c.loop-at.at c.args.sections.now)) (tasks_of ts)) c.loop-at.invariant.tasks));
-}
-
-pub seek_sections-returns-then-branch : goal.seek_sections-returns-then-branch
-seek_sections-returns-then-branch t c =
-    let h = sought_true _ _ _ _ c.if-branch.true c.in_ok-seek_section.ensures.ok in
-    record {
-      ok = sym c.loop-at.invariant.found
-          ∙ section_inside (goal_of c.args.goal.now) c.args.sections.now c.loop-at.at c.index-sections-at.result (tasks_of c.args.tasks.now) c.loop-at-test.true c.index-sections-at.is (tasks_of c.seek_section.new.tasks) (sym c.is_section_goal.ensures ∙ c.if-is_section_goal.false)
-          (ap (λ ts. let s = section_tree c.index-sections-at.result in seek (goal_of c.args.goal.now) s.list (end_of s.ends (tail_tasks (sections_of (drop (c.loop-at.at + 1) c.args.sections.now)) (tasks_of ts)))) (sym c.loop-at.invariant.tasks)
-          ∙ ap (λ xs. let s = section_tree c.index-sections-at.result in seek (goal_of c.args.goal.now) s.list (end_of s.ends (tail_tasks (sections_of xs) (tasks_of c.loop-at.tasks)))) (sym (whole c.args.sections.now (c.loop-at.at + 1)))
-          ∙ ap (λ ts. let s = section_tree c.index-sections-at.result in seek (goal_of c.args.goal.now) s.list (end_of s.ends (tasks_of ts))) (sym c.in_ok-push-2.ensures.ok) ∙ h);
-    }
-
-pub seek_sections-loop-at-preserved : goal.seek_sections-loop-at-preserved
-seek_sections-loop-at-preserved t c =
-    let h = sought_false _ _ _ _ c.if-branch.false c.in_ok-seek_section.ensures.ok in
-    record {
-      tasks = popped_back c.pop.result _ c.seek_section.new.tasks c.pop.new.self c.loop-at.tasks c.pop.ensures (h.1 ∙ c.in_ok-push-2.ensures.ok) ∙ c.loop-at.invariant.tasks;
-      found = sym (section_later (goal_of c.args.goal.now) c.args.sections.now c.loop-at.at c.index-sections-at.result (tasks_of c.args.tasks.now) c.loop-at-test.true c.index-sections-at.is (sym c.is_section_goal.ensures ∙ c.if-is_section_goal.false)
-          (ap (λ ts. let s = section_tree c.index-sections-at.result in seek (goal_of c.args.goal.now) s.list (end_of s.ends (tail_tasks (sections_of (drop (c.loop-at.at + 1) c.args.sections.now)) (tasks_of ts)))) (sym c.loop-at.invariant.tasks)
-          ∙ ap (λ xs. let s = section_tree c.index-sections-at.result in seek (goal_of c.args.goal.now) s.list (end_of s.ends (tail_tasks (sections_of xs) (tasks_of c.loop-at.tasks)))) (sym (whole c.args.sections.now (c.loop-at.at + 1)))
-          ∙ ap (λ ts. let s = section_tree c.index-sections-at.result in seek (goal_of c.args.goal.now) s.list (end_of s.ends (tasks_of ts))) (sym c.in_ok-push-2.ensures.ok) ∙ h.0))
-          ∙ c.loop-at.invariant.found;
-    }
-
-pub seek_sections-returns : goal.seek_sections-returns
-seek_sections-returns t c = record {
-  ok = (
-    sym c.loop-at.invariant.found ∙ past_sections (goal_of c.args.goal.now) (drop c.loop-at.at c.args.sections.now) (tasks_of c.args.tasks.now) (drop_all c.loop-at.at c.args.sections.now (omega (arith, c.loop-at-test.false))),
-    c.loop-at.invariant.tasks,
-  );
+pub seek_in-returns-in-Switch : goal.seek_in-returns-in-Switch
+seek_in-returns-in-Switch t c = record {
+  ok = (ap (λ x. seek_in (goal_of c.args.goal.now) x (tasks_of c.args.tasks.now)) (ap tree_of c.in-Switch.is ∙ tree-Switch c.in-Switch.field-0 c.in-Switch.field-1) ∙ no_switch c.args.goal.now (selector_tree c.in-Switch.field-0) (sections_of c.in-Switch.field-1) (tasks_of c.args.tasks.now), refl);
 }

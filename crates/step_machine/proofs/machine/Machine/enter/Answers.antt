@@ -8,12 +8,13 @@ use Rattle.step_memory.specs.Values.{values_of}
 use Rattle.step_tasks.specs.declared.call.Call.{Call}
 use Rattle.step_tasks.specs.Controls.{body_of}
 use Rattle.step_tasks.specs.Tasks.{tasks_of}
-use Rattle.step_machine.specs.Machines.{IsFunctionOf, frames_of}
+use Rattle.step_tasks.specs.Labels.{AreLabelsOf}
+use Rattle.step_machine.specs.Machines.{IsFunctionOf, IsCallOf, frames_of}
 use Rattle.step_machine.proofs.EnterLemmas.{state_at, all_more, not_over}
 use Rattle.step_machine.proofs.machine.Machine.enter.Goals as goal
 
 pub returns-clause-ok : goal.returns-clause-ok
-returns-clause-ok c k w h =
+returns-clause-ok c k a w h =
     let s = c.args.self.now in
     let ns = names_of s.store in
     let f = function_tree c.args.function.now in
@@ -23,7 +24,7 @@ returns-clause-ok c k w h =
     let fits : w.cells + cells_of f.slots ≤ most_cells = omega (arith, c.saturating_add-cells.ensures, c.cells_of.ensures, h.cells, c.if-cells-gt-MOST_CELLS.false) in
     let n = record s { store = c.enter.new.self; call = c.replace-caller.new.dest; waiting = c.push.new.self; cells = c.saturating_add-cells.result } in
     let made = c.replace-caller.ensures.after in
-    let is_function = λ (x : Call). IsFunctionOf s.program.now x.function.now in
+    let is_call = λ (x : Call). IsCallOf s.program.now x in
     let frames : frames_of (names_of c.enter.new.self) c.push.new.self ≡ fs =
     ap (λ cs. frames_of (names_of c.enter.new.self) cs) c.in_ok-push.ensures.ok
     ∙ ap (λ m. frames_of (names_of (record s.store { names = m })) (c.replace-caller.result ∷ s.waiting)) c.in_ok-enter.ensures.names
@@ -39,8 +40,12 @@ returns-clause-ok c k w h =
         holds = c.in_ok-enter.ensures.ok f vs (c.in_ok-rooms.ensures ns) w h.holds;
         cells = omega (arith, c.saturating_add-cells.ensures, c.cells_of.ensures, h.cells, c.if-cells-gt-MOST_CELLS.false);
         answers = h.answers;
-        called = subst is_function (sym made) (subst (IsFunctionOf s.program.now) (sym c.in_ok-call.ensures.function) k);
-        waiting = subst (λ cs. All is_function cs) (sym c.in_ok-push.ensures.ok) (all_more is_function c.replace-caller.result s.waiting (subst is_function (sym c.replace-caller.ensures.value) h.called) h.waiting);
+        linked = h.linked;
+        called = subst is_call (sym made) (
+          subst (IsFunctionOf s.program.now) (sym c.in_ok-call.ensures.function) k,
+          subst (λ f. AreLabelsOf f c.in_ok-call.call.labels.now) (sym c.in_ok-call.ensures.function) (subst (AreLabelsOf c.args.function.now) (sym c.in_ok-call.ensures.labels) a),
+        );
+        waiting = subst (λ cs. All is_call cs) (sym c.in_ok-push.ensures.ok) (all_more is_call c.replace-caller.result s.waiting (subst is_call (sym c.replace-caller.ensures.value) h.called) h.waiting);
       };
       input = refl;
       events = refl;
