@@ -9,6 +9,7 @@ use Rattle.c_tree.specs.Text.{text_of}
 use Rattle.guard_vars.specs.GuardNames.{guard_names}
 use Rattle.move_records.specs.declared.moves.Move.{Move}
 use Rattle.move_records.specs.Report.{report_text}
+use Rattle.move_report.specs.Numbers.{HaveNumbers}
 use Rattle.plain_form.specs.Plain.{plain}
 use Rattle.resolved_core.specs.Counts.{flat_counts, IsResolved}
 use Rattle.named_programs.proofs.NamedTops.{named_program_laws}
@@ -22,7 +23,7 @@ use Rattle.move_driver.specs.declared.counts.Counts.{Counts}
 use Rattle.move_driver.specs.Counts.{counted, guards_between, guards_from, counts_of}
 use Rattle.move_driver.specs.Restructured.{IsRestructured, IsOnly}
 use Rattle.move_driver.specs.Settled.{no_counts, IsSettled, unchanged, IsTextSettled}
-use Rattle.move_driver.specs.Text.{Output, IsOnlyOutput}
+use Rattle.move_driver.specs.Text.{Output, CanBeReplayed, IsOnlyOutput}
 
 -- ---- Notes
 
@@ -48,6 +49,13 @@ module _ (t : List ℕ) (p : Program) (reads : IsProgramOf t p) (q : Program) (m
       let report = w.report ∙ ap report_text k.1 ∙ sym reports in
       let count = k.2 ∙ sym counted in
       λ i. record { text = text i; report = report i; counts = count i }
+
+  pub replayable : (out : Output) → IsResolved p → HaveNumbers ms → CanBeReplayed t out
+  replayable out resolved numbers w =
+      let first : Ok w.program ≡ Ok p = sym (program_back t w.program w.reads) ∙ program_back t p reads in
+      let program : w.program ≡ p = cc in
+      let k = o w.result w.moves out.counts (subst (λ z. IsRestructured z w.result w.moves out.counts) program w.restructured) in
+      (subst IsResolved (sym program) resolved, subst HaveNumbers (sym k.1) numbers)
 
 -- ---- counts
 

@@ -6,7 +6,9 @@ use Rattle.c_tree.specs.Text.{text_of}
 use Rattle.text_reading.specs.Reading.{IsProgramOf}
 use Rattle.move_records.specs.declared.moves.Move.{Move}
 use Rattle.move_records.specs.Report.{report_text}
+use Rattle.move_report.specs.Numbers.{HaveNumbers}
 use Rattle.plain_core.specs.Laws.{BehavesAsStructured}
+use Rattle.resolved_core.specs.Counts.{IsResolved}
 use Rattle.notes_kept.specs.Notes.{notes_of}
 use Rattle.move_driver.specs.declared.counts.Counts.{Counts}
 use Rattle.move_driver.specs.declared.text.Written.{Written}
@@ -44,6 +46,10 @@ pub record IsTextRestructured (t : List ℕ) (out : Output) : Type 0 where
   pub sizes : StaysWithinSizes program result
   -- it has the same Notes in the same order
   pub notes : notes_of result ≡ notes_of program
+
+-- its program is resolved, and the numbers of its moves can be written
+abbrev pub CanBeReplayed : List ℕ → Output → Type 0
+CanBeReplayed t out = (r : IsTextRestructured t out) → IsResolved r.program × HaveNumbers r.moves
 
 -- whatever the text is restructured to is this
 abbrev pub IsOnlyOutput : List ℕ → Output → Type 0

@@ -39,7 +39,13 @@ fn flatten_top(alloc: Global, names: &mut ProgramNames, top: &mut Top) -> Result
     }
 }
 
-fn flatten_tops(alloc: Global, names: &mut ProgramNames, tops: &mut List<Top>) -> Result<(), Memory>
+/// Gives each function its flat form (`flat_functions::flatten_beside`), with the names of the program and of its file
+/// scope. After `Memory` some functions have it.
+pub fn flatten_tops(
+    alloc: Global,
+    names: &mut ProgramNames,
+    tops: &mut List<Top>,
+) -> Result<(), Memory>
     ensures { OnOk result (AreFlattenedBeside names.old tops.old tops.new) }
 {
     let mut i = 0;

@@ -1,6 +1,6 @@
 ghost use Rattle.std.specs.Prelude.{◌≡◌, IfOk, IfErr, Err};
 ghost use Rattle.text_reading.specs.Reading.{IsInSubset, IsRefusedFor};
-ghost use Rattle.move_driver.specs.Text.{output, IsTextRestructured, IsOnlyOutput};
+ghost use Rattle.move_driver.specs.Text.{output, IsTextRestructured, CanBeReplayed, IsOnlyOutput};
 ghost use Rattle.move_driver.specs.Settled.{IsTextSettled};
 
 use crate::counts::Counts;
@@ -26,6 +26,7 @@ pub struct Written {
 pub fn restructure_text(alloc: Global, text: &[u8]) -> Result<Written, ReadStop>
     ensures restructured { IfOk result (λ written. IsTextRestructured text.now (output written)) }
     ensures only { IfOk result (λ written. IsOnlyOutput text.now (output written)) }
+    ensures replayable { IfOk result (λ written. CanBeReplayed text.now (output written)) }
     ensures settled { IfOk result (λ written. IsTextSettled written.text) }
     ensures refused { (refusal : Refusal) → result ≡ Err (ReadStop.Refused refusal) → IsRefusedFor text.now refusal }
     ensures complete { IsInSubset text.now → IfErr result (λ stop. stop ≡ ReadStop.Memory) }

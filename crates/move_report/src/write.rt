@@ -3,7 +3,8 @@ ghost use Rattle.std.specs.Fmt.{decimal};
 ghost use Rattle.rg_ports.specs.Count.{Rose};
 ghost use Rattle.rg_ports.specs.Written.{more, FrontWritten};
 ghost use Rattle.byte_writer.specs.Writing.{Puts};
-ghost use Rattle.move_records.specs.Report.{kind_text as the_kind_text, label_text as the_label_text, branch_text, steps_text, path_text, move_text, moves_text, report_text};
+ghost use Rattle.move_records.specs.Report.{kind_text as the_kind_text, label_text as the_label_text, branch_text, steps_text, path_text, move_text, moves_text, report_text, IsNumber, IsBranch, AreSteps, IsPath};
+ghost use Rattle.move_report.specs.Numbers.{HaveNumbers};
 
 use arrayvec::ArrayVec;
 use byte_writer::{Growing, Output, Writer};
@@ -15,14 +16,16 @@ use rg_ports::{Failed, Sink};
 use std::alloc::Global;
 
 fn put_number<W: Output>(out: &mut W, number: u32)
-    ensures { Puts (W.progress out.old) (W.progress out.new) (λ rest. decimal number ++ rest) }
+    ensures puts { Puts (W.progress out.old) (W.progress out.new) (λ rest. decimal number ++ rest) }
+    ensures fits { IsNumber number }
 {
     let mut buffer = Buffer::new();
     out.put(buffer.format(number).as_bytes());
 }
 
 fn put_branch<W: Output>(out: &mut W, branch: Branch)
-    ensures { Puts (W.progress out.old) (W.progress out.new) (λ rest. branch_text branch ++ rest) }
+    ensures puts { Puts (W.progress out.old) (W.progress out.new) (λ rest. branch_text branch ++ rest) }
+    ensures fits { IsBranch branch }
 {
     match branch {
         Branch::Body => out.put(b"b"),
@@ -36,7 +39,8 @@ fn put_branch<W: Output>(out: &mut W, branch: Branch)
 }
 
 fn put_step<W: Output>(out: &mut W, step: &Step)
-    ensures { Puts (W.progress out.old) (W.progress out.new) (λ rest. steps_text (step.now ∷ []) rest) }
+    ensures puts { Puts (W.progress out.old) (W.progress out.new) (λ rest. steps_text (step.now ∷ []) rest) }
+    ensures fits { AreSteps (step.now ∷ []) }
 {
     put_number(out, step.item);
     out.put(b".");
@@ -45,14 +49,16 @@ fn put_step<W: Output>(out: &mut W, step: &Step)
 }
 
 fn put_path<W: Output>(out: &mut W, path: &Path)
-    ensures { Puts (W.progress out.old) (W.progress out.new) (path_text path.now) }
+    ensures puts { Puts (W.progress out.old) (W.progress out.new) (path_text path.now) }
+    ensures fits { IsPath path.now }
 {
     put_steps(out, path.steps.as_slice());
     put_number(out, path.item);
 }
 
 fn put_steps<W: Output>(out: &mut W, steps: &[Step])
-    ensures { Puts (W.progress out.old) (W.progress out.new) (steps_text steps.now) }
+    ensures puts { Puts (W.progress out.old) (W.progress out.new) (steps_text steps.now) }
+    ensures fits { AreSteps steps.now }
 {
     for step in steps {
         put_step(out, step);
@@ -85,7 +91,8 @@ fn put_label<W: Output>(out: &mut W, label: &Option<Name>)
 }
 
 fn put_move<W: Output>(out: &mut W, a_move: &Move)
-    ensures { Puts (W.progress out.old) (W.progress out.new) (move_text a_move.now) }
+    ensures puts { Puts (W.progress out.old) (W.progress out.new) (move_text a_move.now) }
+    ensures fits { IsPath a_move.now.path }
 {
     out.put(a_move.function.as_str().as_bytes());
     out.put(b" ");
@@ -98,7 +105,8 @@ fn put_move<W: Output>(out: &mut W, a_move: &Move)
 }
 
 fn put_moves<W: Output>(out: &mut W, moves: &[Move])
-    ensures { Puts (W.progress out.old) (W.progress out.new) (moves_text moves.now) }
+    ensures puts { Puts (W.progress out.old) (W.progress out.new) (moves_text moves.now) }
+    ensures fits { HaveNumbers moves.now }
 {
     for a_move in moves {
         put_move(out, a_move);
@@ -107,12 +115,13 @@ fn put_moves<W: Output>(out: &mut W, moves: &[Move])
 
 /// Writes the report of the moves: a line for each, with its function, kind, label and path. After
 /// `Failed` a front of it, but not all, was written, and the count of faults rose. It takes no memory,
-/// and hands the sink no more than 4,096 bytes at once.
+/// and hands the sink no more than 4,096 bytes at once. The numbers of the paths fit 32 bits, as their types say.
 pub fn report_to<O: Sink>(moves: &List<Move>, out: &mut O) -> Result<(), Failed>
     ensures ok { OnOk result (O.written out.new ≡ more (O.written out.old) (report_text moves.now)) }
     ensures err { OnErr result (FrontWritten (O.written out.old) (O.written out.new) (report_text moves.now)) }
     ensures failed { OnErr result (Rose (O.faults out.old) (O.faults out.new)) }
     ensures grows { O.faults out.old ≤ O.faults out.new }
+    ensures fits { HaveNumbers moves.now }
 {
     let mut writer = Writer {
         sink: out,
@@ -132,6 +141,7 @@ fn write_moves<O: Sink>(writer: &mut Writer<'_, O>, moves: &[Move])
     ensures err { writer.new.failed ≡ true → FrontWritten (O.written writer.old.sink.now) (O.written writer.new.sink.now) (report_text moves.now) }
     ensures rose { writer.new.failed ≡ true → Rose (O.faults writer.old.sink.now) (O.faults writer.new.sink.now) }
     ensures grows { O.faults writer.old.sink.now ≤ O.faults writer.new.sink.now }
+    ensures fits { HaveNumbers moves.now }
 {
     put_moves(writer, moves);
     writer.flush();
@@ -139,7 +149,8 @@ fn write_moves<O: Sink>(writer: &mut Writer<'_, O>, moves: &[Move])
 
 /// The report of the moves, as `report_to` writes it.
 pub fn write_report(alloc: Global, moves: &List<Move>) -> Result<Bytes, Memory>
-    ensures { IfOk result (λ bytes. bytes ≡ report_text moves.now) }
+    ensures value { IfOk result (λ bytes. bytes ≡ report_text moves.now) }
+    ensures fits { HaveNumbers moves.now }
 {
     let mut out = Growing {
         bytes: Vec::new(alloc),

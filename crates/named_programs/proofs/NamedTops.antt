@@ -36,7 +36,7 @@ module _ (p : Program) where
         guards = h.guards;
       }
 
-  other_has : (t : Top) → IsNoFunction t → TopHasNames p t
+  pub other_has : (t : Top) → IsNoFunction t → TopHasNames p t
   other_has (T.Function f) n = absurd n
   other_has (T.Include bytes) n = tt
   other_has (T.Enum es) n = tt

@@ -10,19 +10,15 @@ use Rattle.c_tree.specs.Trees.{Tree, Forest, Sections, NoSection, Section, trees
 use Rattle.c_tree.proofs.KeptLemmas.{IsKept, changed_kept}
 use Rattle.conversion_core.proofs.ConvertedTrees.{converted_trees}
 use Rattle.conversion_core.proofs.Kept.{IsKeptByConversion, convert_kept}
-use Rattle.derivation.specs.declared.kept.Kept.{Kept}
-use Rattle.derivation.specs.Derivations.{Derives}
 use Rattle.flat_core.specs.Unlabelled.{unlabelled, unlabelled_among}
-use Rattle.guard_simplify.specs.declared.choice.Choice.{Choice}
-use Rattle.guard_simplify.specs.Application.{Reaches}
 use Rattle.guard_vars.specs.Conversion.{converted_list}
 use Rattle.simpler_core.proofs.Kept.{IsOfLabels, shorter_kept, round_kept, selector_kept, IsStable, simplified_kept}
 use Rattle.unread_guards.specs.Drops.{dropped_sections}
 use Rattle.unread_guards.proofs.DroppedItems.{Becomes, becomes}
 use Rattle.c_resolved.specs.Within.{TestExpression}
-use Rattle.whole_core.proofs.BodiesKept.{derived_kept, reached_kept}
 use Rattle.whole_core.proofs.Unlabelled.{IsLeft, left}
 use Rattle.plain_resolved.proofs.Facts.{ItemHas}
+use Rattle.plain_resolved.proofs.Rewrites.{Rewrites, rewritten_kept}
 
 -- ---- the cases of sections
 
@@ -136,11 +132,8 @@ module _ (V O C : ExpressionTree → Type 0) (R : Option ExpressionTree → Type
   pub facts_converted : (a : List Item) → Everywhere H (trees_of a) → Everywhere H (trees_of (converted_list a))
   facts_converted a h = subst (Everywhere H) (sym (converted_trees a)) (convert_kept H kept_by_conversion (trees_of a) h)
 
-  pub facts_derived : {body : List Item} {ms : List Kept} {new : List Item} → Derives body ms new → Everywhere H (trees_of body) → Everywhere H (trees_of new)
-  facts_derived d h = derived_kept H (λ xs ys r i. changed_kept H kept_by_moves r i) d h
-
-  pub facts_reached : {old : List Item} {cs : List Choice} {new : List Item} → Reaches old cs new → Everywhere H (trees_of old) → Everywhere H (trees_of new)
-  facts_reached r h = reached_kept H (λ xs ys c i. simplified_kept H stable c i) (λ l xs i. becomes (eqb l) H H (kept_by_drops (eqb l)) xs i) r h
+  pub facts_rewritten : {old new : List Item} → Rewrites old new → Everywhere H (trees_of old) → Everywhere H (trees_of new)
+  facts_rewritten r h = rewritten_kept H (λ xs ys c i. changed_kept H kept_by_moves c i) (λ xs ys c i. simplified_kept H stable c i) (λ l xs i. becomes (eqb l) H H (kept_by_drops (eqb l)) xs i) r h
 
   pub facts_unlabelled : (a : Forest) → Everywhere H a → Everywhere H (unlabelled a)
   facts_unlabelled a h = left H H kept_without_labels a h

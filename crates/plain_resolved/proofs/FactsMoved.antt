@@ -39,7 +39,7 @@ use Rattle.whole_core.specs.Rewritten.{plan_of, setting}
 use Rattle.whole_core.proofs.Flattened.{body_is}
 use Rattle.plain_resolved.proofs.Facts.{ItemHas}
 use Rattle.plain_resolved.proofs.FactsFlat.{Tests, F, flat_has}
-use Rattle.plain_resolved.proofs.FactsKept.{facts_converted, facts_derived, facts_reached, facts_unlabelled}
+use Rattle.plain_resolved.proofs.FactsKept.{facts_converted, facts_rewritten, facts_unlabelled}
 use Rattle.plain_resolved.proofs.FactsPlain.{GuardFacts, facts_plain, facts_tidy}
 use Rattle.plain_resolved.proofs.PlainTops.{IsMovedForm, IsUnmovedForm}
 
@@ -129,7 +129,7 @@ module _ (V O C : ExpressionTree → Type 0) (R : Option ExpressionTree → Type
         let variables = subst (HaveVariables (setting f m.flat_form) (first_here (length f.slots))) (sym there) w.variables in
         let bound : length f.slots + total variables_of (body_of f) ≤ length m.flat_form.slots = subst (λ a. length f.slots + total variables_of a ≤ length m.flat_form.slots) (sym there) (omega (arith, more)) in
         let flat = flat_has V O C R N (setting f m.flat_form) (plan_of f) one selects (first_here (length f.slots)) Stays Stays NoArrival (body_of f) k variables bound in
-        facts_reached V O C R N of_value m.reaches (facts_derived V O C R N of_value m.derives (facts_converted V O C R N of_value m.body (subst (Everywhere H) (sym (flat_trees f h m)) flat)))
+        facts_rewritten V O C R N of_value m.rewritten (facts_converted V O C R N of_value m.body (subst (Everywhere H) (sym (flat_trees f h m)) flat))
 
     pub facts_of_plain : GuardFacts V O C R N (slot_of f h m) (Left f h m) → Everywhere Source (body_of f) → Everywhere H (body_of h)
     facts_of_plain g k =

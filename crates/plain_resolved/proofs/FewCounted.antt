@@ -28,6 +28,7 @@ use Rattle.plain_core.proofs.PlainFunctions.{are_declared}
 use Rattle.plain_core.proofs.PlainRange.{plain_everywhere, join_everywhere}
 use Rattle.conversion_core.proofs.ConvertedTrees.{converted_trees}
 use Rattle.guard_simplify.specs.Choice.{repeat, barred}
+use Rattle.guard_simplify.specs.Application.{IsSimple}
 use Rattle.guard_vars.specs.Conversion.{converted_list}
 use Rattle.whole_core.specs.Rewritten.{setting}
 use Rattle.whole_core.proofs.Unlabelled.{IsPlainItem}
@@ -273,7 +274,7 @@ module _ (slot : ℕ → ℕ) (f : Function) (n labels most : ℕ) (some : 0 < l
 
 -- ---- a function with jumps
 
-module _ (f h : Function) (m : IsMovedForm f h) (params : f.params ≤ length f.slots) (form : Everywhere (HasSourceForm f) (body_of f)) (some : 0 < length m.flat_form.labels) where
+module _ (f h : Function) (m : IsMovedForm f h) (params : f.params ≤ length f.slots) (form : Everywhere (HasSourceForm f) (body_of f)) (some : 0 < length m.flat_form.labels) (is_simple : IsSimple m.new) where
   abbrev before : ℕ
   before = most_counted (body_of f)
 
@@ -347,10 +348,10 @@ module _ (f h : Function) (m : IsMovedForm f h) (params : f.params ≤ length f.
       let p = numbered (marks (flat c (first_here (length f.slots)) Stays Stays NoArrival (body_of f))) c in
       let start : tested (trees_of (converted_list m.body)) ≡ tested (convert (flat_body constant f.slots (length f.labels) (body_of f))) = ap tested (converted_trees m.body ∙ ap convert (flat_trees f h m)) in
       let few = flat_tested p (first_here (length f.slots)) Stays Stays NoArrival (body_of f) in
-      moved_tests before (omega (arith, start, few)) m.derives m.reaches
+      moved_tests before (omega (arith, start, few)) m.rewritten
 
   simple : Everywhere RepeatsNone (trees_of m.new)
-  simple = none_from (λ l. barred l (trees_of m.new)) 0 (trees_of m.new) m.simple m.made.loops
+  simple = none_from (λ l. barred l (trees_of m.new)) 0 (trees_of m.new) is_simple m.made.loops
 
   plain_counts : Everywhere (Counts most most most) (body_of h)
   plain_counts =

@@ -143,7 +143,7 @@ function_over f h ss d b body = record {
   body = body;
 }
 
-module _ (counts : FlatCounts) (p : Program) (Own : Function → Type 0) (own : (h : Function) → Own h → HasOwnNames p.tops h) where
+module _ (counts : FlatCounts) (p : Program) (Own : Function → Function → Type 0) (own : (f h : Function) → Own f h → HasOwnNames p.tops h) where
   module _ (ss : List Scope) (o : AreOfFile p.tops ss) where
     moved_top : (f h : Function) (m : IsMovedForm f h) → IsResolvedFunction counts p.tops f → HasOwnNames p.tops h → ((n : List ℕ) → IsFree p.tops n → TopIsOther n (T.Function f)) → FunctionIsBound f ss → FunctionIsBound h ss
     moved_top f h m r n d b =
@@ -167,7 +167,7 @@ module _ (counts : FlatCounts) (p : Program) (Own : Function → Type 0) (own : 
         function_over f h ss d b (subst (λ k. BodyIsBound h (bind k AFunction ss) h.body) (sym d.name) (bound_body h file h.body refl bound))
 
     top_bound : {t u : Top} → PlainTop Own t u → IsResolvedTop counts p.tops t → ((n : List ℕ) → IsFree p.tops n → TopIsOther n t) → TopIsBound ss t → TopIsBound ss u
-    top_bound (pt_moved {f = f} {h = h} m q) r d b = moved_top f h m r (own h q) d b
+    top_bound (pt_moved {f = f} {h = h} m q) r d b = moved_top f h m r (own f h q) d b
     top_bound (pt_unmoved {f = f} {h = h} m) r d b = unmoved_top f h m b
     top_bound (pt_declared f e) r d b = b
     top_bound (pt_other t n) r d b = b

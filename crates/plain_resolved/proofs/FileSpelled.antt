@@ -11,6 +11,7 @@ use Rattle.c_tree.specs.InRange.{body_of}
 use Rattle.flat_core.specs.Unlabelled.{unlabelled}
 use Rattle.whole_core.proofs.Source.{source_function}
 use Rattle.c_resolved.specs.Within.{Each, AllDiffer}
+use Rattle.c_resolved.specs.Limits.{most_counted}
 use Rattle.c_resolved.specs.PrintableExpressions.{IsName}
 use Rattle.c_resolved.specs.PrintableStatements.{most, depth}
 use Rattle.c_resolved.specs.PrintablePrograms.{ParametersPrint}
@@ -19,9 +20,7 @@ use Rattle.c_resolved.specs.Spelling.{AreSpelled, BodyIsSpelled, HasName, Functi
 use Rattle.resolved_core.specs.Counts.{flat_counts, IsResolved}
 use Rattle.plain_resolved.specs.Names.{HasOwnNames}
 use Rattle.plain_resolved.proofs.FactsMoved.{left_trees}
-use Rattle.plain_resolved.proofs.Measured.{within_counts}
 use Rattle.plain_resolved.proofs.MovedSpelled.{moved_items}
-use Rattle.plain_resolved.proofs.PlainDepths.{within_levels}
 use Rattle.plain_resolved.proofs.PlainForms.{left_plain}
 use Rattle.plain_resolved.proofs.PlainTops.{IsMovedForm, IsUnmovedForm, PlainTop, pt_moved, pt_unmoved, pt_declared, pt_other, PlainTops, pt_none, pt_more}
 use Rattle.plain_resolved.proofs.SameFile.{SameDeclaration}
@@ -54,13 +53,20 @@ function_spelled f h d ls s items shallow = record {
   body = body_spelled h h.body refl items shallow;
 }
 
-module _ (p : Program) (r : IsResolved p) (Own : Function → Type 0) (own : (h : Function) → Own h → HasOwnNames p.tops h) (us : List Top) where
-  moved_spelled : (f h : Function) (m : IsMovedForm f h) → Own h → IsResolvedFunction flat_counts p.tops f → IsResolvedFunction flat_counts us h → FunctionIsSpelled f → FunctionIsSpelled h
+-- no full expression of the function has too many counted tokens, and no list of it is nested too deeply
+pub record IsShort (h : Function) : Type 0 where
+  pub counted : most_counted (body_of h) ≤ most
+  pub depth : 1 + depth (body_of h) ≤ most
+
+module _ (p : Program) (r : IsResolved p) (Own : Function → Function → Type 0) (own : (f h : Function) → Own f h → HasOwnNames p.tops h)
+    (short : (f h : Function) → Own f h → IsResolvedFunction flat_counts p.tops f → IsShort h) (us : List Top) where
+  moved_spelled : (f h : Function) (m : IsMovedForm f h) → Own f h → IsResolvedFunction flat_counts p.tops f → IsResolvedFunction flat_counts us h → FunctionIsSpelled f → FunctionIsSpelled h
   moved_spelled f h m o g k s =
       let params = g.form.parameters in
-      let n = own h o in
-      let items = moved_items f h m params p.tops n flat_counts us k flat_counts p.tops g (spelled_body f f.body refl s.body).0 (within_counts p.tops f h g m) in
-      function_spelled f h (moved_declared f h m params) (ap (λ (j : Function). j.labels) m.plain) s items (within_levels p.tops f h g m)
+      let n = own f h o in
+      let few = short f h o g in
+      let items = moved_items f h m params p.tops n flat_counts us k flat_counts p.tops g (spelled_body f f.body refl s.body).0 few.counted in
+      function_spelled f h (moved_declared f h m params) (ap (λ (j : Function). j.labels) m.plain) s items few.depth
 
   unmoved_spelled : (f h : Function) (m : IsUnmovedForm f h) → IsResolvedFunction flat_counts p.tops f → FunctionIsSpelled f → FunctionIsSpelled h
   unmoved_spelled f h m g s =

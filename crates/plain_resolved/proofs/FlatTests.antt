@@ -14,10 +14,6 @@ use Rattle.c_tree.specs.Trees.{Tree, Forest, Nil, Then, Sections, NoSection, Sec
 use Rattle.c_tree.specs.Changed.{one}
 use Rattle.c_tree.specs.Everywhere.{Everywhere, EverywhereOf, EverywhereIn}
 use Rattle.c_tree.proofs.KeptLemmas.{IsKept, changed_kept}
-use Rattle.derivation.specs.declared.kept.Kept.{Kept}
-use Rattle.derivation.specs.Derivations.{Derives}
-use Rattle.guard_simplify.specs.declared.choice.Choice.{Choice}
-use Rattle.guard_simplify.specs.Application.{Reaches}
 use Rattle.simpler_core.proofs.Kept.{IsOfLabels, shorter_kept, round_kept, selector_kept, IsStable, simplified_kept}
 use Rattle.unread_guards.proofs.DroppedItems.{Becomes, becomes}
 use Rattle.jump_meaning.specs.Code.{entry_or}
@@ -27,9 +23,9 @@ use Rattle.loose_core.specs.Pieces.{Aim, Stays, Becomes as BecomesLabel, Absent,
 use Rattle.loose_core.specs.Loose.{Arrivals, NoArrival, Arrives}
 use Rattle.flat_core.specs.Parts.{is_scattered, holds_jump, kept_breaks, Here, past, past_item, inside, Ending, Gone, Breaks, Jumps, Otherwise, ending, is_gone}
 use Rattle.flat_core.specs.FlatForm.{Plan, names_of, scatter_aim, otherwise_label, end_goto, aim, exit, is_jumpy_switch, assigned, mark_if, arrival, dissolved, if_breaks, flat_for, flat, flat_item, flat_last, flat_last_item, flat_sections, spread}
-use Rattle.whole_core.proofs.BodiesKept.{derived_kept, reached_kept}
 use Rattle.c_resolved.specs.Limits.{most_if, most_tested, most_counted, most_counted_of, most_counted_in}
 use Rattle.c_resolved.specs.PrintableExpressions.{counted}
+use Rattle.plain_resolved.proofs.Rewrites.{Rewrites, rewritten_kept}
 
 -- ---- the most counted tokens of a test or a selector
 
@@ -400,7 +396,7 @@ module _ (n : ℕ) where
     others = λ x o h. h;
   }
 
-  pub moved_tests : {body : List Item} {ms : List Kept} {middle : List Item} {cs : List Choice} {new : List Item} → tested (trees_of body) ≤ n → Derives body ms middle → Reaches middle cs new → Everywhere HasFewTests (trees_of new)
-  moved_tests {body = body} h d r =
-      reached_kept HasFewTests (λ xs ys c i. simplified_kept HasFewTests stable c i) (λ l xs i. becomes (eqb l) HasFewTests HasFewTests (kept_by_drops (eqb l)) xs i) r
-      (derived_kept HasFewTests (λ xs ys c i. changed_kept HasFewTests kept_by_moves c i) d (few_tests (trees_of body) h))
+  pub moved_tests : {body new : List Item} → tested (trees_of body) ≤ n → Rewrites body new → Everywhere HasFewTests (trees_of new)
+  moved_tests {body = body} h r =
+      rewritten_kept HasFewTests (λ xs ys c i. changed_kept HasFewTests kept_by_moves c i) (λ xs ys c i. simplified_kept HasFewTests stable c i)
+      (λ l xs i. becomes (eqb l) HasFewTests HasFewTests (kept_by_drops (eqb l)) xs i) r (few_tests (trees_of body) h)

@@ -4,6 +4,7 @@ pub mod FactsKept
 pub mod FactsFlat
 pub mod SameFile
 pub mod NamesKept
+pub mod Rewrites
 pub mod PlainTops
 pub mod FactsPlain
 pub mod SameTops

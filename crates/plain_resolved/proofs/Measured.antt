@@ -25,7 +25,7 @@ use Rattle.resolved_core.proofs.Measures.{same_labels}
 use Rattle.resolved_core.proofs.Ranged.{function_ranged}
 use Rattle.plain_resolved.proofs.FewCounted.{moved_few}
 use Rattle.plain_resolved.proofs.JumpsKept.{jumps_kept, some_label}
-use Rattle.plain_resolved.proofs.PlainTops.{IsMovedForm}
+use Rattle.plain_resolved.proofs.PlainTops.{IsMovedForm, IsDerivedForm}
 
 some_number : (n : ℕ) → is_some_number n ≡ true → 0 < n
 some_number zero e = cc
@@ -43,7 +43,10 @@ with_jumps : (b : Bool) (n : ℕ × ℕ) (P : ℕ × ℕ → Type 0) → b ≡ t
 with_jumps true n P e h = h
 with_jumps false n P e h = cc
 
-module _ (ts : List Top) (f h : Function) (g : IsResolvedFunction flat_counts ts f) (m : IsMovedForm f h) where
+module _ (ts : List Top) (f h : Function) (g : IsResolvedFunction flat_counts ts f) (d : IsDerivedForm f h) where
+  abbrev m : IsMovedForm f h
+  m = d.form
+
   pub limits : IsWithinLimits f (counts_of (measured_form (body_of f)))
   limits = with_jumps (has_jumps (body_of f)) (counts_of (measured_form (body_of f))) (IsWithinLimits f) m.jumps g.untangled
 
@@ -55,7 +58,7 @@ module _ (ts : List Top) (f h : Function) (g : IsResolvedFunction flat_counts ts
   moved_counts =
       let some = has_label f.slots (length f.labels) (body_of f) (good_source flat_counts ts f g) (function_ranged flat_counts ts f g).slots m.jumps in
       let same = same_labels f.slots (length f.labels) (body_of f) in
-      let few = moved_few f h m g.form.parameters g.form.items (omega (arith, some, labels_are)) in
+      let few = moved_few f h m g.form.parameters g.form.items (omega (arith, some, labels_are)) d.simple in
       omega (arith, few, same, labels_are)
 
   pub within_counts : most_counted (body_of h) ≤ most

@@ -27,7 +27,7 @@ use Rattle.guard_simplify.specs.Application.{Reaches, none, then}
 use Rattle.guard_simplify.proofs.Members.{in_first}
 use Rattle.guard_vars.specs.Conversion.{converted_list}
 use Rattle.plain_core.specs.GuardSlots.{plain_list, plain_item, plain_sections}
-use Rattle.plain_core.specs.Slotted as d
+use Rattle.plain_core.specs.Slotted as D
 use Rattle.plain_core.specs.Slotted.{AreDeclarations, one_more, variable, guarding}
 use Rattle.plain_core.proofs.PlainFunctions.{are_declared}
 use Rattle.whole_core.proofs.BodiesKept.{IsSimplified, chosen_simplified}
@@ -41,7 +41,7 @@ use Rattle.plain_resolved.proofs.FactsMoved.{labels_of, slot_of, reached_of, fla
 use Rattle.plain_resolved.proofs.FlatDepths.{flat_depth}
 use Rattle.plain_resolved.proofs.Measured.{limits}
 use Rattle.plain_resolved.proofs.PlainForms.{decls, items}
-use Rattle.plain_resolved.proofs.PlainTops.{IsMovedForm}
+use Rattle.plain_resolved.proofs.PlainTops.{IsMovedForm, IsDerivedForm}
 use Rattle.plain_resolved.proofs.UnmovedSpelled.{depth_if, depth_tidy}
 
 -- ---- the greatest list level is one more than the depth
@@ -86,7 +86,7 @@ module _ (slot : ℕ → ℕ) where
     nesting_plain_in (Section cases default a ends c) = let i = nesting_plain a in let j = nesting_plain_in c in omega (arith, i, j)
 
 declarations_flat : (base end : ℕ) (a : Forest) → AreDeclarations base end a → nesting a ≡ 1
-declarations_flat base end Nil d.none = refl
+declarations_flat base end Nil D.none = refl
 declarations_flat base end (Then x a) (one_more (variable y) r) = let i = declarations_flat base end a r in omega (arith, i)
 declarations_flat base end (Then x a) (one_more (guarding y k j) r) = let i = declarations_flat base end a r in omega (arith, i)
 
@@ -148,7 +148,10 @@ module _ (P : ℕ → Type 0) where
 
 -- ---- a function with jumps
 
-module _ (ts : List Top) (f h : Function) (g : IsResolvedFunction flat_counts ts f) (m : IsMovedForm f h) where
+module _ (ts : List Top) (f h : Function) (g : IsResolvedFunction flat_counts ts f) (d : IsDerivedForm f h) where
+  abbrev m : IsMovedForm f h
+  m = d.form
+
   abbrev n : ℕ
   n = length f.labels
 
@@ -169,11 +172,11 @@ module _ (ts : List Top) (f h : Function) (g : IsResolvedFunction flat_counts ts
       let c = coded constant f.slots n source in
       flat_depth (numbered (marks (flat c (first_here (length f.slots)) Stays Stays NoArrival source)) c) (first_here (length f.slots)) Stays Stays NoArrival source good.items
 
-  moved_shallow : nesting (trees_of m.middle) ≤ nesting flattened + 3 * gotos flattened
+  moved_shallow : nesting (trees_of d.middle) ≤ nesting flattened + 3 * gotos flattened
   moved_shallow =
       let made = made_laws.of_bodies constant f.slots n source good in
       let there : trees_of (converted_list m.body) ≡ convert flattened = converted_trees m.body ∙ ap convert (flat_trees f h m) in
-      depth_laws.whole flattened (converted_list m.body) m.moves m.middle there (no_leaps _ flattened made.items) (subst IsWellMade (sym there) (made_laws.of_conversions constant f.slots n source good)) m.derives
+      depth_laws.whole flattened (converted_list m.body) d.moves d.middle there (no_leaps _ flattened made.items) (subst IsWellMade (sym there) (made_laws.of_conversions constant f.slots n source good)) d.derives
 
   -- three levels more for each goto of the flat form
   pub moved_levels : depth (body_of h) ≤ depth (body_of f) + 3 * (counts_of (measured_form (body_of f))).0
@@ -188,7 +191,7 @@ module _ (ts : List Top) (f h : Function) (g : IsResolvedFunction flat_counts ts
       let first = declarations_flat _ _ a (are_declared (reached_of f h m) (labels_of f h m)) in
       let rest = nesting_plain (slot_of f h m) (trees_of m.new) in
       let some = nesting_some (trees_of m.new) in
-      let reached = reached_depth m.reaches in
+      let reached = reached_depth d.reaches in
       let start = nesting_depth source in
       let gotos_few = few_gotos in
       let flat_so = flat_shallow in
@@ -196,4 +199,4 @@ module _ (ts : List Top) (f h : Function) (g : IsResolvedFunction flat_counts ts
       omega (arith, plain, tidied, all, both, first, rest, some, reached, start, gotos_few, flat_so, moved_so)
 
   pub within_levels : 1 + depth (body_of h) ≤ most
-  within_levels = let deep = (limits ts f h g m).depth in let levels = moved_levels in omega (arith, deep, levels)
+  within_levels = let deep = (limits ts f h g d).depth in let levels = moved_levels in omega (arith, deep, levels)

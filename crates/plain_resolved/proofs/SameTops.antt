@@ -74,7 +74,7 @@ module _ (f h : Function) (m : IsUnmovedForm f h) where
 
 -- ---- the file
 
-pub same_file : (Own : Function → Type 0) (counts : FlatCounts) (all : List Top) {ts us : List Top} → PlainTops Own ts us → Each (IsResolvedTop counts all) ts → SameFile ts us
+pub same_file : (Own : Function → Function → Type 0) (counts : FlatCounts) (all : List Top) {ts us : List Top} → PlainTops Own ts us → Each (IsResolvedTop counts all) ts → SameFile ts us
 same_file Own counts all pt_none r = sf_none
 same_file Own counts all (pt_more (pt_moved {f = f} {h = h} m o) s) r = sf_function (moved_declared f h m r.0.form.parameters) (same_file Own counts all s r.1)
 same_file Own counts all (pt_more (pt_unmoved {f = f} {h = h} m) s) r = sf_function (unmoved_declared f h m) (same_file Own counts all s r.1)

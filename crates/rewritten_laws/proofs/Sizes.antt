@@ -16,7 +16,7 @@ use Rattle.jump_meaning.specs.Code.{code_of}
 use Rattle.plain_core.specs.Laws.{IsTopReady}
 use Rattle.plain_resolved.proofs.Measured.{moved_counts}
 use Rattle.plain_resolved.proofs.PlainDepths.{moved_levels}
-use Rattle.plain_resolved.proofs.PlainTops.{IsMovedForm, IsOwnTop, PlainTop, pt_moved, pt_unmoved, pt_declared, pt_other, PlainTops, pt_none, pt_more, plain_tops}
+use Rattle.plain_resolved.proofs.PlainTops.{IsDerivedForm, Derived, IsOwnTop, PlainTop, pt_moved, pt_unmoved, pt_declared, pt_other, PlainTops, pt_none, pt_more, plain_tops}
 use Rattle.resolved_core.specs.Counts.{counts_of, measured_form, flat_counts}
 use Rattle.whole_core.specs.Rewritten.{IsNoFunction}
 use Rattle.whole_core.proofs.Whole.{resolved_ready}
@@ -32,7 +32,7 @@ if_free : (b : Bool) (n : ℕ × ℕ) (P : ℕ × ℕ → Type 0) → b ≡ fals
 if_free true n P e = cc
 if_free false n P e = tt
 
-has_sizes : (ts : List Top) (f h : Function) → IsResolvedFunction flat_counts ts f → IsMovedForm f h → HasSizes f h (counts_of (measured_form (body_of f)))
+has_sizes : (ts : List Top) (f h : Function) → IsResolvedFunction flat_counts ts f → IsDerivedForm f h → HasSizes f h (counts_of (measured_form (body_of f)))
 has_sizes ts f h g m = record { depth = moved_levels ts f h g m; counted = moved_counts ts f h g m }
 
 declared_free : (f : Function) → f.body ≡ None → has_jumps (body_of f) ≡ false
@@ -50,13 +50,13 @@ abbrev Any : Function → Type 0
 Any h = Unit {0}
 
 module _ (tops : List Top) where
-  top_within : {t u : Top} → PlainTop Any t u → IsResolvedTop flat_counts tops t → IsWithinSizes t u
-  top_within (pt_moved {f = f} {h = h} m o) g = if_counted (has_jumps (body_of f)) (counts_of (measured_form (body_of f))) (HasSizes f h) m.jumps (has_sizes tops f h g m)
+  top_within : {t u : Top} → PlainTop (Derived Any) t u → IsResolvedTop flat_counts tops t → IsWithinSizes t u
+  top_within (pt_moved {f = f} {h = h} m o) g = if_counted (has_jumps (body_of f)) (counts_of (measured_form (body_of f))) (HasSizes f h) m.jumps (has_sizes tops f h g o.1)
   top_within (pt_unmoved {f = f} {h = h} m) g = if_free (has_jumps (body_of f)) (counts_of (measured_form (body_of f))) (HasSizes f h) m.free
   top_within (pt_declared f e) g = if_free (has_jumps (body_of f)) (counts_of (measured_form (body_of f))) (HasSizes f f) (declared_free f e)
   top_within (pt_other t n) g = other_within t n
 
-  tops_within : {ts us : List Top} → PlainTops Any ts us → Each (IsResolvedTop flat_counts tops) ts → AtEachPair IsWithinSizes ts us
+  tops_within : {ts us : List Top} → PlainTops (Derived Any) ts us → Each (IsResolvedTop flat_counts tops) ts → AtEachPair IsWithinSizes ts us
   tops_within pt_none g = tt
   tops_within (pt_more t r) g = (top_within t g.0, tops_within r g.1)
 
