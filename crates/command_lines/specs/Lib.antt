@@ -3,3 +3,4 @@ pub mod Status
 pub mod Lines
 pub mod Help
 pub mod Numbers
+pub mod Demo

@@ -44,15 +44,23 @@ reason_text reason =
     else (if reason == 41 then codes "no main"
     else (if reason == 42 then codes "call of a function without body"
     else (if reason == 43 then codes "parameter without a name"
-    else [])))))))))))))))))))))))))))))))
+    else (if reason == 50 then codes "bad report line"
+    else (if reason == 51 then codes "move does not fit"
+    else (if reason == 52 then codes "a jump is left"
+    else (if reason == 53 then codes "result nested too deeply"
+    else [])))))))))))))))))))))))))))))))))))
 
 abbrev pub counts_line : ℕ → ℕ → ℕ → List ℕ
 counts_line jumps moves guards =
     codes "regoto: " ++ decimal jumps ++ codes " jumps, " ++ decimal moves ++ codes " moves, " ++ decimal guards ++ codes " guards\n"
 
+abbrev pub replayed_line : ℕ → ℕ → List ℕ
+replayed_line moves guards = codes "regoto: " ++ decimal moves ++ codes " moves, " ++ decimal guards ++ codes " guards\n"
+
 -- what a command did that wrote a file
 abbrev pub summary_line : Summary → List ℕ
 summary_line (summary.Restructured jumps moves guards) = counts_line jumps moves guards
+summary_line (summary.Replayed moves guards) = replayed_line moves guards
 
 abbrev pub place_and_reason : Refusal → List ℕ
 place_and_reason refusal =

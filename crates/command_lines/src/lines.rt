@@ -1,6 +1,6 @@
 ghost use Rattle.std.specs.Prelude.{◌≡◌, ◌++◌, codes};
 ghost use Rattle.std.specs.List.{flat_map};
-ghost use Rattle.command_lines.specs.Lines.{Writes, Tells, reason_text as the_reason_text, summary_line, counts_line, place_and_reason, refusal_line, absent_line};
+ghost use Rattle.command_lines.specs.Lines.{Writes, Tells, reason_text as the_reason_text, summary_line, counts_line, replayed_line, place_and_reason, refusal_line, absent_line};
 
 use c_types::Refusal;
 use itoa::Buffer;
@@ -11,6 +11,8 @@ use rg_ports::{Failed, Sink, write_all};
 pub enum Summary {
     /// It eliminated so many jumps by so many moves, and declared so many guards.
     Restructured { jumps: u64, moves: u64, guards: u64 },
+    /// It made so many moves of a report, and declared so many guards.
+    Replayed { moves: u64, guards: u64 },
 }
 
 /// Writes the text, and answers whether all of it was taken.
@@ -66,6 +68,21 @@ fn write_counts<E: Sink>(err: &mut E, jumps: u64, moves: u64, guards: u64) -> bo
     write_pieces(err, &pieces)
 }
 
+fn write_replayed<E: Sink>(err: &mut E, moves: u64, guards: u64) -> bool
+    ensures { Writes result (E.written err.old) (E.written err.new) (E.faults err.old) (E.faults err.new) (replayed_line moves guards) }
+{
+    let mut moves_text = Buffer::new();
+    let mut guards_text = Buffer::new();
+    let pieces = [
+        "regoto: ",
+        moves_text.format(moves),
+        " moves, ",
+        guards_text.format(guards),
+        " guards\n",
+    ];
+    write_pieces(err, &pieces)
+}
+
 /// Tells what a command did.
 pub fn tell_summary<E: Sink>(err: &mut E, summary: &Summary)
     ensures { Tells (E.written err.old) (E.written err.new) (E.faults err.old) (E.faults err.new) (summary_line summary.now) }
@@ -76,6 +93,7 @@ pub fn tell_summary<E: Sink>(err: &mut E, summary: &Summary)
             moves,
             guards,
         } => write_counts(err, *jumps, *moves, *guards),
+        Summary::Replayed { moves, guards } => write_replayed(err, *moves, *guards),
     };
 }
 
@@ -115,6 +133,10 @@ fn reason_text(reason: u32) -> &'static str
         41 => "no main",
         42 => "call of a function without body",
         43 => "parameter without a name",
+        50 => "bad report line",
+        51 => "move does not fit",
+        52 => "a jump is left",
+        53 => "result nested too deeply",
         _ => "",
     }
 }

@@ -1,5 +1,5 @@
 ghost use Rattle.std.specs.Prelude.{◌≡◌, map, option_map, string_bytes, [], ◌∷◌};
-ghost use Rattle.command_lines.specs.Command.{names_file, asks_for_report, command_of, seen};
+ghost use Rattle.command_lines.specs.Command.{names_file, asks_for_report, pair_of, run_of, replay_of, command_of, seen};
 
 use crate::numbers::number;
 
@@ -19,6 +19,8 @@ pub enum Job<'a> {
     Show(&'a str),
     /// Restructure the file, and write the report of the moves to the standard output.
     Moves(&'a str),
+    /// Make the moves of a report: the file that is read, the one of the report, and the one that is written.
+    Replay(&'a str, &'a str, &'a str),
 }
 
 /// Whether a word names a file: it isn't empty and doesn't begin with `-`.
@@ -44,12 +46,12 @@ pub fn command<'a>(words: &'a [String]) -> Option<Job<'a>>
             }
         }
         [word, from] => file_job(word.as_str(), from.as_str()),
-        [word, from, to] => restructure_job(word.as_str(), from.as_str(), to.as_str()),
-        [word, from, flag, steps] => steps_job(
+        [word, from, to] => two_job(word.as_str(), from.as_str(), to.as_str()),
+        [word, first, second, third] => three_job(
             word.as_str(),
-            from.as_str(),
-            flag.as_str(),
-            steps.as_str(),
+            first.as_str(),
+            second.as_str(),
+            third.as_str(),
         ),
         [word, from, to, flag, report] => report_job(
             word.as_str(),
@@ -77,10 +79,10 @@ fn file_job<'a>(word: &str, from: &'a str) -> Option<Job<'a>>
     }
 }
 
-fn steps_job<'a>(word: &str, from: &'a str, flag: &str, steps: &str) -> Option<Job<'a>>
-    ensures { option_map seen result ≡ command_of (word.now ∷ from.now ∷ flag.now ∷ steps.now ∷ []) }
+fn steps_job<'a>(from: &'a str, flag: &str, steps: &str) -> Option<Job<'a>>
+    ensures { option_map seen result ≡ run_of from.now flag.now steps.now }
 {
-    if word == "run" && names_a_file(from) && flag == "--steps" {
+    if names_a_file(from) && flag == "--steps" {
         match number(steps) {
             Some(steps) => Some(Job::Run(from, steps)),
             None => None,
@@ -90,11 +92,41 @@ fn steps_job<'a>(word: &str, from: &'a str, flag: &str, steps: &str) -> Option<J
     }
 }
 
-fn restructure_job<'a>(word: &str, from: &'a str, to: &'a str) -> Option<Job<'a>>
+fn replay_job<'a>(word: &str, from: &'a str, report: &'a str, to: &'a str) -> Option<Job<'a>>
+    ensures { option_map seen result ≡ replay_of word.now from.now report.now to.now }
+{
+    if word == "replay" && names_a_file(from) && names_a_file(report) && names_a_file(to) {
+        Some(Job::Replay(from, report, to))
+    } else {
+        None
+    }
+}
+
+fn three_job<'a>(word: &str, first: &'a str, second: &'a str, third: &'a str) -> Option<Job<'a>>
+    ensures { option_map seen result ≡ command_of (word.now ∷ first.now ∷ second.now ∷ third.now ∷ []) }
+{
+    if word == "run" {
+        steps_job(first, second, third)
+    } else {
+        replay_job(word, first, second, third)
+    }
+}
+
+fn pair_job<'a>(word: &str, from: &'a str, to: &'a str) -> Option<Job<'a>>
+    ensures { option_map seen result ≡ pair_of word.now from.now to.now }
+{
+    if word == "restructure" {
+        Some(Job::Restructure(from, to, None))
+    } else {
+        None
+    }
+}
+
+fn two_job<'a>(word: &str, from: &'a str, to: &'a str) -> Option<Job<'a>>
     ensures { option_map seen result ≡ command_of (word.now ∷ from.now ∷ to.now ∷ []) }
 {
-    if word == "restructure" && names_a_file(from) && names_a_file(to) {
-        Some(Job::Restructure(from, to, None))
+    if names_a_file(from) && names_a_file(to) {
+        pair_job(word, from, to)
     } else {
         None
     }

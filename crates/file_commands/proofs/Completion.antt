@@ -9,14 +9,14 @@ use Rattle.file_commands.specs.Taken.{HandsOver, Lacks}
 use Rattle.file_commands.specs.Translated.{IsTooLongOrRefused, Untranslated, Completes}
 
 -- the text that the shelf hands over is the one that it holds
-handed : (before : Option Files) (files : Files) (from text : List ℕ) (P : List ℕ → Type 0) → before ≡ Some files → get files from ≡ Some text
+pub handed : (before : Option Files) (files : Files) (from text : List ℕ) (P : List ℕ → Type 0) → before ≡ Some files → get files from ≡ Some text
     → HandsOver before from P → P text
 handed before files from text P told there h =
     let found = subst (λ b. HandsOver b from P) told h in
     let same : found.0 ≡ text = let both = sym found.1 ∙ there in cc in
     subst P same found.2
 
-lacking : (before : Option Files) (files : Files) (from text : List ℕ) → before ≡ Some files → get files from ≡ Some text → Lacks before from → ⊥
+pub lacking : (before : Option Files) (files : Files) (from text : List ℕ) → before ≡ Some files → get files from ≡ Some text → Lacks before from → ⊥
 lacking before files from text told there h =
     let none : get files from ≡ None = subst (λ b. Lacks b from) told h in
     let both = sym none ∙ there in cc

@@ -11,4 +11,4 @@ pub use pieces::{MOST_IN_PIECE, write_in_pieces};
 pub use shown::show;
 pub use taken::take_text;
 pub use translator::{MOST_BYTES, Part, Translation, Translator};
-pub use written::{Targets, write};
+pub use written::{Targets, write, write_translation};

@@ -39,7 +39,7 @@ pub fn write<T: Translator, H: Shelf, E: Sink>(
 }
 
 /// Writes a translation, and tells what was done.
-fn write_translation<H: Shelf, E: Sink>(
+pub fn write_translation<H: Shelf, E: Sink>(
     to: &Targets,
     translation: &Translation,
     shelf: &mut H,

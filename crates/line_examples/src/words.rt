@@ -3,7 +3,7 @@
 use command_lines::{Job, command, number};
 use std::test::Fail;
 
-static COMMANDS: [(&[&str], Option<Job<'static>>); 20] = [
+static COMMANDS: [(&[&str], Option<Job<'static>>); 24] = [
     (&[], None),
     (&["help"], Some(Job::Help)),
     (&["help", "show"], None),
@@ -32,6 +32,16 @@ static COMMANDS: [(&[&str], Option<Job<'static>>); 20] = [
     (&["run", "a.c", "--steps", "-1"], None),
     (&["run", "a.c", "--steps=5"], None),
     (&["run", "a.c", "--steps"], None),
+    (
+        &["replay", "a.c", "r.txt", "b.c"],
+        Some(Job::Replay("a.c", "r.txt", "b.c")),
+    ),
+    (
+        &["replay", "a.c", "a.c", "a.c"],
+        Some(Job::Replay("a.c", "a.c", "a.c")),
+    ),
+    (&["replay", "a.c", "-r", "b.c"], None),
+    (&["replay", "a.c", "r.txt"], None),
     (&["demo", "2"], None),
 ];
 

@@ -12,6 +12,7 @@ use Rattle.file_commands.specs.declared.translator.Part.{Part}
 use Rattle.file_commands.specs.Translated.{Completes as CompletesWhere}
 use Rattle.file_commands.specs.Written.{Writes}
 use Rattle.file_commands.specs.Shown.{Shows}
+use Rattle.text_replay.specs.Laws.{GivesTheSame}
 
 -- what is written of a restructured text, and told of it
 abbrev pub translation_of : Output → Translation
@@ -29,6 +30,8 @@ pub record IsRestructuredTo (text : List ℕ) (made : Translation) : Type 0 wher
   pub only : IsOnlyOutput text output
   -- and what is written is restructured to itself
   pub settled : IsTextSettled output.text
+  -- the report, replayed on the text, gives the same
+  pub replayed : GivesTheSame text output
   pub told : made ≡ translation_of output
 
 -- Each status, with what it says of the files before and after, of the counts of failed reads and writes

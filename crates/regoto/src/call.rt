@@ -1,16 +1,19 @@
 ghost use Rattle.std.specs.Prelude.{◌≡◌, ◌↔◌, ℕ, List, Option, map, string_bytes, Some, None};
 ghost use Rattle.command_lines.specs.Lines.{Tells, usage_line};
-ghost use Rattle.command_lines.specs.Command.{Restructure, Run, Help, Show, Moves, command_of};
+ghost use Rattle.command_lines.specs.Command.{Restructure, Run, Help, Show, Moves, Replay, command_of};
 ghost use Rattle.command_lines.specs.Help.{Helps};
 ghost use Rattle.text_runs.specs.Texts.{RunsText, CompletesText};
+ghost use Rattle.text_replay.specs.Texts.{ReplaysText, CompletesText as CompletesReplay};
 ghost use Rattle.regoto.specs.Restructure.{Restructures, ShowsRestructured, Completes};
 
 use crate::restructurer::Restructurer;
 use command_lines::{Job, Status, command, tell, write_help};
 use file_commands::{Part, Targets, show, write};
+use replay_commands::replay_file;
 use rg_ports::{Shelf, Sink, Source};
 use run_commands::run_file;
 use std::alloc::Global;
+use text_replay::TextReplayer;
 use text_runs::TextReader;
 
 /// Carries out the command that the words after the program's name are, through these ports.
@@ -70,6 +73,15 @@ pub fn regoto<H: Shelf, I: Source, O: Sink, E: Sink>(
         → CompletesText from steps (H.held shelf.old) (H.read_faults shelf.old) (H.read_faults shelf.new)
         (I.rest input.old) (I.faults input.old) (I.faults input.new) (O.faults out.old) (O.faults out.new) result }
 
+    ensures replay { (from report to : List ℕ) → command_of (map string_bytes words.now) ≡ Some (Replay from report to)
+        → (out.new ≡ out.old) × ReplaysText (λ line. Tells (E.written err.old) (E.written err.new) (E.faults err.old) (E.faults err.new) line)
+        from report to (H.held shelf.old) (H.held shelf.new) (H.read_faults shelf.old) (H.read_faults shelf.new)
+        (H.write_faults shelf.old) (H.write_faults shelf.new) result }
+
+    ensures complete_replay { (from report to : List ℕ) → command_of (map string_bytes words.now) ≡ Some (Replay from report to)
+        → CompletesReplay from report (H.held shelf.old) (H.read_faults shelf.old) (H.read_faults shelf.new)
+        (H.write_faults shelf.old) (H.write_faults shelf.new) result }
+
     // Every other command leaves the input untouched.
     ensures input { ((from : List ℕ) (steps : ℕ) → ¬ (command_of (map string_bytes words.now) ≡ Some (Run from steps))) → input.new ≡ input.old }
 {
@@ -94,5 +106,8 @@ pub fn regoto<H: Shelf, I: Source, O: Sink, E: Sink>(
         Some(Job::Help) => write_help(out, err),
         Some(Job::Show(from)) => show(alloc, &Restructurer, from, Part::Text, shelf, out, err),
         Some(Job::Moves(from)) => show(alloc, &Restructurer, from, Part::Report, shelf, out, err),
+        Some(Job::Replay(from, report, to)) => {
+            replay_file(alloc, &TextReplayer, from, report, to, shelf, err)
+        }
     }
 }

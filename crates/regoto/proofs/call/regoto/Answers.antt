@@ -1,6 +1,6 @@
 use Rattle.std.proofs.Common.{◌≡◌, Option, Some, List, ℕ, option_map, refl, sym, ◌∙◌}
 use Rattle.std.specs.Borrow.{Bor}
-use Rattle.command_lines.specs.Command.{Command, Restructure, Run, Show, Moves}
+use Rattle.command_lines.specs.Command.{Command, Restructure, Run, Show, Moves, Replay}
 use Rattle.regoto.proofs.call.regoto.Goals as goal
 
 pub returns-in-Some-Restructure-clause-restructure : goal.returns-in-Some-Restructure-clause-restructure
@@ -47,3 +47,20 @@ pub returns-in-Some-Run-clause-input : goal.returns-in-Some-Run-clause-input
 returns-in-Some-Run-clause-input g c = λ other.
     let words = rw c.in-Some-Run.field-0-is at c.in-Some-Run.ensures in
     absurd (other c.in-Some-Run.from.now c.in-Some-Run.steps (sym words))
+
+pub returns-in-Some-Replay-clause-replay : goal.returns-in-Some-Replay-clause-replay
+returns-in-Some-Replay-clause-replay g c = λ from report to e.
+    let words = rw c.in-Some-Replay.field-0-is at c.in-Some-Replay.ensures in
+    let same : ◌≡◌ {A = Option Command} (Some (Replay c.in-Some-Replay.from.now c.in-Some-Replay.report.now c.in-Some-Replay.to.now)) (Some (Replay from report to)) = words ∙ e in
+    let same_from : c.in-Some-Replay.from.now ≡ from = cc in
+    let same_report : c.in-Some-Replay.report.now ≡ report = cc in
+    let same_to : c.in-Some-Replay.to.now ≡ to = cc in
+    (refl, rw (← same_from, ← same_report, ← same_to) c.replay_file.ensures.replays)
+
+pub returns-in-Some-Replay-clause-complete_replay : goal.returns-in-Some-Replay-clause-complete_replay
+returns-in-Some-Replay-clause-complete_replay g c = λ from report to e.
+    let words = rw c.in-Some-Replay.field-0-is at c.in-Some-Replay.ensures in
+    let same : ◌≡◌ {A = Option Command} (Some (Replay c.in-Some-Replay.from.now c.in-Some-Replay.report.now c.in-Some-Replay.to.now)) (Some (Replay from report to)) = words ∙ e in
+    let same_from : c.in-Some-Replay.from.now ≡ from = cc in
+    let same_report : c.in-Some-Replay.report.now ≡ report = cc in
+    rw (← same_from, ← same_report) c.replay_file.ensures.completes

@@ -1,0 +1,5 @@
+pub mod Bytes
+pub mod Starts
+pub mod Once
+pub mod Within
+pub mod Outcomes

@@ -1,0 +1,127 @@
+//! From a program and a report to the plain form.
+
+ghost use Rattle.std.specs.Prelude.{◌≡◌, ◌≢◌, ◌+◌, true, IfOk, OnOk, Ok, Err, length};
+ghost use Rattle.c_tree.specs.InRange.{IsProgramInRange};
+ghost use Rattle.c_tree.specs.Jumps.{is_plain_program};
+ghost use Rattle.c_tree.specs.Text.{text_of};
+ghost use Rattle.text_reading.specs.Reading.{IsProgramOf};
+ghost use Rattle.plain_core.specs.Laws.{BehavesAsStructured};
+ghost use Rattle.resolved_core.specs.Counts.{IsResolved};
+ghost use Rattle.c_tree.specs.declared.tree.Program.{Program as TheProgram};
+ghost use Rattle.move_records.specs.Report.{report_text};
+ghost use Rattle.move_report.specs.Answers.{IsReport};
+ghost use Rattle.move_report.specs.Numbers.{HaveNumbers};
+ghost use Rattle.move_driver.specs.Restructured.{IsRestructured};
+ghost use Rattle.move_driver.specs.declared.counts.Counts.{Counts as TheCounts};
+ghost use Rattle.move_records.specs.declared.moves.Move.{Move as TheMove};
+ghost use Rattle.plain_form.specs.Plain.{plain as the_plain};
+ghost use Rattle.printed_limits.specs.Limits.{IsWithinLimits};
+ghost use Rattle.move_replay.specs.Replay.{IsFlatStart, IsFinished, IsAt, IsReplay, IsRefusal};
+
+use crate::making::make_all;
+use crate::reading::{read_moves, refused};
+use c_copies::{file_names, names};
+use c_tree::{Program, Top};
+use c_types::{List, Memory, Name, ReadStop, Refusal};
+use flat_names::ProgramNames;
+use lawful_steps::convert_tops;
+use move_driver::{Counts, count, flatten_tops};
+use move_records::Move;
+use plain_form::plain;
+use printed_limits::is_within_limits;
+use std::alloc::Global;
+
+/// The flat forms of all functions, converted.
+fn start(
+    alloc: Global,
+    used: &List<Name>,
+    of_file: &List<Name>,
+    tops: &mut List<Top>,
+) -> Result<(), Memory>
+    ensures { OnOk result (IsFlatStart used.now of_file.now tops.old tops.new) }
+{
+    let mut gathered = ProgramNames::new(alloc, used, of_file)?;
+    flatten_tops(alloc, &mut gathered, tops)?;
+    convert_tops(alloc, tops)
+}
+
+/// The plain form of what the moves have reached, and what was done. Refuses with reason 53 where it is not
+/// within the limits of a text.
+fn finish(
+    alloc: Global,
+    used: &List<Name>,
+    moves: &List<Move>,
+    program: &Program,
+    report: &[u8],
+) -> Result<(Program, Counts), ReadStop>
+    ensures ok { IfOk result (λ r. IsFinished used.now moves.now program.now r.0 r.1) }
+    ensures deep { (refusal : Refusal) → result ≡ Err (ReadStop.Refused refusal) → ¬ (IsWithinLimits (the_plain used.now program.now)) }
+    ensures refused { (refusal : Refusal) → result ≡ Err (ReadStop.Refused refusal) → IsAt 53 (length moves.now + 1) (length report.now) refusal }
+{
+    let made = plain(alloc, used, program)?;
+    if is_within_limits(&made) {
+        let counts = count(moves, program, &made);
+        Ok((made, counts))
+    } else {
+        Err(refused(53, moves.len() as u64 + 1, report.len()))
+    }
+}
+
+/// What `replay` does with the moves of the report.
+fn made_by(
+    alloc: Global,
+    program: Program,
+    moves: &List<Move>,
+    report: &[u8],
+) -> Result<(Program, Counts), ReadStop>
+    requires resolved { IsResolved program }
+    requires report { IsReport report.now moves.now }
+    ensures replayed { IfOk result (λ r. IsReplay program report.now r.0 r.1) }
+    ensures refused { (refusal : Refusal) → result ≡ Err (ReadStop.Refused refusal) → IsRefusal program report.now refusal }
+{
+    let used = names(alloc, &program)?;
+    // a list holds at most 4,294,967,295 names, which its slice tells
+    let _ = used.as_slice();
+    let of_file = file_names(alloc, &program)?;
+    let mut program = program;
+    start(alloc, &used, &of_file, &mut program.tops)?;
+    match make_all(alloc, &mut program.tops, moves, report) {
+        Ok(()) => finish(alloc, &used, moves, &program, report),
+        Err(stop) => Err(stop),
+    }
+}
+
+/// What `replay` does.
+fn answered(alloc: Global, program: Program, report: &[u8]) -> Result<(Program, Counts), ReadStop>
+    requires { IsResolved program }
+    ensures replayed { IfOk result (λ r. IsReplay program report.now r.0 r.1) }
+    ensures refused { (refusal : Refusal) → result ≡ Err (ReadStop.Refused refusal) → IsRefusal program report.now refusal }
+{
+    match read_moves(alloc, report) {
+        Ok(moves) => made_by(alloc, program, &moves, report),
+        Err(stop) => Err(stop),
+    }
+}
+
+/// The plain form that a report makes of a resolved program, and what was done. Each function takes its flat form and is
+/// converted; then the moves are made in the order of the report, which may be any in which each move is lawful where it
+/// is made (docs/REWRITING.md). A report is refused at the first line that is none (50); else at the first move that
+/// isn't lawful (51); else behind its last line, where a jump is left (52), or where the plain form is nested too deeply
+/// or has too long an expression (53). The result has no goto and no label, and behaves as the program; it is a resolved
+/// program again, and its printed text reads back as it. The report of `restructure_program`,
+/// where it can be written, gives what that gives. The program is given up where it is refused.
+pub fn replay(alloc: Global, program: Program, report: &[u8]) -> Result<(Program, Counts), ReadStop>
+    requires { IsResolved program }
+    ensures replayed { IfOk result (λ r. IsReplay program report.now r.0 r.1) }
+    ensures refused { (refusal : Refusal) → result ≡ Err (ReadStop.Refused refusal) → IsRefusal program report.now refusal }
+    ensures complete { (q : TheProgram) (counts : TheCounts) → IsReplay program report.now q counts → result ≢ Err ReadStop.Memory → result ≡ Ok (q, counts) }
+    ensures exact { (refusal : Refusal) → IsRefusal program report.now refusal → result ≢ Err ReadStop.Memory → result ≡ Err (ReadStop.Refused refusal) }
+    ensures restructured { (q : TheProgram) (ms : List TheMove) (counts : TheCounts) → IsRestructured program q ms counts → HaveNumbers ms → report.now ≡ report_text ms → IsReplay program report.now q counts }
+    ensures plain { IfOk result (λ r. is_plain_program r.0 ≡ true) }
+    ensures ranged { IfOk result (λ r. IsProgramInRange r.0) }
+    ensures behaves { IfOk result (λ r. BehavesAsStructured program r.0) }
+    ensures resolved { IfOk result (λ r. IsResolved r.0) }
+    ensures reads_back { IfOk result (λ r. IsProgramOf (text_of r.0) r.0) }
+{
+    answered(alloc, program, report)
+}
