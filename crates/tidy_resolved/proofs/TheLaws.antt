@@ -17,7 +17,8 @@ use Rattle.resolved_core.specs.Laws.{IsTopKinded}
 use Rattle.resolved_core.proofs.TheLaws.{resolved_laws}
 use Rattle.tidy_core.specs.Laws.{TopHasKinds, HasKinds, AreChangedTops, BehaveAlike}
 use Rattle.tidy_core.proofs.TheLaws.{tidy_law}
-use Rattle.tidy_resolved.specs.Laws.{with_sections, TidiedLaws}
+use Rattle.tidy_ends.specs.Ends.{with_sections}
+use Rattle.tidy_resolved.specs.Laws.{TidiedLaws}
 
 tops_kinded : (counts : FlatCounts) (p : Program) (all ts : List Top) → AllByRecursion (IsTopKinded p) ts → AllByRecursion (IsResolvedTop counts all) ts → AllByRecursion (TopHasKinds (code_of p)) ts
 tops_kinded counts p all [] h k = tt

@@ -3,14 +3,10 @@ use Rattle.std.specs.Prelude.{ℕ, suc, ◌≡◌, ◌≤◌, ◌<◌, true}
 use Rattle.c_tree.specs.declared.tree.Program.{Program}
 use Rattle.c_tree.specs.Jumps.{is_jump_free_program}
 use Rattle.jump_meaning.specs.Code.{code_of}
-use Rattle.plain_core.specs.Plain.{plain_with}
 use Rattle.c_resolved.specs.Limits.{FlatCounts}
 use Rattle.c_resolved.specs.Resolved.{IsResolvedWith}
+use Rattle.tidy_ends.specs.Ends.{with_sections}
 use Rattle.tidy_core.specs.Laws.{AreChangedTops, BehaveAlike}
-
--- a program without jumps, in which the sections of each switch have their plain form
-abbrev pub with_sections : Program → Program
-with_sections p = plain_with (λ f. f.labels) p
 
 pub record TidiedLaws : Type 0 where
   -- programs of which each comes of the one before by changes, all of them resolved and the last without jumps: the

@@ -1,0 +1,14 @@
+pub mod Trims
+pub mod TrimLists
+pub mod TrimCounts
+pub mod TrimFacts
+pub mod KeptFacts
+pub mod TrimSpelled
+pub mod TrimBound
+pub mod SlotGone
+pub mod KindsGone
+pub mod ItemsGone
+pub mod CountsGone
+pub mod SpelledGone
+pub mod FileScopes
+pub mod BoundGone
