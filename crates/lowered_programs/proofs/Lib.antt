@@ -1,0 +1,12 @@
+pub mod Variables
+pub mod OwnLabels
+pub mod Lowered
+pub mod Tops
+pub mod FactsLowered
+pub mod LoweredFacts
+pub mod LoweredSlots
+pub mod LoweredKinds
+pub mod Marks
+pub mod Numbered
+pub mod GotosStand
+pub mod TheLaws

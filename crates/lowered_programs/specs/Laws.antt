@@ -1,0 +1,14 @@
+-- What the function of this crate states.
+use Rattle.c_tree.specs.declared.tree.Program.{Program}
+use Rattle.jump_meaning.specs.Runs.{BehaveTheSame}
+use Rattle.lowered_core.specs.Rewritten.{RewrittenTops}
+use Rattle.lowered_core.specs.Functions.{IsLowered}
+use Rattle.c_resolved.specs.Limits.{FlatCounts}
+use Rattle.c_resolved.specs.Resolved.{IsResolvedWith}
+use Rattle.lowered_forms.specs.Lowering.{IsLoweredProgram}
+
+pub record LoweredProgramLaws : Type 0 where
+  -- each function with a body of what a resolved program is lowered to has the flat list of gotos of that body
+  pub rewritten : (counts : FlatCounts) (p q : Program) → IsResolvedWith counts p → IsLoweredProgram p q → RewrittenTops IsLowered p.tops q.tops
+  -- so it behaves the same
+  pub behaves : (counts : FlatCounts) (p q : Program) → IsResolvedWith counts p → IsLoweredProgram p q → BehaveTheSame p q

@@ -1,0 +1,3 @@
+pub mod Unmeasured
+pub mod OneLowering
+pub mod TheLaws

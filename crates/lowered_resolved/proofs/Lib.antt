@@ -1,0 +1,11 @@
+pub mod FreshOnes
+pub mod SourceNames
+pub mod OwnNames
+pub mod FileScopes
+pub mod LoweredForm
+pub mod LoweredBound
+pub mod SourcePrints
+pub mod LoweredSpelled
+pub mod LoweredFunctions
+pub mod LoweredFile
+pub mod LoweredText
