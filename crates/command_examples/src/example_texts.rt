@@ -167,6 +167,44 @@ void send(int count, const char bytes[]) {
     }
     goto_break_1 = 0;
 }
+==== examples/echo.c
+/* Copies the input up to its end or to a q: either leaves the loop by a jump. */
+int main(void) {
+    int c;
+    while (1) {
+        c = getchar();
+        if (c == -1) goto end;
+        if (c == 'q') goto end;
+        putchar(c);
+    }
+end:
+    return 0;
+}
+---- regoto: 2 jumps, 6 moves, 1 guards
+main out end 0.b.2
+main join end 1
+main out end 0.b.2.t.1
+main out end 0.b.3
+main join end 1
+main z2 end 0
+----
+/* Copies the input up to its end or to a q: either leaves the loop by a jump. */
+int main(void) {
+    int c;
+    int goto_end = 0;
+    while (!goto_end && 1) {
+        c = getchar();
+        goto_end = c == -1;
+        if (!goto_end) {
+            goto_end = c == 'q';
+            if (!goto_end) {
+                putchar(c);
+            }
+        }
+    }
+    goto_end = 0;
+    return 0;
+}
 ==== examples/endless.c
 /* A loop by a jump that never ends: see "Compiling the result" in the README. */
 int main(void) {
@@ -192,6 +230,50 @@ int main(void) {
     } while (goto_again);
     putchar(65);
     return 0;
+}
+==== examples/found.c
+int grid[16];
+
+/* Leaves two loops at once. */
+int find(int wanted) {
+    int x;
+    int y;
+    for (x = 0; x < 4; x++)
+        for (y = 0; y < 4; y++)
+            if (grid[4 * x + y] == wanted) goto found;
+    return -1;
+found:
+    return 4 * x + y;
+}
+---- regoto: 1 jumps, 3 moves, 1 guards
+find out found 1.b.1.b.1
+find out found 1.b.2
+find join found 2
+----
+int grid[16];
+/* Leaves two loops at once. */
+int find(int wanted) {
+    int x;
+    int y;
+    int goto_found = 0;
+    x = 0;
+    while (!goto_found && x < 4) {
+        y = 0;
+        while (!goto_found && y < 4) {
+            goto_found = grid[4 * x + y] == wanted;
+            if (!goto_found) {
+                y++;
+            }
+        }
+        if (!goto_found) {
+            x++;
+        }
+    }
+    if (!goto_found) {
+        return -1;
+    }
+    goto_found = 0;
+    return 4 * x + y;
 }
 ==== examples/into_loop.c
 /* Writes a list with commas between: the loop is entered in its middle. */
@@ -629,5 +711,46 @@ int main(void) {
     goto_done = 0;
     printf("%d words, %d lines\n", words, lines);
     return 0;
+}
+==== examples/total.c
+/* One jump into a loop, and one out of it: docs/REWRITING.md shows it after each step. */
+int total(int n) {
+    int sum = 0;
+    if (n > 9) goto middle;
+    while (n > 0) {
+        sum = sum + n;
+        if (sum > 99) goto done;
+middle:
+        n--;
+    }
+done:
+    return sum;
+}
+---- regoto: 2 jumps, 5 moves, 2 guards
+total in middle 2
+total join middle 2.b.0
+total out done 2.b.0.t.2
+total out done 2.b.1
+total join done 3
+----
+/* One jump into a loop, and one out of it: docs/REWRITING.md shows it after each step. */
+int total(int n) {
+    int sum;
+    int goto_middle = 0;
+    int goto_done = 0;
+    sum = 0;
+    goto_middle = n > 9;
+    while (!goto_done && (goto_middle || n > 0)) {
+        if (!goto_middle) {
+            sum = sum + n;
+            goto_done = sum > 99;
+        }
+        if (!goto_done) {
+            goto_middle = 0;
+            n--;
+        }
+    }
+    goto_done = 0;
+    return sum;
 }
 "#;

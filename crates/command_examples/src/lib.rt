@@ -7,6 +7,8 @@ mod example_texts;
 #[cfg(test)]
 mod ports;
 #[cfg(test)]
+mod replays;
+#[cfg(test)]
 mod runs;
 #[cfg(test)]
 mod statuses;

@@ -61,19 +61,32 @@ pub fn run_on(
     input: &str,
     failing: &Failing,
 ) -> Result<Outcome, Memory> {
-    let mut texts = Vec::new(alloc);
+    let files = [("a.c", source), ("r.txt", "kept")];
+    run_with(alloc, words, &files, input, failing)
+}
+
+/// The same on a shelf with these files.
+pub fn run_with(
+    alloc: Global,
+    words: &[&str],
+    texts: &[(&str, &str)],
+    input: &str,
+    failing: &Failing,
+) -> Result<Outcome, Memory> {
+    let mut command = Vec::new(alloc);
     for word in words {
-        texts.push(String::from_str(alloc, word)?)?;
+        command.push(String::from_str(alloc, word)?)?;
     }
     let mut files = List::new(alloc);
-    files.push(file(alloc, "a.c", source)?)?;
-    files.push(file(alloc, "r.txt", "kept")?)?;
+    for (name, text) in texts {
+        files.push(file(alloc, name, text)?)?;
+    }
     let mut shelf = MemShelf::new(alloc, files, List::from_slice(alloc, failing.shelf)?)?;
     let start = Bytes::from_slice(alloc, input.as_bytes())?;
     let mut input = MemSource::new(alloc, start, List::from_slice(alloc, failing.input)?)?;
     let mut out = sink(alloc, failing.out)?;
     let mut err = sink(alloc, failing.err)?;
-    let status = regoto(alloc, &texts, &mut shelf, &mut input, &mut out, &mut err);
+    let status = regoto(alloc, &command, &mut shelf, &mut input, &mut out, &mut err);
     Ok(Outcome {
         status,
         shelf,

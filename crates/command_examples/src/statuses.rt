@@ -20,7 +20,7 @@ struct Undone {
     line: &'static str,
 }
 
-static UNDONE: [Undone; 14] = [
+static UNDONE: [Undone; 18] = [
     Undone {
         words: &["restructure", "a.c", "b.c"],
         source: "int f(void) { goto no; } int g(void) { return y; }",
@@ -126,6 +126,38 @@ static UNDONE: [Undone; 14] = [
         line: "regoto: write failed\n",
     },
     Undone {
+        words: &["replay", "a.c", "r.txt", "b.c"],
+        source: SOURCE,
+        shelf: &[],
+        out: &[],
+        code: 1,
+        line: "r.txt:1:1: error 50: bad report line\n",
+    },
+    Undone {
+        words: &["replay", "a.c", "no.txt", "b.c"],
+        source: SOURCE,
+        shelf: &[],
+        out: &[],
+        code: 8,
+        line: "regoto: no file no.txt\n",
+    },
+    Undone {
+        words: &["replay", "a.c", "no.txt", "b.c"],
+        source: "float x;",
+        shelf: &[],
+        out: &[],
+        code: 1,
+        line: "a.c:1:1: error 10: unexpected token\n",
+    },
+    Undone {
+        words: &["replay", "a.c", "r.txt", "b.c"],
+        source: SOURCE,
+        shelf: &[1],
+        out: &[],
+        code: 4,
+        line: "regoto: read failed\n",
+    },
+    Undone {
         words: &["help"],
         source: SOURCE,
         shelf: &[],
@@ -215,7 +247,7 @@ fn helps(rt: HostRuntime) -> Result<(), Fail> {
     assert_eq!(rt; ran.status, Status::Done);
     assert_eq!(rt;
         ran.out.bytes(),
-        b"regoto restructure IN OUT [--report R]\nregoto run FILE [--steps N]\nregoto help\nregoto show IN\nregoto moves IN\n".as_slice()
+        b"regoto restructure IN OUT [--report R]\nregoto run FILE [--steps N]\nregoto help\nregoto show IN\nregoto moves IN\nregoto replay IN REPORT OUT\n".as_slice()
     );
     assert_eq!(rt; ran.err.bytes().len(), 0);
     Ok(())

@@ -9,14 +9,15 @@ use std::test::Fail;
 
 /// A text, and what the command is to leave.
 #[derive(Clone, Copy)]
-struct Case<'a> {
-    source: &'a str,
-    line: &'a str,
-    report: &'a str,
-    text: &'a str,
+pub struct Case<'a> {
+    pub source: &'a str,
+    pub line: &'a str,
+    pub report: &'a str,
+    pub text: &'a str,
 }
 
-fn case_of<'a>(block: &'a str) -> Option<Case<'a>> {
+/// A case of these texts.
+pub fn case_of<'a>(block: &'a str) -> Option<Case<'a>> {
     let (_name, rest) = block.split_once("\n")?;
     let (source, rest) = rest.split_once("---- ")?;
     let (line, rest) = rest.split_once("\n")?;
