@@ -87,7 +87,8 @@ pub fn rooms_at_start<'a>(
     function: &Function,
     arguments: Values<'a>,
 ) -> Result<List<Room>, Memory>
-    ensures { IfOk result (λ rooms. (ns : List (List ℕ)) → AreSlots ns rooms (slot_at_start (function_tree function.now) (values_of ns arguments.entry))) }
+    ensures count { IfOk result (λ rooms. length rooms ≡ length function.now.slots) }
+    ensures slots { IfOk result (λ rooms. (ns : List (List ℕ)) → AreSlots ns rooms (slot_at_start (function_tree function.now) (values_of ns arguments.entry))) }
 {
     let mut arguments = arguments;
     let mut rooms = List::new(alloc);

@@ -37,7 +37,7 @@ returns-clause-ok c k a w h =
           (ap (λ x. x.function.now.name) made ∙ ap (λ g. g.name) c.in_ok-call.ensures.function) (ap (λ x. x.guards) made ∙ c.in_ok-call.ensures.guards)
           (ap (λ x. tasks_of x.tasks) made ∙ c.in_ok-call.ensures.tasks) (ap (λ x. x.values) made ∙ c.in_ok-call.ensures.values) frames;
       has = record {
-        holds = c.in_ok-enter.ensures.ok f vs (c.in_ok-rooms.ensures ns) w h.holds;
+        holds = c.in_ok-enter.ensures.ok f vs (c.in_ok-rooms.ensures.slots ns) w h.holds;
         cells = omega (arith, c.saturating_add-cells.ensures, c.cells_of.ensures, h.cells, c.if-cells-gt-MOST_CELLS.false);
         answers = h.answers;
         linked = h.linked;
