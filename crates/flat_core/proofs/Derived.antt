@@ -1,5 +1,5 @@
 -- The flat form of a body is a looser body.
-use Rattle.std.proofs.Common.{ℕ, zero, suc, ◌+◌, ◌-◌, ◌≤◌, Bool, true, false, not, cond, ◌&&◌, ◌||◌, List, [], ◌∷◌, ◌++◌, length, Option, Some, None, IfSome, ◌≡◌, refl, sym, ◌∙◌, ap, subst, arith, true≢false}
+use Rattle.std.proofs.Common.{ℕ, zero, suc, ◌+◌, Bool, true, false, not, cond, ◌&&◌, ◌||◌, List, Option, Some, None, IfSome, ◌≡◌, refl, sym, ◌∙◌, ap, subst, arith}
 use Rattle.c_types.specs.declared.kinds.IntKind.{IntKind}
 use Rattle.c_tree.specs.ExpressionTrees.{ExpressionTree}
 use Rattle.c_tree.specs.TestTrees.{Source, On, Off, AndOff, OrOn, Selects, Pick}
@@ -8,116 +8,15 @@ use Rattle.c_tree.specs.Exits.{breaks, breaks_of, breaks_in, continues, continue
 use Rattle.c_tree.specs.Trees.{Tree, Forest, Nil, Then, Sections, NoSection, Section, Evaluate, Return, If, While, Do, For, Switch, Block, Local, Break, Continue, Goto, Mark, Arm, Leap, Land, Arrival, Note, join}
 use Rattle.jump_meaning.specs.Code.{entry_or}
 use Rattle.jump_meaning.specs.World.{no_slot}
-use Rattle.jump_meaning.specs.Search.{or_else, ToDefault}
+use Rattle.jump_meaning.specs.Search.{ToDefault}
 use Rattle.jump_meaning.specs.Step.{switch_kind}
-use Rattle.loose_core.specs.Pieces.{Aim, Stays, Becomes, Absent, mark_of, IsMoved, Names, wanted, wanted_in, wanted_case, wanted_among, case_marks, assign_number, tests_among}
-use Rattle.loose_core.specs.Loose.{Setting, In, AreIn, slot_of, IsLocal, AreGone, IsGone, Mode, Open, Ended, Jumped, IsLast, in_open, in_last, Arrivals, NoArrival, Arrives, IsOtherwise, LooserItem, lo_evaluate, lo_return, lo_return_none, lo_note, lo_if, lo_while, lo_do, lo_for, lo_for_while, lo_block, lo_declares, lo_number, lo_array, lo_break, lo_break_to, lo_break_end, lo_continue, lo_continue_to, lo_goto, lo_mark, lo_drop, lo_arrival, lo_switch, lo_scatter, Looser, la_nil, la_then, la_last, LooserSections, lc_none, lc_section, lc_ended, Spread, ls_none, ls_last, ls_falls, ls_ends}
+use Rattle.loose_core.specs.Pieces.{Aim, Stays, Becomes, Absent, mark_of, IsMoved, Names, wanted_among, case_marks, assign_number, tests_among}
+use Rattle.loose_core.specs.Loose.{Setting, In, slot_of, IsLocal, AreGone, IsGone, Mode, Open, Ended, Jumped, IsLast, in_open, in_last, Arrivals, NoArrival, Arrives, IsOtherwise, LooserItem, lo_evaluate, lo_return, lo_return_none, lo_note, lo_if, lo_while, lo_do, lo_for, lo_for_while, lo_block, lo_declares, lo_break_end, lo_goto, lo_switch, lo_scatter, Looser, la_nil, la_then, la_last, LooserSections, lc_none, lc_section, lc_ended, Spread, ls_none, ls_last, ls_falls}
 use Rattle.c_tree.specs.TextItems.{is_empty}
-use Rattle.flat_core.specs.Parts.{is_some_number, arrivals, arrivals_in, is_scattered, section_labels, switch_labels, has_default, ends_some, leaves, holds_jump, Here, past, past_item, inside, Ending, Gone, Breaks, Jumps, Otherwise, later, gone_or, if_jumps, ending, ending_of, last_ending, is_gone, trimmed, trimmed_item, section_list, kept_breaks, ends_then}
-use Rattle.flat_core.specs.FlatForm.{Plan, names_of, scatter_aim, otherwise_label, end_goto, aim, exit, is_jumpy_switch, assigned, mark_if, arrival, dissolved, if_breaks, flat_for, flat, flat_item, flat_last, flat_last_item, flat_sections, spread}
+use Rattle.flat_core.specs.Parts.{is_some_number, arrivals, arrivals_in, is_scattered, switch_labels, has_default, ends_some, leaves, holds_jump, Here, past, past_item, inside, Ending, Gone, Breaks, Jumps, Otherwise, later, gone_or, if_jumps, ending, ending_of, last_ending, is_gone, trimmed, trimmed_item, section_list, kept_breaks, ends_then}
+use Rattle.flat_core.specs.FlatForm.{Plan, names_of, scatter_aim, otherwise_label, end_goto, aim, is_jumpy_switch, mark_if, dissolved, if_breaks, flat_for, flat, flat_item, flat_last, flat_last_item, flat_sections, spread}
 use Rattle.flat_core.specs.Source.{AreInitialisers, IsSourceItem, IsVariable, IfTrue, HaveVariables, HasVariables, HaveVariablesAmong}
-
--- ---- small facts
-
-false_true : {A : Type 0} → false ≡ true → A
-false_true e = absurd (true≢false (sym e))
-
-join_nil : (a : Forest) → join a Nil ≡ a
-join_nil Nil = refl
-join_nil (Then x a) = ap (Then x) (join_nil a)
-
-empty_left : {A : Type 0} (xs ys : List A) → is_empty (xs ++ ys) ≡ true → is_empty xs ≡ true
-empty_left [] ys e = refl
-empty_left (x ∷ xs) ys e = e
-
-empty_right : {A : Type 0} (xs ys : List A) → is_empty (xs ++ ys) ≡ true → is_empty ys ≡ true
-empty_right [] ys e = e
-empty_right (x ∷ xs) ys e = false_true e
-
--- a label that isn't there is for no exit
-abbrev Kept : Aim → ℕ → Type 0
-Kept Stays n = Unit {0}
-Kept (Becomes l) n = Unit {0}
-Kept Absent n = n ≡ 0
-
-kept_aim : (j : Bool) (n l : ℕ) → Kept (aim j n l) n
-kept_aim false n l = tt
-kept_aim true zero l = refl
-kept_aim true (suc n) l = tt
-
-kept_left : (b : Aim) (m n : ℕ) → Kept b (m + n) → Kept b m
-kept_left Stays m n h = tt
-kept_left (Becomes l) m n h = tt
-kept_left Absent m n h = omega (arith, h)
-
-kept_right : (b : Aim) (m n : ℕ) → Kept b (m + n) → Kept b n
-kept_right Stays m n h = tt
-kept_right (Becomes l) m n h = tt
-kept_right Absent m n h = omega (arith, h)
-
-aim_moved : (n l : ℕ) → IsMoved (aim true n l)
-aim_moved zero l = tt
-aim_moved (suc n) l = tt
-
--- the Arrivals that a list has are allowed
-abbrev Allowed : Arrivals → List (Option ExpressionTree) → Type 0
-Allowed NoArrival es = is_empty es ≡ true
-Allowed (Arrives names) es = Unit {0}
-
-allowed_left : (r : Arrivals) (xs ys : List (Option ExpressionTree)) → Allowed r (xs ++ ys) → Allowed r xs
-allowed_left NoArrival xs ys h = empty_left xs ys h
-allowed_left (Arrives names) xs ys h = tt
-
-allowed_right : (r : Arrivals) (xs ys : List (Option ExpressionTree)) → Allowed r (xs ++ ys) → Allowed r ys
-allowed_right NoArrival xs ys h = empty_right xs ys h
-allowed_right (Arrives names) xs ys h = tt
-
--- ---- the default of a scattered switch
-
-abbrev some_if : Bool → ℕ → Option ℕ
-some_if b l = cond b (Some l) None
-
-first_some : (x y : Bool) (l : ℕ) (o p : Option ℕ) → o ≡ some_if x l → p ≡ some_if y l → or_else o p ≡ some_if (x || y) l
-first_some true y l o p e f = ap (λ z. or_else z p) e
-first_some false y l o p e f = ap (λ z. or_else z p) e ∙ f
-
-default_append : (xs ys : List (Option ExpressionTree)) → has_default (xs ++ ys) ≡ (has_default xs || has_default ys)
-default_append [] ys = refl
-default_append (Some e ∷ xs) ys = default_append xs ys
-default_append (None ∷ xs) ys = refl
-
-module _ (names : Names) where
-  abbrev l : ℕ
-  l = names None
-
-  joined : (xs ys : List (Option ExpressionTree)) (o p : Option ℕ) → o ≡ some_if (has_default xs) l → p ≡ some_if (has_default ys) l → or_else o p ≡ some_if (has_default (xs ++ ys)) l
-  joined xs ys o p e f = first_some (has_default xs) (has_default ys) l o p e f ∙ ap (λ b. some_if b l) (sym (default_append xs ys))
-
-  mutual
-    wanted_default : (a : Forest) → wanted ToDefault names a ≡ some_if (has_default (arrivals a)) l
-    wanted_default Nil = refl
-    wanted_default (Then x a) = joined (arrivals_in x) (arrivals a) (wanted_in ToDefault names x) (wanted ToDefault names a) (wanted_default_in x) (wanted_default a)
-
-    wanted_default_in : (x : Tree) → wanted_in ToDefault names x ≡ some_if (has_default (arrivals_in x)) l
-    wanted_default_in (If t a b) = joined (arrivals a) (arrivals b) (wanted ToDefault names a) (wanted ToDefault names b) (wanted_default a) (wanted_default b)
-    wanted_default_in (While t a) = wanted_default a
-    wanted_default_in (Do a t) = wanted_default a
-    wanted_default_in (For f t u a) = wanted_default a
-    wanted_default_in (Block a) = wanted_default a
-    wanted_default_in (Arrival (Some e)) = refl
-    wanted_default_in (Arrival None) = refl
-    wanted_default_in _ = refl
-
-  wanted_default_case : (cases : List ExpressionTree) (default : Bool) → wanted_case ToDefault names cases default ≡ some_if (has_default (section_labels cases default)) l
-  wanted_default_case [] true = refl
-  wanted_default_case [] false = refl
-  wanted_default_case (e ∷ es) default = wanted_default_case es default
-
-  pub wanted_default_among : (d : Sections) → wanted_among ToDefault names d ≡ some_if (has_default (switch_labels d)) l
-  wanted_default_among NoSection = refl
-  wanted_default_among (Section cases default a ends d) =
-      joined (section_labels cases default) (arrivals a ++ switch_labels d) (wanted_case ToDefault names cases default) (or_else (wanted ToDefault names a) (wanted_among ToDefault names d)) (wanted_default_case cases default)
-      (joined (arrivals a) (switch_labels d) (wanted ToDefault names a) (wanted_among ToDefault names d) (wanted_default a) (wanted_default_among d))
+use Rattle.flat_core.proofs.LooserItems.{false_true, join_nil, Kept, kept_aim, kept_left, kept_right, aim_moved, Allowed, allowed_left, allowed_right, item_break, item_continue, item_arrival, item_local, is_live, is_dead, item_mark, scatter_moved, otherwise, Unended, unended_left, unended_right, unended_scatter, kept_scatter, spread_as}
 
 -- ---- the derivation
 
@@ -125,12 +24,6 @@ module _ (p : Plan) (s : Setting) (labels : (l : ℕ) → s.labels l ≡ cond (p
     (slots : (x : ℕ) → IsLocal s x → (slot_of s x).cells ≡ (entry_or no_slot p.slots x).cells) (number : s.number ≡ p.number) where
   abbrev Fine : Tree → Type 0
   Fine x = IsSourceItem s p.live x
-
-  is_live : (l : ℕ) → p.live l ≡ true → s.labels l ≡ Some (p.source l)
-  is_live l e = labels l ∙ ap (λ b. cond b (Some (p.source l)) None) e
-
-  is_dead : (l : ℕ) → p.live l ≡ false → s.labels l ≡ None
-  is_dead l e = labels l ∙ ap (λ b. cond b (Some (p.source l)) None) e
 
   -- ---- lists of which nothing stays
 
@@ -175,7 +68,7 @@ module _ (p : Plan) (s : Setting) (labels : (l : ℕ) → s.labels l ≡ cond (p
     gone_item : (x : Tree) → ending_of p.live x ≡ Gone → IsGone s x
     gone_item (Local x None) e = tt
     gone_item (Local x (Some es)) e = cc
-    gone_item (Mark l) e = is_dead l (gone_else (p.live l) e)
+    gone_item (Mark l) e = is_dead p s labels l (gone_else (p.live l) e)
     gone_item (Block a) e = gone a e
     gone_item Break e = cc
     gone_item (Goto l) e = cc
@@ -221,90 +114,12 @@ module _ (p : Plan) (s : Setting) (labels : (l : ℕ) → s.labels l ≡ cond (p
     gone_flat_item (Arrival x) h b c r e = cc
     gone_flat_item (Note bs) h b c r e = cc
 
-  -- ---- single items
-
-  item_break : {r : Arrivals} (b c : Aim) → Kept b 1 → LooserItem s Open b c r Break (exit b Break)
-  item_break Stays c k = lo_break
-  item_break (Becomes l) c k = lo_break_to l
-  item_break Absent c k = absurd (omega (arith, k))
-
-  item_continue : {r : Arrivals} (b c : Aim) → Kept c 1 → LooserItem s Open b c r Continue (exit c Continue)
-  item_continue b Stays k = lo_continue
-  item_continue b (Becomes l) k = lo_continue_to l
-  item_continue b Absent k = absurd (omega (arith, k))
-
-  item_mark : {b c : Aim} {r : Arrivals} (l : ℕ) (y : Bool) → p.live l ≡ y → LooserItem s Open b c r (Mark l) (mark_if y (p.source l))
-  item_mark l true e = lo_mark l (p.source l) (is_live l e)
-  item_mark l false e = lo_drop l (is_dead l e)
-
-  item_arrival : {b c : Aim} (r : Arrivals) (e : Option ExpressionTree) → Allowed r (e ∷ []) → LooserItem s Open b c r (Arrival e) (arrival r e)
-  item_arrival NoArrival e h = false_true h
-  item_arrival (Arrives names) e h = lo_arrival names e
-
-  cells_as : (n m : ℕ) → m ≤ n → n ≡ m + (n - m)
-  cells_as n m h = omega (arith, h)
-
-  item_local : {b c : Aim} {r : Arrivals} (x : ℕ) (es : List ExpressionTree) (k : IntKind) (o : Option ℕ) → IsLocal s x → (slot_of s x).cells ≡ o → AreInitialisers o es → AreIn s es → LooserItem s Open b c r (Local x (Some es)) (assigned k x o es)
-  item_local x [] k None l e i j = absurd i
-  item_local x (e ∷ []) k None l q i j = lo_number k x e l q j.0
-  item_local x (e ∷ f ∷ es) k None l q i j = absurd i
-  item_local x es k (Some n) l q i j = lo_array k x es (n - length es) l (q ∙ ap Some (cells_as n (length es) i)) j
+  -- ---- loops
 
   for_as : {b c : Aim} {r : Arrivals} (t u : Option ExpressionTree) (y : Bool) (m n k l : ℕ) {i i' a a' : Forest} → IfSome t (In s) → IfSome u (In s) → Looser s Open b c NoArrival i i' → Looser s Open (aim y m k) (aim y n l) r a a'
       → LooserItem s Open b c r (For i t u a) (join i' (flat_for y t u a' (aim y m k) (aim y n l)))
   for_as t u true m n k l e f fi fa = lo_for_while t u (aim true m k) (aim true n l) (aim_moved n l) e f fi fa
   for_as t u false m n k l e f fi fa = lo_for t u Stays Stays e f fi fa
-
-  -- ---- scattered switches
-
-  scatter_moved : (y : Bool) (l : ℕ) → IsMoved (cond y (Becomes l) Absent)
-  scatter_moved true l = tt
-  scatter_moved false l = tt
-
-  otherwise_as : (y u z : Bool) (m n : ℕ) → IsOtherwise (some_if y m) (cond (not y || u || z) (Becomes n) Absent) (cond y m n)
-  otherwise_as true u z m n = refl
-  otherwise_as false u z m n = refl
-
-  otherwise : (h : Here) (k : IntKind) (d : Sections) → IsOtherwise (wanted_among ToDefault (names_of p h k d) d) (scatter_aim p h d) (otherwise_label p h d)
-  otherwise h k d =
-      subst (λ o. IsOtherwise o (scatter_aim p h d) (otherwise_label p h d)) (sym (wanted_default_among (names_of p h k d) d))
-      (otherwise_as (has_default (switch_labels d)) (ends_some d) (is_some_number (breaks_in d)) (p.default_label h.construct) (p.break_label h.construct))
-
-  -- where no goto leads behind it, no section ends and no `break` is bound to it
-  abbrev Unended : Aim → Bool → Type 0
-  Unended Absent y = y ≡ false
-  Unended b y = Unit {0}
-
-  unended_left : (b : Aim) (x y : Bool) → Unended b (x || y) → Unended b x
-  unended_left Stays x y h = tt
-  unended_left (Becomes l) x y h = tt
-  unended_left Absent true y h = h
-  unended_left Absent false y h = refl
-
-  unended_right : (b : Aim) (x y : Bool) → Unended b (x || y) → Unended b y
-  unended_right Stays x y h = tt
-  unended_right (Becomes l) x y h = tt
-  unended_right Absent true y h = false_true (sym h)
-  unended_right Absent false y h = h
-
-  unended_scatter : (x y z : Bool) (l : ℕ) → Unended (cond (x || y || z) (Becomes l) Absent) y
-  unended_scatter true y z l = tt
-  unended_scatter false true z l = tt
-  unended_scatter false false true l = tt
-  unended_scatter false false false l = refl
-
-  kept_scatter : (x y : Bool) (n l : ℕ) → Kept (cond (x || y || is_some_number n) (Becomes l) Absent) n
-  kept_scatter true y n l = tt
-  kept_scatter false true n l = tt
-  kept_scatter false false zero l = refl
-  kept_scatter false false (suc n) l = tt
-
-  spread_as : {c : Aim} {names : Names} (ends : Bool) (b : Aim) (cases : List ExpressionTree) (default : Bool) {xs xs' ys : Forest} {d : Sections} → IsMoved b → Unended b ends → Looser s Open b c (Arrives names) xs xs' → Spread s Open b c names d ys
-      → Spread s Open b c names (Section cases default xs ends d) (join (case_marks names cases default) (join xs' (join (end_goto ends b) ys)))
-  spread_as false b cases default m u fa fs = ls_falls cases default fa fs
-  spread_as true Stays cases default m u fa fs = absurd m
-  spread_as true (Becomes l) cases default m u fa fs = ls_ends l cases default fa fs
-  spread_as true Absent cases default m u fa fs = false_true (sym u)
 
   -- ---- sections of a switch that stays
 
@@ -413,7 +228,7 @@ module _ (p : Plan) (s : Setting) (labels : (l : ℕ) → s.labels l ≡ cond (p
       let h' = inside (Switch (Selects e) d) h in
       let v = subst (λ z. IfTrue z (IsVariable s h.variable kind)) q i.1.0 in
       let a : scatter_aim p h d ≡ Absent = ap (λ y. cond y (Becomes (p.break_label h.construct)) Absent) u in
-      let o : IsOtherwise (wanted_among ToDefault names d) Absent (otherwise_label p h d) = subst (λ z. IsOtherwise (wanted_among ToDefault names d) z (otherwise_label p h d)) a (otherwise h kind d) in
+      let o : IsOtherwise (wanted_among ToDefault names d) Absent (otherwise_label p h d) = subst (λ z. IsOtherwise (wanted_among ToDefault names d) z (otherwise_label p h d)) a (otherwise p h kind d) in
       subst (λ y. LooserItem s m b c r (Switch (Selects e) d) (cond y (dissolved p h (Selects e) d (spread p h' (scatter_aim p h d) c names d)) zs)) (sym q)
       (subst (λ z. LooserItem s m b c r (Switch (Selects e) d) (dissolved p h (Selects e) d (spread p h' z c names d))) (sym a)
       (subst (λ z. LooserItem s m b c r (Switch (Selects e) d) (Then (Evaluate (assign_number kind h.variable e)) (join (tests_among z kind h.variable names d) (Then (Goto (otherwise_label p h d)) (spread p h' Absent c names d))))) number
@@ -465,8 +280,8 @@ module _ (p : Plan) (s : Setting) (labels : (l : ℕ) → s.labels l ≡ cond (p
         item_local x es (entry_or no_slot p.slots x).kind (entry_or no_slot p.slots x).cells i.0.0 (slots x i.0.0) (subst (λ o. AreInitialisers o es) (slots x i.0.0) i.0.1) i.0.2
     derived_item Break h b c r i k = item_break b c k
     derived_item Continue h b c r i k = item_continue b c i.3
-    derived_item (Goto l) h b c r i k = lo_goto l (p.source l) (is_live l i.0)
-    derived_item (Mark l) h b c r i k = item_mark l (p.live l) refl
+    derived_item (Goto l) h b c r i k = lo_goto l (p.source l) (is_live p s labels l i.0)
+    derived_item (Mark l) h b c r i k = item_mark p s labels l (p.live l) refl
     derived_item (Arrival e) h b c r i k = item_arrival r e i.2
     derived_item (Arm l e) h b c r i k = absurd i.0
     derived_item (Leap l) h b c r i k = absurd i.0
@@ -494,7 +309,7 @@ module _ (p : Plan) (s : Setting) (labels : (l : ℕ) → s.labels l ≡ cond (p
         switch_as true q f g =
             let v = subst (λ z. IfTrue z (IsVariable s h.variable (switch_kind (Selects e)))) q i.1.0 in
             subst (λ z. LooserItem s Open b c r (Switch (Selects e) d) (Then (Evaluate (assign_number kind h.variable e)) (join (tests_among z kind h.variable (names_of p h kind d) d) (Then (Goto (otherwise_label p h d)) (spread p h' (scatter_aim p h d) c (names_of p h kind d) d))))) number
-            (lo_scatter e (scatter_aim p h d) (names_of p h kind d) h.variable (otherwise_label p h d) i.0.0 (scatter_moved (leaves d) (p.break_label h.construct)) in_open v.new v.cells v.kind (otherwise h kind d) (f refl))
+            (lo_scatter e (scatter_aim p h d) (names_of p h kind d) h.variable (otherwise_label p h d) i.0.0 (scatter_moved (leaves d) (p.break_label h.construct)) in_open v.new v.cells v.kind (otherwise p h kind d) (f refl))
         switch_as false q f g = lo_switch e (aim jumpy (kept_breaks p.live d) (p.break_label h.construct)) i.0.0 (g refl)
 
     derived_sections : (d : Sections) (h : Here) (jumpy : Bool) (b c : Aim) → is_scattered d ≡ false → EverywhereIn Fine d × HaveVariablesAmong s h d × Kept c (continues_in d) → Kept b (kept_breaks p.live d) → LooserSections s b c d (flat_sections p h jumpy b c d)
@@ -565,7 +380,7 @@ module _ (p : Plan) (s : Setting) (labels : (l : ℕ) → s.labels l ≡ cond (p
         (derived_jumps xs m last (past_item x h) b c r (tail_in h b c r x xs i) (later_else (ending p.live xs) (ending_of p.live x) Jumps e q) (kept_right b (breaks_of x) (breaks xs) k)))
 
     derived_jump_item : (x : Tree) (m : Mode) → IsLast m → (h : Here) (b c : Aim) (r : Arrivals) → In_item h b c r x → ending_of p.live x ≡ Jumps → Kept b (breaks_of x) → LooserItem s m b c r x (flat_item p h b c r x)
-    derived_jump_item (Goto l) m last h b c r i e k = lo_goto l (p.source l) (is_live l i.0)
+    derived_jump_item (Goto l) m last h b c r i e k = lo_goto l (p.source l) (is_live p s labels l i.0)
     derived_jump_item (Block a) m last h b c r i e k = lo_block (derived_jumps a m last h b c r (i.0.1, i.1, i.2, i.3) e k)
     derived_jump_item (Mark l) m last h b c r i e k = absurd (gone_or_no_jump (p.live l) e)
     derived_jump_item Break m last h b c r i e k = cc

@@ -1,9 +1,6 @@
 -- How often a label stands in a flat list: no more often than the source, the constructs and the Arrivals have it.
-use Rattle.std.proofs.Common.{ℕ, zero, suc, ◌+◌, ◌-◌, ◌≤◌, ℤ, Bool, true, false, eqb, List, [], ◌∷◌, ◌++◌, length, Option, Some, None, ◌≡◌, refl, arith}
-use Rattle.std.specs.Option.{option_map_or}
-use Rattle.c_types.specs.declared.kinds.IntKind.{IntKind}
+use Rattle.std.proofs.Common.{ℕ, ◌+◌, ◌≤◌, true, eqb, ◌++◌, Option, Some, None, ◌≡◌, arith}
 use Rattle.c_tree.specs.ExpressionTrees.{ExpressionTree}
-use Rattle.c_tree.specs.Cases.{case_number}
 use Rattle.c_tree.specs.TestTrees.{TestTree, Source}
 use Rattle.c_tree.specs.Everywhere.{total, total_of, total_in}
 use Rattle.c_tree.specs.Exits.{breaks, continues}
@@ -12,109 +9,14 @@ use Rattle.c_tree.specs.Changed.{one}
 use Rattle.jump_meaning.specs.Code.{entry_or}
 use Rattle.jump_meaning.specs.World.{no_slot}
 use Rattle.jump_meaning.specs.Step.{switch_kind}
-use Rattle.loose_core.specs.Pieces.{Aim, Stays, Becomes, Absent, mark_of, third_items, with_third, Names, case_marks, assigned_cells, is_number, test_for, tests_for, tests, tests_in, tests_among}
+use Rattle.loose_core.specs.Pieces.{Aim, Becomes, mark_of, third_items, with_third, Names, case_marks, tests_among}
 use Rattle.loose_core.specs.Placed.{places}
 use Rattle.loose_core.specs.Loose.{Arrivals, NoArrival, Arrives}
 use Rattle.flat_core.specs.Parts.{arrivals, arrivals_in, leaves, section_labels, switch_labels, Here}
-use Rattle.flat_core.specs.FlatForm.{names_of, scatter_aim, otherwise_label, exit, end_goto, assigned, mark_if, arrival}
-use Rattle.flat_core.proofs.Counts.{one_if, places_join, aim_places, scatter_places, labelled, labelled_append, marks_places, sourced}
+use Rattle.flat_core.specs.FlatForm.{names_of, scatter_aim, otherwise_label, end_goto}
+use Rattle.flat_core.proofs.Counts.{one_if, places_join, aim_places, scatter_places, third_places, assigned_places, tests_among_places, labelled, labelled_append, marks_places, arrived, arrived_append, sourced, gathered, gathered_in, gathered_among, exit_break, exit_continue, mark_places, arrival_places, end_places}
 use Rattle.lowered_core.specs.Straight.{jump_if, while_items, ever_items, do_items}
 use Rattle.lowered_core.specs.Lowered.{Layout, past, past_item, inside, jump_of, lowered_if, lowered_do, lowered_for, break_aim, for_aim, continue_aim, lowered, lowered_item, lowered_among}
-use Rattle.lowered_core.proofs.Ranges.{gathered, gathered_in, gathered_among}
-
-third_places : (L : ℕ) (u : Option ExpressionTree) → places L (third_items u) ≡ 0
-third_places L None = refl
-third_places L (Some e) = refl
-
-cells_places : (L : ℕ) (k : IntKind) (x i : ℕ) (es : List ExpressionTree) (m : ℕ) → places L (assigned_cells k x i es m) ≡ 0
-cells_places L k x i (e ∷ es) m = let h = cells_places L k x (suc i) es m in omega (arith, h)
-cells_places L k x i [] zero = refl
-cells_places L k x i [] (suc m) = let h = cells_places L k x (suc i) [] m in omega (arith, h)
-
-assigned_places : (L : ℕ) (k : IntKind) (x : ℕ) (o : Option ℕ) (es : List ExpressionTree) → places L (assigned k x o es) ≡ 0
-assigned_places L k x None [] = refl
-assigned_places L k x None (e ∷ es) = refl
-assigned_places L k x (Some n) es = cells_places L k x 0 es (n - length es)
-
-module _ (L : ℕ) (number : IntKind → ℤ → ExpressionTree) (k : IntKind) (v : ℕ) (names : Names) where
-  test_places : (e : ExpressionTree) → places L (test_for number k v names e) ≡ 0
-  test_places e = at (case_number k e)
-    where
-      at : (o : Option ℤ) → places L (option_map_or (λ n. one (If (Source (is_number k v (number k n))) (one (Goto (names (Some e)))) Nil)) o Nil) ≡ 0
-      at None = refl
-      at (Some n) = refl
-
-  tests_for_places : (es : List ExpressionTree) → places L (tests_for number k v names es) ≡ 0
-  tests_for_places [] = refl
-  tests_for_places (e ∷ es) =
-      let h = places_join L (test_for number k v names e) (tests_for number k v names es) in
-      let i = test_places e in
-      let j = tests_for_places es in omega (arith, h, i, j)
-
-  mutual
-    tests_places : (a : Forest) → places L (tests number k v names a) ≡ 0
-    tests_places Nil = refl
-    tests_places (Then x a) =
-        let h = places_join L (tests_in number k v names x) (tests number k v names a) in
-        let i = tests_places_in x in
-        let j = tests_places a in omega (arith, h, i, j)
-
-    tests_places_in : (x : Tree) → places L (tests_in number k v names x) ≡ 0
-    tests_places_in (If t a b) =
-        let h = places_join L (tests number k v names a) (tests number k v names b) in
-        let i = tests_places a in
-        let j = tests_places b in omega (arith, h, i, j)
-    tests_places_in (While t a) = tests_places a
-    tests_places_in (Do a t) = tests_places a
-    tests_places_in (For f t u a) = tests_places a
-    tests_places_in (Block a) = tests_places a
-    tests_places_in (Arrival None) = refl
-    tests_places_in (Arrival (Some e)) = test_places e
-    tests_places_in _ = refl
-
-  tests_among_places : (d : Sections) → places L (tests_among number k v names d) ≡ 0
-  tests_among_places NoSection = refl
-  tests_among_places (Section cases default a ends d) =
-      let h = places_join L (tests_for number k v names cases) (join (tests number k v names a) (tests_among number k v names d)) in
-      let g = places_join L (tests number k v names a) (tests_among number k v names d) in
-      let i = tests_for_places cases in
-      let j = tests_places a in
-      let l = tests_among_places d in omega (arith, h, g, i, j, l)
-
--- those of Arrivals
-abbrev arrived : ℕ → Arrivals → List (Option ExpressionTree) → ℕ
-arrived L NoArrival es = 0
-arrived L (Arrives names) es = labelled L names es
-
-arrived_append : (L : ℕ) (r : Arrivals) (xs ys : List (Option ExpressionTree)) → arrived L r (xs ++ ys) ≡ arrived L r xs + arrived L r ys
-arrived_append L NoArrival xs ys = refl
-arrived_append L (Arrives names) xs ys = labelled_append L names xs ys
-
-exit_break : (L : ℕ) (b : Aim) → places L (exit b Break) ≡ 0
-exit_break L Stays = refl
-exit_break L (Becomes l) = refl
-exit_break L Absent = refl
-
-exit_continue : (L : ℕ) (b : Aim) → places L (exit b Continue) ≡ 0
-exit_continue L Stays = refl
-exit_continue L (Becomes l) = refl
-exit_continue L Absent = refl
-
-mark_places : (L l : ℕ) (y : Bool) → places L (mark_if y l) ≤ one_if (eqb L l)
-mark_places L l true = omega arith
-mark_places L l false = omega arith
-
-arrival_places : (L : ℕ) (r : Arrivals) (e : Option ExpressionTree) → places L (arrival r e) ≤ arrived L r (e ∷ [])
-arrival_places L NoArrival e = omega arith
-arrival_places L (Arrives names) e = omega arith
-
-end_places : (L : ℕ) (y : Bool) (b : Aim) (ys : Forest) → places L (join (end_goto y b) ys) ≡ places L ys
-end_places L true Stays ys = refl
-end_places L true (Becomes l) ys = omega arith
-end_places L true Absent ys = refl
-end_places L false b ys = refl
-
--- ---- the labels that a construct makes
 
 -- of a construct with this number
 abbrev pub five : ℕ → Layout → ℕ → ℕ
@@ -168,10 +70,10 @@ module _ (L : ℕ) (q : Layout) where
       let r = aim_places L true (continues x) (q.plan.continue_label h.construct) in omega (arith, i, j, k, o, r)
 
   abbrev bound : Here → Arrivals → Forest → ℕ
-  bound h r xs = total (sourced L q.plan) xs + gathered (makes L q) h xs + arrived L r (arrivals xs)
+  bound h r xs = total (sourced L q.plan) xs + gathered inside past (makes L q) h xs + arrived L r (arrivals xs)
 
   abbrev bound_in : Here → Arrivals → Tree → ℕ
-  bound_in h r x = total_of (sourced L q.plan) x + gathered_in (makes L q) h x + arrived L r (arrivals_in x)
+  bound_in h r x = total_of (sourced L q.plan) x + gathered_in inside past (makes L q) h x + arrived L r (arrivals_in x)
 
   mutual
     pub bounded : (xs : Forest) (h : Here) (b c : Aim) (r : Arrivals) → places L (lowered q h b c r xs) ≤ bound h r xs
@@ -232,7 +134,7 @@ module _ (L : ℕ) (q : Layout) where
     bounded_in (Land l) h b c r = omega arith
     bounded_in (Note bs) h b c r = omega arith
 
-    bounded_among : (d : Sections) (h : Here) (b c : Aim) (names : Names) → places L (lowered_among q h b c names d) ≤ places L (mark_of b) + (total_in (sourced L q.plan) d + gathered_among (makes L q) h d) + labelled L names (switch_labels d)
+    bounded_among : (d : Sections) (h : Here) (b c : Aim) (names : Names) → places L (lowered_among q h b c names d) ≤ places L (mark_of b) + (total_in (sourced L q.plan) d + gathered_among inside past (makes L q) h d) + labelled L names (switch_labels d)
     bounded_among NoSection h b c names = omega arith
     bounded_among (Section cases default a ends d) h b c names =
         let fa = lowered q h b c (Arrives names) a in

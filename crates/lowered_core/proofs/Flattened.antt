@@ -21,7 +21,7 @@ use Rattle.flat_core.specs.Source.{IsSourceItem}
 use Rattle.lowered_core.specs.Straight.{jump_if, while_items, StraightItem, st_evaluate, st_return, st_note, st_goto, st_mark, st_jump_if, st_if, st_do, st_ever, Straight, sl_nil, sl_end, sl_then, sl_declares, sl_while}
 use Rattle.lowered_core.specs.Lowered.{Layout, past, past_item, inside, jump_of, lowered_if, lowered_do, lowered_for, break_aim, for_aim, continue_aim, lowered, lowered_item, lowered_among, placed}
 use Rattle.lowered_core.specs.Opened.{opened_if, opened_while, opened_do, opened_for, opened, opened_item, opened_among, Naming}
-use Rattle.lowered_core.proofs.Loosened.{false_true, Allowed, allowed_left, allowed_right}
+use Rattle.flat_core.proofs.LooserItems.{false_true, Allowed, allowed_left, allowed_right}
 
 join_nil : (a : Forest) → join a Nil ≡ a
 join_nil Nil = refl

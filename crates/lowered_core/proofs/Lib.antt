@@ -8,7 +8,6 @@ pub mod Flattened
 pub mod Standing
 pub mod Sources
 pub mod Straightened
-pub mod Ranges
 pub mod Counts
 pub mod Once
 pub mod Flat

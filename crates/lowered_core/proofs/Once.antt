@@ -1,38 +1,23 @@
 -- The labels of the flat list of a body, numbered in the order in which they stand in it, stand at most once.
-use Rattle.std.proofs.Common.{ℕ, zero, suc, ◌+◌, ◌-◌, ◌*◌, ◌≤◌, ◌<◌, ◌⊎◌, inl, inr, ℤ, Bool, true, false, cond, eqb, List, [], ◌∷◌, length, map, Option, Some, None, ◌≡◌, refl, sym, ◌∙◌, ap, arith, eqb-true, eq-eqb}
+use Rattle.std.proofs.Common.{ℕ, zero, suc, ◌+◌, ◌-◌, ◌*◌, ◌≤◌, ◌<◌, ◌⊎◌, inl, inr, ℤ, eqb, List, length, ◌≡◌, refl, arith, eq-eqb}
 use Rattle.c_types.specs.declared.kinds.IntKind.{IntKind}
 use Rattle.c_tree.specs.declared.tree.Slot.{Slot}
 use Rattle.c_tree.specs.ExpressionTrees.{ExpressionTree}
-use Rattle.c_tree.specs.Cases.{case_number}
 use Rattle.c_tree.specs.Everywhere.{total, Everywhere}
-use Rattle.c_tree.specs.Trees.{Tree, Forest, Sections, Evaluate, Return, If, While, Do, For, Switch, Block, Local, Break, Continue, Goto, Mark, Arm, Leap, Land, Arrival, Note}
+use Rattle.c_tree.specs.Trees.{Tree, Forest, If, While, Do, For, Switch, Land}
 use Rattle.jump_meaning.specs.Step.{switch_kind}
 use Rattle.loose_core.specs.Pieces.{Stays}
 use Rattle.loose_core.specs.Placed.{places, IsOnce}
 use Rattle.loose_core.specs.Loose.{NoArrival}
 use Rattle.flat_core.specs.Parts.{switch_labels, cases_among, Here}
-use Rattle.flat_core.specs.FlatForm.{Plan, place_of, names_of, marks, place_in, first_here}
-use Rattle.flat_core.specs.Source.{mark_bit, nones, AreOther, AreDifferent}
-use Rattle.flat_core.proofs.Counts.{one_if, places_join, labelled, sourced}
-use Rattle.flat_core.proofs.Ranges.{Range, order, range_none, range_less, range_one, range_join, range_as, total_less}
-use Rattle.lowered_core.specs.Lowered.{Layout, constructs_of, cases_of, variables_of, inside, lowered, coded, placed, lowered_list, declarations, lowered_body}
+use Rattle.flat_core.specs.FlatForm.{names_of, marks, first_here}
+use Rattle.flat_core.specs.Source.{mark_bit}
+use Rattle.flat_core.proofs.Counts.{one_if, places_join, labelled, sourced, gathered}
+use Rattle.flat_core.proofs.Ranges.{Range, order, range_less, range_one, range_join, range_as, IsConstruct, gathered_range, total_less}
+use Rattle.flat_core.proofs.Once.{bit_le, bit_zero, labelled_once, labelled_range, no_hits, NoLand, sources, inverse, back}
+use Rattle.lowered_core.specs.Lowered.{Layout, constructs_of, cases_of, variables_of, past, inside, lowered, coded, placed, lowered_list, declarations, lowered_body}
 use Rattle.lowered_core.specs.Source.{HasOwnCases, HasOwnLabels}
-use Rattle.lowered_core.proofs.Ranges.{gathered, IsConstruct, gathered_range}
 use Rattle.lowered_core.proofs.Counts.{five, makes, bounded}
-
-bit_le : (X Y : ℕ) (b : Bool) → (X ≡ Y → b ≡ true) → one_if (eqb X Y) ≤ one_if b
-bit_le X Y b f = at (eqb X Y) refl
-  where
-    at : (y : Bool) → eqb X Y ≡ y → one_if y ≤ one_if b
-    at true e = let h = ap one_if (f (eqb-true X Y e)) in omega (arith, h)
-    at false e = omega arith
-
-bit_zero : (X Y : ℕ) → (X ≡ Y → ⊥) → one_if (eqb X Y) ≡ 0
-bit_zero X Y f = at (eqb X Y) refl
-  where
-    at : (y : Bool) → eqb X Y ≡ y → one_if y ≡ 0
-    at true e = absurd (f (eqb-true X Y e))
-    at false e = refl
 
 -- ---- where a label comes from
 
@@ -135,20 +120,6 @@ module _ (L X : ℕ) (q : Layout) (s : Hits L X q) (K i : ℕ) (is : X ≡ 7 * K
 
 -- ---- labels of one construct alone
 
-labelled_default : (L : ℕ) (q : Plan) (h : Here) (k : IntKind) (d : Sections) → ((j : ℕ) → one_if (eqb L (q.case_label j)) ≡ 0) → (es : List (Option ExpressionTree)) → nones es ≡ 0 → labelled L (names_of q h k d) es ≡ 0
-labelled_default L q h k d f [] z = refl
-labelled_default L q h k d f (Some x ∷ es) z =
-    let i = f (h.case + place_of (case_number k x) (map (case_number k) (cases_among (switch_labels d)))) in
-    let j = labelled_default L q h k d f es z in omega (arith, i, j)
-labelled_default L q h k d f (None ∷ es) z = absurd (omega (arith, z))
-
-labelled_once : (L : ℕ) (q : Plan) (h : Here) (k : IntKind) (d : Sections) → ((j : ℕ) → one_if (eqb L (q.case_label j)) ≡ 0) → (es : List (Option ExpressionTree)) → nones es ≤ 1 → labelled L (names_of q h k d) es ≤ one_if (eqb L (q.default_label h.construct))
-labelled_once L q h k d f [] z = omega arith
-labelled_once L q h k d f (Some x ∷ es) z =
-    let i = f (h.case + place_of (case_number k x) (map (case_number k) (cases_among (switch_labels d)))) in
-    let j = labelled_once L q h k d f es z in omega (arith, i, j)
-labelled_once L q h k d f (None ∷ es) z = let j = labelled_default L q h k d f es (omega (arith, z)) in omega (arith, j)
-
 -- each construct makes no label but its own
 record Shares (K L : ℕ) (q : Layout) : Type 0 where
   own : (k : ℕ) → Range K k 1 (five L q k)
@@ -162,19 +133,7 @@ shared K L q s (For f t u a) h i g = s.own h.construct
 shared K L q s (Switch t d) h i g =
     let m = labelled_once L q.plan h (switch_kind t) d s.case (switch_labels d) g.0 in
     range_less K h.construct 1 (makes L q (Switch t d) h) (five L q h.construct) (omega (arith, m)) (s.own h.construct)
-shared K L q s (Evaluate e) h i g = absurd i
-shared K L q s (Return e) h i g = absurd i
-shared K L q s (Block a) h i g = absurd i
-shared K L q s (Local x es) h i g = absurd i
-shared K L q s Break h i g = absurd i
-shared K L q s Continue h i g = absurd i
-shared K L q s (Goto l) h i g = absurd i
-shared K L q s (Mark l) h i g = absurd i
-shared K L q s (Arm l e) h i g = absurd i
-shared K L q s (Leap l) h i g = absurd i
-shared K L q s (Land l) h i g = absurd i
-shared K L q s (Arrival e) h i g = absurd i
-shared K L q s (Note bs) h i g = absurd i
+shared K L q s _ h i g = absurd i
 
 construct_inside : (x : Tree) (h : Here) → IsConstruct x → (inside x h).construct ≡ h.construct + constructs_of x
 construct_inside (If t a b) h i = omega arith
@@ -182,19 +141,7 @@ construct_inside (While t a) h i = omega arith
 construct_inside (Do a t) h i = omega arith
 construct_inside (For f t u a) h i = omega arith
 construct_inside (Switch s d) h i = omega arith
-construct_inside (Evaluate e) h i = absurd i
-construct_inside (Return e) h i = absurd i
-construct_inside (Block a) h i = absurd i
-construct_inside (Local x es) h i = absurd i
-construct_inside Break h i = absurd i
-construct_inside Continue h i = absurd i
-construct_inside (Goto l) h i = absurd i
-construct_inside (Mark l) h i = absurd i
-construct_inside (Arm l e) h i = absurd i
-construct_inside (Leap l) h i = absurd i
-construct_inside (Land l) h i = absurd i
-construct_inside (Arrival e) h i = absurd i
-construct_inside (Note bs) h i = absurd i
+construct_inside _ h i = absurd i
 
 no_construct : (x : Tree) → (IsConstruct x → ⊥) → constructs_of x ≡ 0
 no_construct (If t a b) n = absurd (n tt)
@@ -208,48 +155,14 @@ no_cases : (x : Tree) → (IsConstruct x → ⊥) → cases_of x ≡ 0
 no_cases (Switch s d) n = absurd (n tt)
 no_cases _ n = refl
 
-shared_range : (K L : ℕ) (q : Layout) → Shares K L q → (xs : Forest) (h : Here) → Everywhere HasOwnCases xs → Range K h.construct (total constructs_of xs) (gathered (makes L q) h xs)
-shared_range K L q s xs h g = gathered_range K (makes L q) constructs_of (λ h. h.construct) HasOwnCases (shared K L q s) construct_inside (λ xs h. refl) no_construct xs h g
+shared_range : (K L : ℕ) (q : Layout) → Shares K L q → (xs : Forest) (h : Here) → Everywhere HasOwnCases xs → Range K h.construct (total constructs_of xs) (gathered inside past (makes L q) h xs)
+shared_range K L q s xs h g = gathered_range inside past K (makes L q) constructs_of (λ h. h.construct) HasOwnCases (shared K L q s) construct_inside (λ xs h. refl) no_construct xs h g
 
 -- ---- case labels
-
--- how often J is the number of the place of one of the numbers, a the first place
-abbrev hits : ℕ → ℕ → List (Option ℤ) → List (Option ℤ) → ℕ
-hits J a [] ms = 0
-hits J a (n ∷ ns) ms = one_if (eqb J (a + place_of n ms)) + hits J a ns ms
-
-hits_later : (J a : ℕ) (m : Option ℤ) (ms ns : List (Option ℤ)) → AreOther m ns → hits J a ns (m ∷ ms) ≡ hits J (suc a) ns ms
-hits_later J a m ms [] h = refl
-hits_later J a m ms (n ∷ ns) h =
-    let e : a + suc (place_of n ms) ≡ suc a + place_of n ms = omega arith in
-    let i = ap (λ b. one_if (eqb J (a + cond b 0 (suc (place_of n ms))))) h.0 ∙ ap (λ z. one_if (eqb J z)) e in
-    let j = hits_later J a m ms ns h.1 in omega (arith, i, j)
-
-different_range : (J a : ℕ) (ms : List (Option ℤ)) → AreDifferent ms → Range J a (length ms) (hits J a ms ms)
-different_range J a [] h = range_none J a
-different_range J a (m ∷ ms) h =
-    let e : a + 0 ≡ a = omega arith in
-    let i = ap (λ b. one_if (eqb J (a + cond b 0 (suc (place_of m ms))))) h.0 ∙ ap (λ z. one_if (eqb J z)) e in
-    let j = hits_later J a m ms ms h.1 in
-    range_join J a (suc a) 1 (length ms) (length (m ∷ ms)) (one_if (eqb J a)) (hits J (suc a) ms ms) (hits J a (m ∷ ms) (m ∷ ms)) (range_one J a) (different_range J (suc a) ms h.2) (omega arith) (omega arith) (omega (arith, i, j))
 
 record CaseShares (J L : ℕ) (q : Layout) : Type 0 where
   own : (k : ℕ) → five L q k ≡ 0
   case : (j : ℕ) → one_if (eqb L (q.plan.case_label j)) ≤ one_if (eqb J j)
-
-labelled_hits : (J L : ℕ) (q : Layout) → CaseShares J L q → (h : Here) (k : IntKind) (d : Sections) (es : List (Option ExpressionTree)) → labelled L (names_of q.plan h k d) es ≤ hits J h.case (map (case_number k) (cases_among es)) (map (case_number k) (cases_among (switch_labels d)))
-labelled_hits J L q s h k d [] = omega arith
-labelled_hits J L q s h k d (Some e ∷ es) =
-    let i = s.case (h.case + place_of (case_number k e) (map (case_number k) (cases_among (switch_labels d)))) in
-    let j = labelled_hits J L q s h k d es in omega (arith, i, j)
-labelled_hits J L q s h k d (None ∷ es) = let i = s.own h.construct in let j = labelled_hits J L q s h k d es in omega (arith, i, j)
-
-length_numbers : (k : IntKind) (es : List ExpressionTree) → length (map (case_number k) es) ≡ length es
-length_numbers k [] = refl
-length_numbers k (e ∷ es) = ap suc (length_numbers k es)
-
-no_hits : (J a c : ℕ) → c ≡ 0 → Range J a 0 c
-no_hits J a c e = range_as J a 0 0 0 c (range_none J a) refl e
 
 cased : (J L : ℕ) (q : Layout) → CaseShares J L q → (x : Tree) (h : Here) → IsConstruct x → HasOwnCases x → Range J h.case (cases_of x) (makes L q x h)
 cased J L q s (If t a b) h i g = no_hits J h.case (makes L q (If t a b) h) (s.own h.construct)
@@ -257,60 +170,30 @@ cased J L q s (While t a) h i g = no_hits J h.case (makes L q (While t a) h) (s.
 cased J L q s (Do a t) h i g = no_hits J h.case (makes L q (Do a t) h) (s.own h.construct)
 cased J L q s (For f t u a) h i g = no_hits J h.case (makes L q (For f t u a) h) (s.own h.construct)
 cased J L q s (Switch t d) h i g =
-    let k = switch_kind t in
-    let ms = map (case_number k) (cases_among (switch_labels d)) in
     let z = s.own h.construct in
-    let l = labelled_hits J L q s h k d (switch_labels d) in
-    range_less J h.case (length (cases_among (switch_labels d))) (makes L q (Switch t d) h) (hits J h.case ms ms) (omega (arith, z, l))
-    (range_as J h.case (length ms) (length (cases_among (switch_labels d))) (hits J h.case ms ms) (hits J h.case ms ms) (different_range J h.case ms g.1) (sym (length_numbers k (cases_among (switch_labels d)))) refl)
-cased J L q s (Evaluate e) h i g = absurd i
-cased J L q s (Return e) h i g = absurd i
-cased J L q s (Block a) h i g = absurd i
-cased J L q s (Local x es) h i g = absurd i
-cased J L q s Break h i g = absurd i
-cased J L q s Continue h i g = absurd i
-cased J L q s (Goto l) h i g = absurd i
-cased J L q s (Mark l) h i g = absurd i
-cased J L q s (Arm l e) h i g = absurd i
-cased J L q s (Leap l) h i g = absurd i
-cased J L q s (Land l) h i g = absurd i
-cased J L q s (Arrival e) h i g = absurd i
-cased J L q s (Note bs) h i g = absurd i
+    let k = switch_kind t in
+    range_as J h.case (length (cases_among (switch_labels d))) (length (cases_among (switch_labels d))) (labelled L (names_of q.plan h k d) (switch_labels d)) (makes L q (Switch t d) h)
+    (labelled_range J L q.plan (λ k. let o = s.own k in omega (arith, o)) s.case h k d g.1) refl (omega (arith, z))
+cased J L q s _ h i g = absurd i
 
-cased_range : (J L : ℕ) (q : Layout) → CaseShares J L q → (xs : Forest) (h : Here) → Everywhere HasOwnCases xs → Range J h.case (total cases_of xs) (gathered (makes L q) h xs)
-cased_range J L q s xs h g = gathered_range J (makes L q) cases_of (λ h. h.case) HasOwnCases (cased J L q s) (λ x h i. refl) (λ xs h. refl) no_cases xs h g
+cased_range : (J L : ℕ) (q : Layout) → CaseShares J L q → (xs : Forest) (h : Here) → Everywhere HasOwnCases xs → Range J h.case (total cases_of xs) (gathered inside past (makes L q) h xs)
+cased_range J L q s xs h g = gathered_range inside past J (makes L q) cases_of (λ h. h.case) HasOwnCases (cased J L q s) (λ x h i. refl) (λ xs h. refl) no_cases xs h g
 
 -- ---- the whole
 
-sources : (L Y : ℕ) (q : Layout) → ((l : ℕ) → one_if (eqb L (q.plan.source l)) ≤ one_if (eqb Y l)) → (x : Tree) → HasOwnCases x → sourced L q.plan x ≤ mark_bit Y x
-sources L Y q f (Mark l) g = f l
-sources L Y q f (Land l) g = absurd g
-sources L Y q f (If t a b) g = omega arith
-sources L Y q f (While t a) g = omega arith
-sources L Y q f (Do a t) g = omega arith
-sources L Y q f (For z t u a) g = omega arith
-sources L Y q f (Switch t d) g = omega arith
-sources L Y q f (Evaluate e) g = omega arith
-sources L Y q f (Return e) g = omega arith
-sources L Y q f (Block a) g = omega arith
-sources L Y q f (Local x es) g = omega arith
-sources L Y q f Break g = omega arith
-sources L Y q f Continue g = omega arith
-sources L Y q f (Goto l) g = omega arith
-sources L Y q f (Arm l e) g = omega arith
-sources L Y q f (Leap l) g = omega arith
-sources L Y q f (Arrival e) g = omega arith
-sources L Y q f (Note bs) g = omega arith
+no_land : (x : Tree) → HasOwnCases x → NoLand x
+no_land (Land l) g = absurd g
+no_land _ g = tt
 
 module _ (L X n : ℕ) (q : Layout) (s : Hits L X q) (h : Here) (body : Forest) (o : HasOwnLabels n body) where
   abbrev Bounded : Type 0
   Bounded = places L (lowered q h Stays Stays NoArrival body) ≤ 1
 
-  sum : places L (lowered q h Stays Stays NoArrival body) ≤ total (sourced L q.plan) body + gathered (makes L q) h body + 0
+  sum : places L (lowered q h Stays Stays NoArrival body) ≤ total (sourced L q.plan) body + gathered inside past (makes L q) h body + 0
   sum = bounded L q body h Stays Stays NoArrival
 
   from : (Y : ℕ) → ((l : ℕ) → one_if (eqb L (q.plan.source l)) ≤ one_if (eqb Y l)) → total (sourced L q.plan) body ≤ total (mark_bit Y) body
-  from Y f = total_less (sourced L q.plan) (mark_bit Y) HasOwnCases (sources L Y q f) body o.cases
+  from Y f = total_less (sourced L q.plan) (mark_bit Y) HasOwnCases (λ x g. sources L Y q.plan f x (no_land x g)) body o.cases
 
   module _ (K i : ℕ) (is : X ≡ 7 * K + i) (below : i < 7) where
     miss : (Y m : ℕ) → m ≤ one_if (eqb X Y) → (X ≡ Y → ⊥) → m ≡ 0
@@ -355,29 +238,7 @@ module _ (L X n : ℕ) (q : Layout) (s : Hits L X q) (h : Here) (body : Forest) 
       ]
     ]
 
--- ---- labels by their places
-
-inverse : List ℕ → ℕ → ℕ
-inverse [] L = L
-inverse (m ∷ ms) zero = m
-inverse (m ∷ ms) (suc L) = inverse ms L
-
-place_back : (ls : List ℕ) (L x : ℕ) → L ≡ place_in ls x → inverse ls L ≡ x
-unfolding inverse
-place_back [] L x e = e
-place_back (m ∷ ms) zero x e = at (eqb m x) refl e
-  where
-    at : (b : Bool) → eqb m x ≡ b → zero ≡ cond b 0 (suc (place_in ms x)) → m ≡ x
-    at true q e = eqb-true m x q
-    at false q e = absurd (omega (arith, e))
-place_back (m ∷ ms) (suc L) x e = at (eqb m x) (place_back ms L x) e
-  where
-    at : (b : Bool) → (L ≡ place_in ms x → inverse ms L ≡ x) → suc L ≡ cond b 0 (suc (place_in ms x)) → inverse ms L ≡ x
-    at true f e = absurd (omega (arith, e))
-    at false f e = f (omega (arith, e))
-
-back : (ls : List ℕ) (L x : ℕ) → one_if (eqb L (place_in ls x)) ≤ one_if (eqb (inverse ls L) x)
-back ls L x = bit_le L (place_in ls x) (eqb (inverse ls L) x) (λ e. eq-eqb (inverse ls L) x (place_back ls L x e))
+-- ---- the list and the body
 
 list_once : (number : IntKind → ℤ → ExpressionTree) (slots : List Slot) (n : ℕ) (body : Forest) → HasOwnLabels n body → IsOnce (lowered_list number slots body)
 list_once number slots n body o L =

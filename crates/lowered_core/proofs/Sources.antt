@@ -12,7 +12,7 @@ use Rattle.flat_core.specs.FlatForm.{names_of, scatter_aim, otherwise_label, end
 use Rattle.lowered_core.specs.Straight.{while_items, StraightItem, st_evaluate, st_return, st_note, st_goto, st_mark, st_jump_if, st_if, st_do, st_ever, Straight, sl_nil, sl_end, sl_then, sl_declares, sl_while}
 use Rattle.lowered_core.specs.Lowered.{Layout, past, past_item, inside, is_bare, only_goto, jump_of, break_aim, for_aim, continue_aim}
 use Rattle.lowered_core.specs.Opened.{opened_if, opened_for, opened, opened_item, opened_among}
-use Rattle.lowered_core.proofs.Loosened.{false_true}
+use Rattle.flat_core.proofs.LooserItems.{false_true}
 use Rattle.lowered_core.proofs.Standing.{has_left, has_right, both_of}
 
 module _ (p : Layout) (m : ℕ) (live : p.plan.live m ≡ true) where
@@ -35,23 +35,7 @@ module _ (p : Layout) (m : ℕ) (live : p.plan.live m ≡ true) where
   no_bare Nil e n = absurd n
   no_bare (Then (Mark k) xs) e (inl n) = is_not k n (bare_mark (p.plan.live k) (is_bare p.plan.live xs) e).0
   no_bare (Then (Mark k) xs) e (inr n) = no_bare xs (bare_mark (p.plan.live k) (is_bare p.plan.live xs) e).1 n
-  no_bare (Then (Evaluate x) xs) e n = false_true e
-  no_bare (Then (Return x) xs) e n = false_true e
-  no_bare (Then (If t x y) xs) e n = false_true e
-  no_bare (Then (While t a) xs) e n = false_true e
-  no_bare (Then (Do a t) xs) e n = false_true e
-  no_bare (Then (For f t u a) xs) e n = false_true e
-  no_bare (Then (Switch t d) xs) e n = false_true e
-  no_bare (Then (Block a) xs) e n = false_true e
-  no_bare (Then (Local x es) xs) e n = false_true e
-  no_bare (Then Break xs) e n = false_true e
-  no_bare (Then Continue xs) e n = false_true e
-  no_bare (Then (Goto k) xs) e n = false_true e
-  no_bare (Then (Arm k x) xs) e n = false_true e
-  no_bare (Then (Leap k) xs) e n = false_true e
-  no_bare (Then (Land k) xs) e n = false_true e
-  no_bare (Then (Arrival x) xs) e n = false_true e
-  no_bare (Then (Note bs) xs) e n = false_true e
+  no_bare (Then x xs) e n = false_true e
 
   no_only : {X : Type 0} (j : ℕ) (xs : Forest) → only_goto p.plan.live xs ≡ Some j → Has m xs → X
   no_only j Nil e n = absurd n
@@ -59,22 +43,7 @@ module _ (p : Layout) (m : ℕ) (live : p.plan.live m ≡ true) where
   no_only j (Then (Mark k) xs) e (inr n) = no_only j xs (only_mark (p.plan.live k) (only_goto p.plan.live xs) j e).1 n
   no_only j (Then (Goto k) xs) e (inl n) = absurd n
   no_only j (Then (Goto k) xs) e (inr n) = no_bare xs (only_bare (is_bare p.plan.live xs) k j e) n
-  no_only j (Then (Evaluate x) xs) e n = cc
-  no_only j (Then (Return x) xs) e n = cc
-  no_only j (Then (If t x y) xs) e n = cc
-  no_only j (Then (While t a) xs) e n = cc
-  no_only j (Then (Do a t) xs) e n = cc
-  no_only j (Then (For f t u a) xs) e n = cc
-  no_only j (Then (Switch t d) xs) e n = cc
-  no_only j (Then (Block a) xs) e n = cc
-  no_only j (Then (Local x es) xs) e n = cc
-  no_only j (Then Break xs) e n = cc
-  no_only j (Then Continue xs) e n = cc
-  no_only j (Then (Arm k x) xs) e n = cc
-  no_only j (Then (Leap k) xs) e n = cc
-  no_only j (Then (Land k) xs) e n = cc
-  no_only j (Then (Arrival x) xs) e n = cc
-  no_only j (Then (Note bs) xs) e n = cc
+  no_only j (Then x xs) e n = cc
 
   abbrev g : ℕ
   g = p.plan.source m

@@ -20,7 +20,7 @@ use Rattle.flat_core.specs.FlatForm.{names_of, scatter_aim, otherwise_label, end
 use Rattle.flat_core.specs.Source.{IsSourceItem}
 use Rattle.lowered_core.specs.Lowered.{Layout, past, past_item, inside, is_bare, only_goto, jump_of, break_aim, for_aim, continue_aim}
 use Rattle.lowered_core.specs.Opened.{opened_if, opened_for, opened, opened_item, opened_among, Naming}
-use Rattle.lowered_core.proofs.Loosened.{false_true}
+use Rattle.flat_core.proofs.LooserItems.{false_true}
 
 pub has_left : (l : ℕ) (xs ys : Forest) → Has l xs → Has l (join xs ys)
 has_left l Nil ys n = absurd n
@@ -98,22 +98,7 @@ module _ (live : ℕ → Bool) (m : ℕ) where
   only Nil e = cc
   only (Then (Mark l) xs) e = og_mark l (only xs (mark_some (live l) (only_goto live xs) e))
   only (Then (Goto l) xs) e = let q = goto_some (is_bare live xs) l e in subst (λ z. OnlyGoto live m (Then (Goto z) xs)) (sym q.1) (og_goto q.0)
-  only (Then (Evaluate x) xs) e = cc
-  only (Then (Return x) xs) e = cc
-  only (Then (If t x y) xs) e = cc
-  only (Then (While t a) xs) e = cc
-  only (Then (Do a t) xs) e = cc
-  only (Then (For f t u a) xs) e = cc
-  only (Then (Switch t d) xs) e = cc
-  only (Then (Block a) xs) e = cc
-  only (Then (Local x es) xs) e = cc
-  only (Then Break xs) e = cc
-  only (Then Continue xs) e = cc
-  only (Then (Arm l x) xs) e = cc
-  only (Then (Leap l) xs) e = cc
-  only (Then (Land l) xs) e = cc
-  only (Then (Arrival x) xs) e = cc
-  only (Then (Note bs) xs) e = cc
+  only (Then x xs) e = cc
 
   mark_bare : (y z : Bool) → cond y false z ≡ true → z ≡ true
   mark_bare true z e = false_true e
@@ -124,23 +109,7 @@ module _ (live : ℕ → Bool) (number : IntKind → ℤ → ExpressionTree) (k 
   no_bare : (xs : Forest) → is_bare live xs ≡ true → Naming l (tests number k v names xs) → X
   no_bare Nil e n = absurd n
   no_bare (Then (Mark m) xs) e n = no_bare xs (mark_bare live 0 (live m) (is_bare live xs) e) n
-  no_bare (Then (Evaluate x) xs) e n = false_true e
-  no_bare (Then (Return x) xs) e n = false_true e
-  no_bare (Then (If t x y) xs) e n = false_true e
-  no_bare (Then (While t a) xs) e n = false_true e
-  no_bare (Then (Do a t) xs) e n = false_true e
-  no_bare (Then (For f t u a) xs) e n = false_true e
-  no_bare (Then (Switch t d) xs) e n = false_true e
-  no_bare (Then (Block a) xs) e n = false_true e
-  no_bare (Then (Local x es) xs) e n = false_true e
-  no_bare (Then Break xs) e n = false_true e
-  no_bare (Then Continue xs) e n = false_true e
-  no_bare (Then (Goto m) xs) e n = false_true e
-  no_bare (Then (Arm m x) xs) e n = false_true e
-  no_bare (Then (Leap m) xs) e n = false_true e
-  no_bare (Then (Land m) xs) e n = false_true e
-  no_bare (Then (Arrival x) xs) e n = false_true e
-  no_bare (Then (Note bs) xs) e n = false_true e
+  no_bare (Then x xs) e n = false_true e
 
   no_only : {m : ℕ} {xs : Forest} → OnlyGoto live m xs → Naming l (tests number k v names xs) → X
   no_only (og_mark m o) n = no_only o n
@@ -234,23 +203,7 @@ module _ (p : Layout) where
   bare_default : {X : Type 0} (xs : Forest) → is_bare p.plan.live xs ≡ true → has_default (arrivals xs) ≡ true → X
   bare_default Nil e n = false_true n
   bare_default (Then (Mark m) xs) e n = bare_default xs (mark_bare p.plan.live 0 (p.plan.live m) (is_bare p.plan.live xs) e) n
-  bare_default (Then (Evaluate x) xs) e n = false_true e
-  bare_default (Then (Return x) xs) e n = false_true e
-  bare_default (Then (If t x y) xs) e n = false_true e
-  bare_default (Then (While t a) xs) e n = false_true e
-  bare_default (Then (Do a t) xs) e n = false_true e
-  bare_default (Then (For f t u a) xs) e n = false_true e
-  bare_default (Then (Switch t d) xs) e n = false_true e
-  bare_default (Then (Block a) xs) e n = false_true e
-  bare_default (Then (Local x es) xs) e n = false_true e
-  bare_default (Then Break xs) e n = false_true e
-  bare_default (Then Continue xs) e n = false_true e
-  bare_default (Then (Goto m) xs) e n = false_true e
-  bare_default (Then (Arm m x) xs) e n = false_true e
-  bare_default (Then (Leap m) xs) e n = false_true e
-  bare_default (Then (Land m) xs) e n = false_true e
-  bare_default (Then (Arrival x) xs) e n = false_true e
-  bare_default (Then (Note bs) xs) e n = false_true e
+  bare_default (Then x xs) e n = false_true e
 
   only_default : {X : Type 0} {m : ℕ} {xs : Forest} → OnlyGoto p.plan.live m xs → has_default (arrivals xs) ≡ true → X
   only_default (og_mark m o) n = only_default o n

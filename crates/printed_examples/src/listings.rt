@@ -1,6 +1,7 @@
 //! Whole programs and the texts that they print as.
 
 use crate::postfix::program_of;
+use crate::texts::{ACROSS_SECTIONS, CAPTURED_EXITS, LOOP_BY_JUMPS, SUFFIXES};
 use c_printer::print;
 use std::test::Fail;
 
@@ -17,24 +18,7 @@ static LISTINGS: [Listing; 10] = [
             n:0:int =:0: ; { n:0:int =:1: ; v:0: n:3:int b:>= =:2: ; v:2: u:! { c:97 v:0: b:+ \
             f:putchar:1 ; ++:0::after ; n:1:int =:1: ; if v:1: do n:0:int =:2: ; n:0:int return \
             function:main:int:0",
-        text: "int main(void) {
-    int i;
-    int goto_loop = 0;
-    int goto_done = 0;
-    i = 0;
-    do {
-        goto_loop = 0;
-        goto_done = i >= 3;
-        if (!goto_done) {
-            putchar('a' + i);
-            i++;
-            goto_loop = 1;
-        }
-    } while (goto_loop);
-    goto_done = 0;
-    return 0;
-}
-",
+        text: LOOP_BY_JUMPS,
     },
     // Names that hide one another, and `else if`.
     Listing {
@@ -112,35 +96,7 @@ int main(void) {
             f:putchar:1 ; if section:1:: n:3:int { v:1: v:1: u:! b:|| { v:1: u:! { c:99 f:putchar:1 ; if \
             n:0:int =:1: ; c:100 f:putchar:1 ; if section:1::ends { c:101 f:putchar:1 ; \
             section:0:default: switch:4 v:1: do n:0:int return function:f:int:1",
-        text: "int f(int x) {
-    int goto_two = 0;
-    do {
-        switch (goto_two ? 3 : x) {
-        case 1:
-            goto_two = getchar() == 'j';
-            if (!goto_two) {
-                putchar('a');
-            }
-        case 2:
-            if (!goto_two) {
-                putchar('b');
-            }
-        case 3:
-            if (goto_two || !goto_two) {
-                if (!goto_two) {
-                    putchar('c');
-                }
-                goto_two = 0;
-                putchar('d');
-            }
-            break;
-        default:
-            putchar('e');
-        }
-    } while (goto_two);
-    return 0;
-}
-",
+        text: ACROSS_SECTIONS,
     },
     // Captured `break` and `continue`.
     Listing {
@@ -149,47 +105,14 @@ int main(void) {
             { { n:0:int =:1: ; v:0: n:0:int b:== =:2: ; v:2: u:! { v:0: n:3:int b:== =:3: ; v:3: u:! { \
             c:48 v:0: b:+ f:putchar:1 ; f:getchar:0 c:114 b:== =:1: ; if if v:1: do v:3: u:! { n:0:int \
             =:2: ; ++:0::after ; if while n:0:int =:3: ; v:0: return function:main:int:0",
-        text: "int main(void) {
-    int i;
-    int goto_again = 0;
-    int goto_continue_1 = 0;
-    int goto_break_1 = 0;
-    i = 0;
-    while (!goto_break_1 && i < 4) {
-        do {
-            goto_again = 0;
-            goto_continue_1 = i == 0;
-            if (!goto_continue_1) {
-                goto_break_1 = i == 3;
-                if (!goto_break_1) {
-                    putchar('0' + i);
-                    goto_again = getchar() == 'r';
-                }
-            }
-        } while (goto_again);
-        if (!goto_break_1) {
-            goto_continue_1 = 0;
-            i++;
-        }
-    }
-    goto_break_1 = 0;
-    return i;
-}
-",
+        text: CAPTURED_EXITS,
     },
     // Suffixes, arrays and brackets.
     Listing {
         words: "var:a:long n:2147483648:long global:1 var:b:uint n:4294967295:uint global:1 var:c:int c:0 \
             global:1 var:d:int:2 n:1:int n:8:int global:2 var:a:int var:b:int { v:0: v:1: n:1:int b:- \
             b:- v:0: v:1: b:* b:- v:0: u:- u:- b:+ return function:f:int:2",
-        text: "long a = 2147483648L;
-unsigned b = 4294967295U;
-int c = '\\000';
-int d[2] = {1, 8};
-int f(int a, int b) {
-    return a - (b - 1) - a * b + - -a;
-}
-",
+        text: SUFFIXES,
     },
     // Cleanup.
     Listing {

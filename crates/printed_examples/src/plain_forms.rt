@@ -1,6 +1,7 @@
 //! Programs after their moves, and the texts of their plain forms.
 
 use crate::postfix::program_of;
+use crate::texts::{ACROSS_SECTIONS, CAPTURED_EXITS, LOOP_BY_JUMPS, SUFFIXES};
 use c_copies::names;
 use c_printer::print;
 use plain_form::plain;
@@ -18,24 +19,7 @@ static PLAIN_FORMS: [PlainForm; 10] = [
         words: "var:i:int label:loop label:done { n:0:int =:0: ; { land:0 v:0: n:3:int b:>= \
             arm:1:given off:1 { c:97 v:0: b:+ f:putchar:1 ; ++:0::after ; arm:0 if:made on:0 \
             do:made land:1 n:0:int return flat_function:main:int:0",
-        text: "int main(void) {
-    int i;
-    int goto_loop = 0;
-    int goto_done = 0;
-    i = 0;
-    do {
-        goto_loop = 0;
-        goto_done = i >= 3;
-        if (!goto_done) {
-            putchar('a' + i);
-            i++;
-            goto_loop = 1;
-        }
-    } while (goto_loop);
-    goto_done = 0;
-    return 0;
-}
-",
+        text: LOOP_BY_JUMPS,
     },
     // From section to section of a switch.
     PlainForm {
@@ -44,35 +28,7 @@ static PLAIN_FORMS: [PlainForm; 10] = [
             f:putchar:1 ; if:made section:1:: n:3:int { off:0 or_on:0 { off:0 { c:99 f:putchar:1 \
             ; if:made land:0 c:100 f:putchar:1 ; if:made section:1::ends { c:101 f:putchar:1 ; \
             section:0:default: switch:4:made on:0 do:made n:0:int return flat_function:f:int:1",
-        text: "int f(int x) {
-    int goto_two = 0;
-    do {
-        switch (goto_two ? 3 : x) {
-        case 1:
-            goto_two = getchar() == 'j';
-            if (!goto_two) {
-                putchar('a');
-            }
-        case 2:
-            if (!goto_two) {
-                putchar('b');
-            }
-        case 3:
-            if (goto_two || !goto_two) {
-                if (!goto_two) {
-                    putchar('c');
-                }
-                goto_two = 0;
-                putchar('d');
-            }
-            break;
-        default:
-            putchar('e');
-        }
-    } while (goto_two);
-    return 0;
-}
-",
+        text: ACROSS_SECTIONS,
     },
     // Into a section of a switch that has the default alone.
     PlainForm {
@@ -108,33 +64,7 @@ static PLAIN_FORMS: [PlainForm; 10] = [
             b:== arm:2:given off:2 { c:48 v:0: b:+ f:putchar:1 ; f:getchar:0 c:114 b:== \
             arm:0:given if:made if:made on:0 do:made off:2 { land:1 ++:0::after ; if:made \
             while:made land:2 v:0: return flat_function:main:int:0",
-        text: "int main(void) {
-    int i;
-    int goto_again = 0;
-    int goto_continue_1 = 0;
-    int goto_break_1 = 0;
-    i = 0;
-    while (!goto_break_1 && i < 4) {
-        do {
-            goto_again = 0;
-            goto_continue_1 = i == 0;
-            if (!goto_continue_1) {
-                goto_break_1 = i == 3;
-                if (!goto_break_1) {
-                    putchar('0' + i);
-                    goto_again = getchar() == 'r';
-                }
-            }
-        } while (goto_again);
-        if (!goto_break_1) {
-            goto_continue_1 = 0;
-            i++;
-        }
-    }
-    goto_break_1 = 0;
-    return i;
-}
-",
+        text: CAPTURED_EXITS,
     },
     // Into a loop, past a variable that hides another.
     PlainForm {
@@ -167,14 +97,7 @@ int main(void) {
         words: "n:2147483648:long var:a:long: global:1 n:4294967295:uint var:b:uint: global:1 c:0 \
             var:c:int: global:1 n:1:int n:8:int var:d:int:2 global:2 var:a:int var:b:int { v:0: \
             v:1: n:1:int b:- b:- v:0: v:1: b:* b:- v:0: u:- u:- b:+ return function:f:int:2",
-        text: "long a = 2147483648L;
-unsigned b = 4294967295U;
-int c = '\\000';
-int d[2] = {1, 8};
-int f(int a, int b) {
-    return a - (b - 1) - a * b + - -a;
-}
-",
+        text: SUFFIXES,
     },
     // Two jumps out of a loop, joined by one test.
     PlainForm {
