@@ -1,0 +1,35 @@
+use Rattle.std.proofs.Common.{◌≡◌, ℕ, not, cond, drop, take, suc, ◌+◌, ◌-◌, ◌*◌, ◌<◌, ◌≤◌, ◌++◌, ◌||◌, ◌∷◌, [], map, length, get_or, true, false, Option, Some, None, option_map, append_assoc, refl, sym, ap, ◌∙◌, rules, arith}
+use Rattle.std.proofs.lemmas.Result.{on_ok_weaker, IfOk-weaker}
+use Rattle.std.proofs.lemmas.List.{at_drop_more, at_drop_all, append-nil, length-map}
+use Rattle.c_tree.specs.Cases.{case_number}
+use Rattle.c_tree.specs.Paths.{list_of}
+use Rattle.c_tree.specs.TestTrees.{test_tree, selector_tree}
+use Rattle.c_tree.specs.declared.tree.Section.{Section}
+use Rattle.c_tree.specs.Trees.{Tree, Forest, Sections, trees_of, sections_of}
+use Rattle.tree_views.specs.Views.{tree_at}
+use Rattle.tree_views.proofs.Views.{at-If, at-For, at-Switch}
+use Rattle.tree_views.proofs.Collecting.{collected, collected_all, collected_in, collected_all_in}
+use Rattle.flat_core.specs.FlatForm.{place_in}
+use Rattle.lowered_bodies.specs.Places.{number_at}
+use Rattle.flat_bodies.proofs.PlaceLaws.{place_if, place_is, place_push, enter_none, enter_some}
+use Rattle.flat_bodies.specs.Places.{with_place}
+use Rattle.std.specs.Option.{option_map_or}
+use Rattle.std.proofs.lemmas.List.{take_more, take_all, length-take-le}
+use Rattle.lowered_bodies.proofs.places.places_of.Goals as goal
+
+pub loop-i-init : goal.loop-i-init
+loop-i-init c = λ m. ap (λ z. get_or z m None) c.new-table.ensures
+
+pub loop-i-preserved : goal.loop-i-preserved
+loop-i-preserved c = λ m.
+    let cs = c.args.codes.now in
+    let i = c.loop-i.i in
+    let x = get_or cs i 0 in
+    c.in_ok-enter.ensures m ∙ ap (λ o. with_place o x i m) (c.loop-i.invariant m)
+    ∙ sym (ap (λ z. place_if z m) (take_more cs i 0 c.loop-i-test.true) ∙ place_push (take i cs) x m ∙ ap (λ n. with_place (place_if (take i cs) m) x n m) (length-take-le i cs (omega arith)))
+
+pub returns : goal.returns
+returns c = λ m.
+    let cs = c.args.codes.now in
+    let whole : take c.loop-i.i cs ≡ cs = take_all c.loop-i.i cs c.loop-i-test.false in
+    ap (λ o. option_map_or (λ n. n) o (m + length cs)) (c.loop-i.invariant m ∙ ap (λ z. place_if z m) whole) ∙ place_is cs m

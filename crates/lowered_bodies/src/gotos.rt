@@ -1,0 +1,78 @@
+ghost use Rattle.std.specs.Prelude.{◌≡◌, ◌+◌, IfOk, OnOk};
+ghost use Rattle.c_tree.specs.Everywhere.{total, total_of, total_in};
+ghost use Rattle.c_tree.specs.Trees.{trees_of, sections_of};
+ghost use Rattle.lowered_core.specs.Lowered.{gotos_of, gotos};
+ghost use Rattle.tree_views.specs.Views.{tree_at};
+
+use c_tree::{Item, Section};
+use c_types::{List, Memory};
+
+fn add_one(count: &mut u64) -> Result<(), Memory>
+    ensures { OnOk result (count.new ≡ count.old + 1) }
+{
+    match count.checked_add(1) {
+        Some(sum) => {
+            *count = sum;
+            Ok(())
+        }
+        None => Err(Memory),
+    }
+}
+
+#[cycle(counting)]
+fn add_list(list: &List<Item>, count: &mut u64) -> Result<(), Memory>
+    ensures { OnOk result (count.new ≡ count.old + total gotos_of (trees_of list.now)) }
+{
+    add_items(list.as_slice(), count)
+}
+
+#[cycle(counting)]
+fn add_items(items: &[Item], count: &mut u64) -> Result<(), Memory>
+    ensures { OnOk result (count.new ≡ count.old + total gotos_of (trees_of items.now)) }
+{
+    for i in 0..items.len() {
+        add_item(&items[i], count)?;
+    }
+    Ok(())
+}
+
+#[cycle(counting)]
+fn add_item(item: &Item, count: &mut u64) -> Result<(), Memory>
+    ensures { OnOk result (count.new ≡ count.old + total_of gotos_of (tree_at item.now)) }
+{
+    match item {
+        Item::If(_, a, b) => {
+            add_list(a, count)?;
+            add_list(b, count)
+        }
+        Item::While(_, a) => add_list(a, count),
+        Item::Do(a, _) => add_list(a, count),
+        Item::For(first, _, _, a) => {
+            add_list(first, count)?;
+            add_list(a, count)
+        }
+        Item::Block(a) => add_list(a, count),
+        Item::Switch(_, sections) => add_sections(sections.as_slice(), count),
+        Item::Goto(_) => add_one(count),
+        _ => Ok(()),
+    }
+}
+
+#[cycle(counting)]
+fn add_sections(sections: &[Section], count: &mut u64) -> Result<(), Memory>
+    ensures { OnOk result (count.new ≡ count.old + total_in gotos_of (sections_of sections.now)) }
+{
+    for i in 0..sections.len() {
+        add_list(&sections[i].list, count)?;
+    }
+    Ok(())
+}
+
+/// How many gotos a body has. Want of memory is the only failure: more than `u64` holds count as that.
+pub fn gotos_in(list: &List<Item>) -> Result<u64, Memory>
+    ensures { IfOk result (λ it. it ≡ gotos (trees_of list.now)) }
+{
+    let mut count = 0;
+    add_list(list, &mut count)?;
+    Ok(count)
+}

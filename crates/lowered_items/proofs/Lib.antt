@@ -1,0 +1,5 @@
+pub mod Steps
+pub mod Shapes
+pub mod Jumping
+pub mod Moving
+pub mod SoughtPlaces

@@ -1,0 +1,37 @@
+-- Items and initialisers that are moved, one after another.
+use Rattle.std.proofs.Common.{◌≡◌, ℕ, zero, suc, ◌+◌, ◌-◌, List, [], ◌∷◌, length, arith, refl, sym, ap, ◌∙◌}
+use Rattle.std.specs.Vec.Iter.{into_iter_items, into_iter_len}
+use Rattle.std.specs.declared.vec.IntoIter.{IntoIter}
+use Rattle.c_types.specs.declared.kinds.IntKind.{IntKind}
+use Rattle.c_tree.specs.Changed.{one}
+use Rattle.c_tree.specs.declared.tree.Expression.{Expression}
+use Rattle.c_tree.specs.declared.tree.Item.{Item}
+use Rattle.c_tree.specs.ExpressionTrees.{ExpressionTree, expression_tree}
+use Rattle.c_tree.specs.Trees.{Tree, Forest, Nil, Then, Evaluate, trees_of, expression_trees, join}
+use Rattle.c_tree.proofs.TreeLaws.{join-nil, trees-none}
+use Rattle.loose_core.specs.Pieces.{assign_cell, assigned_cells}
+use Rattle.tree_views.specs.Views.{tree_at}
+use Rattle.tree_views.proofs.Views.{trees-first}
+use Rattle.flat_items.proofs.Joining.{joined, one_more}
+
+-- what is left of a list that is empty
+pub nothing_left : {X : Type 0} (xs : List X) → length xs ≡ 0 → xs ≡ []
+nothing_left [] h = refl
+nothing_left (x ∷ xs) h = absurd (omega arith)
+
+-- an iterator that gave its last item has none left
+pub emptied : {X Z : Type 0} (it : IntoIter X Z) → into_iter_len it ≡ 0 → into_iter_items it ≡ []
+emptied it h = nothing_left (into_iter_items it) (sym it.rest.ok.0 ∙ h)
+
+pub all_step : (x : Item) (xs : List Item) (out new all : Forest) → new ≡ join out (one (tree_at x)) → join out (trees_of (x ∷ xs)) ≡ all → join new (trees_of xs) ≡ all
+all_step x xs out new all n inv = one_more out new (tree_at x) (trees_of xs) n ∙ sym (ap (join out) (trees-first x xs)) ∙ inv
+
+pub all_end : (out all : Forest) → join out (trees_of []) ≡ all → out ≡ all
+all_end out all inv = sym (join-nil out) ∙ sym (ap (join out) trees-none) ∙ inv
+
+pub cells_step : (k : IntKind) (x i m : ℕ) (e : Expression) (es : List Expression) (out new all : Forest) → new ≡ join out (one (Evaluate (assign_cell k x i (expression_tree e))))
+    → join out (assigned_cells k x i (expression_trees (e ∷ es)) m) ≡ all → join new (assigned_cells k x (i + 1) (expression_trees es) m) ≡ all
+cells_step k x i m e es out new all n inv =
+    let f : i + 1 ≡ suc i = omega arith in
+    one_more out new (Evaluate (assign_cell k x i (expression_tree e))) (assigned_cells k x (i + 1) (expression_trees es) m) n
+    ∙ ap (λ j. join out (Then (Evaluate (assign_cell k x i (expression_tree e))) (assigned_cells k x j (expression_trees es) m))) f ∙ inv

@@ -1,0 +1,8 @@
+use Rattle.std.proofs.Common.{◌≡◌, ◌+◌, ◌-◌, ◌≤◌, length, drop}
+use Rattle.c_tree.specs.Trees.{trees_of, sections_of, expression_trees, join}
+use Rattle.flat_parts.specs.Reading.{is_flagged}
+use Rattle.lowered_core.specs.Lowered.{is_bare}
+use Rattle.lowered_items.proofs.jumps.is_bare.Given as goal
+
+abbrev pub invariant-loop-i : goal.invariant-loop-i
+invariant-loop-i l = is_bare (is_flagged l.named) (trees_of (drop l.from l.items)) ≡ is_bare (is_flagged l.named) (trees_of (drop l.i l.items))

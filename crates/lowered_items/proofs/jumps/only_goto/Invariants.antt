@@ -1,0 +1,8 @@
+use Rattle.std.proofs.Common.{◌≡◌, ◌+◌, ◌-◌, ◌≤◌, length, drop}
+use Rattle.c_tree.specs.Trees.{trees_of, sections_of, expression_trees, join}
+use Rattle.flat_parts.specs.Reading.{is_flagged}
+use Rattle.lowered_core.specs.Lowered.{only_goto}
+use Rattle.lowered_items.proofs.jumps.only_goto.Given as goal
+
+abbrev pub invariant-loop-i : goal.invariant-loop-i
+invariant-loop-i l = only_goto (is_flagged l.named) (trees_of l.items) ≡ only_goto (is_flagged l.named) (trees_of (drop l.i l.items))

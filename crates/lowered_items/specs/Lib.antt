@@ -1,0 +1,6 @@
+pub mod Places
+pub mod Plans
+pub mod Jumps
+pub mod Loops
+pub mod Choices
+pub mod Forms

@@ -1,0 +1,89 @@
+ghost use Rattle.std.specs.Prelude.{◌≡◌, ◌%◌, ◌<◌, ◌≤◌, ◌^◌, [], get_or, eqb, length, IfOk, OnOk};
+ghost use Rattle.c_copies.specs.Names.{with_name};
+ghost use Rattle.fresh_names.specs.Fresh.{numbered as the_numbered, fresh as the_fresh};
+ghost use Rattle.flat_names.specs.Gathered.{all_used};
+ghost use Rattle.lowered_forms.specs.Lowering.{label_names as the_label_names};
+ghost use Rattle.lowered_names.specs.Steps.{chosen, next_then, used_then};
+
+use c_types::{List, Memory, Name};
+use fresh_names::{UsedNames, numbered};
+use std::alloc::Global;
+
+fn own_name(alloc: Global, names: &[Name], at: u32) -> Result<Name, Memory>
+    ensures { IfOk result (λ it. it ≡ get_or names.now at []) }
+{
+    let at = at as usize;
+    if at < names.len() {
+        names[at].copy(alloc)
+    } else {
+        Ok(Name::from_string(String::new(alloc)))
+    }
+}
+
+/// A name that is not used, of the base and a number. It is used then.
+pub fn made_name(alloc: Global, base: &str, k: u64, used: &mut UsedNames) -> Result<Name, Memory>
+    ensures name { IfOk result (λ it. it ≡ the_fresh (the_numbered base.now k) (all_used used.old)) }
+    ensures used { IfOk result (λ it. all_used used.new ≡ with_name (all_used used.old) it) }
+    ensures file { used.new.file ≡ used.old.file }
+{
+    let base = numbered(alloc, base, k)?;
+    let name = used.fresh(alloc, base.as_str())?;
+    used.add(alloc, name.as_str())?;
+    Ok(name)
+}
+
+/// Whether a label with this code is one of the source.
+fn is_own(code: u32) -> bool
+    ensures { result ≡ eqb (code % 7) 0 }
+{
+    code % 7 == 0
+}
+
+/// The name of a label: its own, or the next that is made.
+fn label_name(
+    alloc: Global,
+    labels: &[Name],
+    used: &mut UsedNames,
+    code: u32,
+    next: u64,
+) -> Result<Name, Memory>
+    ensures name { IfOk result (λ it. it ≡ chosen labels.now (all_used used.old) next code) }
+    ensures used { OnOk result (all_used used.new ≡ used_then (all_used used.old) next code) }
+    ensures file { used.new.file ≡ used.old.file }
+{
+    if is_own(code) {
+        own_name(alloc, labels, code / 7)
+    } else {
+        made_name(alloc, "low", next, used)
+    }
+}
+
+/// The number of the next name that is made behind such a label.
+fn next_of(code: u32, next: u64) -> u64
+    requires { next < 2 ^ 63 }
+    ensures { result ≡ next_then next code }
+{
+    if is_own(code) { next } else { next + 1 }
+}
+
+/// The names of labels with these codes, in their order, of a function that has these labels. Want of
+/// memory is the only failure.
+pub fn label_names(
+    alloc: Global,
+    labels: &[Name],
+    used: &mut UsedNames,
+    codes: &[u32],
+) -> Result<List<Name>, Memory>
+    requires { length codes.now ≤ 4294967295 }
+    ensures value { IfOk result (λ it. it ≡ the_label_names labels.now (all_used used.old) 1 codes.now) }
+    ensures file { used.new.file ≡ used.old.file }
+{
+    let mut out = List::new(alloc);
+    let mut next = 1;
+    for i in 0..codes.len() {
+        let name = label_name(alloc, labels, used, codes[i], next)?;
+        out.push(name)?;
+        next = next_of(codes[i], next);
+    }
+    Ok(out)
+}

@@ -1,0 +1,11 @@
+//! The names that a flat list of gotos makes: of variables, and of labels.
+#![tactic(auto)]
+
+mod labels;
+mod listing;
+mod numbers;
+mod variables;
+mod whole;
+
+pub use listing::constructs;
+pub use whole::name_lowered;

@@ -1,0 +1,121 @@
+//! Where the search for a free number behind a name goes on.
+
+ghost use Rattle.std.specs.Prelude.{◌≡◌, ◌+◌, ◌≤◌, ◌<◌, ◌^◌, [], length, IfOk, OnOk};
+ghost use Rattle.std.specs.Option.{option_copied};
+ghost use Rattle.c_copies.specs.Names.{has_name};
+ghost use Rattle.fresh_names.specs.Fresh.{first_free, fresh as the_fresh};
+ghost use Rattle.flat_names.specs.Gathered.{all_used};
+ghost use Rattle.flat_names.specs.Numbers.{found, or_first, with_number, IsUsedBelow, AreUsedBelow};
+
+use c_types::{Memory, Name};
+use fresh_names::{UsedNames, numbered};
+use std::alloc::Global;
+use std::collections::BTreeMap;
+use std::marker::Model;
+
+/// For each name behind which a number was sought, one below which none is free. Contracts see the names in byte order.
+#[derive(Drop)]
+pub struct NextNumbers<'a> {
+    numbers: BTreeMap<&'a [u8], u64>,
+}
+
+impl<'a> Model for NextNumbers<'a> {
+    ghost use Rattle.std.specs.Prelude.{List, ℕ, map};
+
+    ghost Value = { List (List ℕ × ℕ) };
+
+    ghost view = { λ it. map (λ e. (e.0.now, e.1)) it.numbers.entries };
+}
+
+impl<'a> NextNumbers<'a> {
+    /// No names.
+    pub fn new(alloc: Global) -> NextNumbers<'a>
+        ensures { result ≡ [] }
+    {
+        NextNumbers {
+            numbers: BTreeMap::new(alloc),
+        }
+    }
+
+    fn find(&self, name: &[u8]) -> Option<&u64>
+        ensures { option_copied result ≡ found name.now self.now }
+    {
+        self.numbers.get(name)
+    }
+
+    fn next(&self, name: &[u8]) -> u64
+        ensures { result ≡ or_first (found name.now self.now) }
+    {
+        match self.find(name) {
+            Some(number) => *number,
+            None => 2,
+        }
+    }
+
+    fn put(&mut self, name: &'a [u8], number: u64) -> Result<(), Memory>
+        ensures { OnOk result (self.new ≡ with_number name.now number self.old) }
+    {
+        self.numbers.insert(name, number)?;
+        Ok(())
+    }
+}
+
+/// At least as many as there are used names, and 2.
+fn most(used: &UsedNames) -> Result<u64, Memory>
+    ensures enough { IfOk result (λ it. length (all_used used.now) + 2 ≤ it) }
+    ensures bound { IfOk result (λ it. it < 2 ^ 64) }
+{
+    let names = used.file.len() as u64 + used.own.len() as u64;
+    match names.checked_add(2) {
+        Some(most) => Ok(most),
+        None => Err(Memory),
+    }
+}
+
+/// The first free name with a number, and its number, where all below a number are used.
+fn free_from(
+    alloc: Global,
+    used: &UsedNames,
+    base: &str,
+    start: u64,
+    most: u64,
+) -> Result<(Name, u64), Memory>
+    requires first { 2 ≤ start }
+    requires used { IsUsedBelow (all_used used.now) base.now start }
+    requires start { start ≤ most }
+    requires enough { length (all_used used.now) + 2 ≤ most }
+    ensures name { IfOk result (λ it. it.0 ≡ first_free (all_used used.now) base.now 2 (length (all_used used.now))) }
+    ensures first { IfOk result (λ it. 2 ≤ it.1) }
+    ensures used { IfOk result (λ it. IsUsedBelow (all_used used.now) base.now it.1) }
+{
+    for n in start..most {
+        let name = numbered(alloc, base, n)?;
+        if !used.contains(name.as_str()) {
+            return Ok((name, n));
+        }
+    }
+    Ok((numbered(alloc, base, most)?, most))
+}
+
+/// What `fresh` gives, where the search for a number goes on from the one that is kept.
+pub fn fresh_beside<'a>(
+    alloc: Global,
+    used: &UsedNames,
+    numbers: &mut NextNumbers<'a>,
+    base: &'a Name,
+) -> Result<Name, Memory>
+    requires { AreUsedBelow (all_used used.now) numbers.old }
+    ensures name { IfOk result (λ it. it ≡ the_fresh base.now (all_used used.now)) }
+    ensures numbers { OnOk result (AreUsedBelow (all_used used.now) numbers.new) }
+{
+    if used.contains(base.as_str()) {
+        let key = base.as_str().as_bytes();
+        let most = most(used)?;
+        let start = numbers.next(key).min(most);
+        let (name, number) = free_from(alloc, used, base.as_str(), start, most)?;
+        numbers.put(key, number)?;
+        Ok(name)
+    } else {
+        base.copy(alloc)
+    }
+}
