@@ -1,20 +1,20 @@
--- Each form of a test and of a selector without a slot; lists and sections, one more at a time.
+-- Each form of a test and of a selector without a slot; lists and sections, entry by entry.
 use mathlib.Core.Path.{ap₂}
-use Rattle.std.proofs.Common.{ℕ, ℤ, ◌+◌, ◌<◌, ◌≤◌, List, [], ◌∷◌, ◌++◌, length, drop, get_or, ◌≡◌, refl, sym, ap, ◌∙◌}
+use Rattle.std.proofs.Common.{ℕ, suc, ℤ, ◌<◌, arith, List, [], ◌∷◌, length, get_or, ◌≡◌, sym, ap, ◌∙◌}
 use Rattle.c_tree.specs.declared.tree.Expression.{Expression}
 use Rattle.c_tree.specs.declared.tree.Test.{Test, Source, On, Off, AndOff, OrOn}
 use Rattle.c_tree.specs.declared.tree.Selector as S
 use Rattle.c_tree.specs.declared.tree.Item.{Item}
 use Rattle.c_tree.specs.declared.tree.Section as Real
+use Rattle.c_tree.specs.Paths.{list_of, with_list}
 use Rattle.c_tree.specs.ExpressionTrees.{expression_tree}
 use Rattle.c_tree.specs.TestTrees as P
 use Rattle.c_tree.specs.TestTrees.{test_tree, selector_tree}
-use Rattle.c_tree.specs.Trees.{Forest, Nil, Then, Sections, NoSection, Section, trees_of, sections_of, join}
-use Rattle.c_tree.specs.Changed.{one}
+use Rattle.c_tree.specs.Trees.{Then, Sections, Section, expression_trees, trees_of, sections_of}
 use Rattle.c_tree.proofs.ExpressionLaws.{test-Source, test-On, test-Off, test-AndOff, test-OrOn, selector-Source, selector-Pick}
-use Rattle.c_tree.proofs.TreeLaws.{sections-none}
+use Rattle.c_tree.proofs.TreeLaws.{trees-none, sections-none}
 use Rattle.tree_views.specs.Views.{tree_at, before}
-use Rattle.tree_views.proofs.Views.{trees-at, trees-end, trees-push, section-first, sections-at, sections-end}
+use Rattle.tree_views.proofs.Views.{trees-first, section-first}
 use Rattle.tidy_changes.specs.Renumbered.{renumbered, renumbered_test, renumbered_selector, renumbered_item, renumbered_list, renumbered_sections}
 
 module _ (g : ℕ) where
@@ -50,50 +50,33 @@ module _ (g : ℕ) where
 
 -- ---- lists
 
-join_join : (a b c : Forest) → join (join a b) c ≡ join a (join b c)
-join_join Nil b c = refl
-join_join (Then x xs) b c = ap (Then x) (join_join xs b c)
+module _ (g : ℕ) where
+  abbrev pub SameItem : Item → Item → Type 0
+  SameItem x y = tree_at y ≡ renumbered_item g (tree_at x)
 
-join_nil : (a : Forest) → join a Nil ≡ a
-join_nil Nil = refl
-join_nil (Then x xs) = ap (Then x) (join_nil xs)
+  pub items_same : (xs ys : List Item) → length ys ≡ length xs → ((k : ℕ) (d : Item) → k < length ys → SameItem (get_or xs k d) (get_or ys k d)) → trees_of ys ≡ renumbered_list g (trees_of xs)
+  items_same [] [] e h = trees-none ∙ sym (ap (renumbered_list g) trees-none)
+  items_same [] (y ∷ ys) e h = absurd (omega (arith, e))
+  items_same (x ∷ xs) [] e h = absurd (omega (arith, e))
+  items_same (x ∷ xs) (y ∷ ys) e h =
+      trees-first y ys ∙ ap₂ Then (h 0 x (omega arith)) (items_same xs ys (omega (arith, e)) (λ k d l. h (suc k) d (omega (arith, l))))
+      ∙ sym (ap (renumbered_list g) (trees-first x xs))
 
-abbrev pub joined : Sections → Sections → Sections
-joined NoSection d = d
-joined (Section cases default a ends c) d = Section cases default a ends (joined c d)
+  abbrev pub SameSection : Real.Section → Real.Section → Type 0
+  SameSection s t = (trees_of (list_of t) ≡ renumbered_list g (trees_of (list_of s))) × (t ≡ with_list (list_of t) s)
 
-joined_none : (c : Sections) → joined c NoSection ≡ c
-joined_none NoSection = refl
-joined_none (Section cases default a ends c) = ap (Section cases default a ends) (joined_none c)
+  section_same : (s t : Real.Section) (d : Sections) → SameSection s t → before t (renumbered_sections g d) ≡ renumbered_sections g (before s d)
+  section_same s t d h =
+      let o = Real.out-Section s in
+      ap (λ c. before c (renumbered_sections g d)) h.1
+      ∙ ap (λ o. Section (expression_trees o.cases) o.default (trees_of o.list) o.ends (renumbered_sections g d)) (Real.out-roll-Section (record { cases = o.cases; default = o.default; list = list_of t; ends = o.ends }))
+      ∙ ap (λ a. Section (expression_trees o.cases) o.default a o.ends (renumbered_sections g d)) h.0
 
-one_behind : (cs : List Real.Section) (c : Real.Section) (d : Sections) → joined (sections_of (cs ++ c ∷ [])) d ≡ joined (sections_of cs) (before c d)
-one_behind [] c d = ap (λ z. joined z d) (section-first c [] ∙ ap (before c) sections-none) ∙ sym (ap (λ z. joined z (before c d)) sections-none)
-one_behind (x ∷ xs) c d =
-    ap (λ z. joined z d) (section-first x (xs ++ c ∷ [])) ∙ ap (before x) (one_behind xs c d) ∙ sym (ap (λ z. joined z (before c d)) (section-first x xs))
-
-module _ (g : ℕ) (xs : List Item) where
-  -- so many items are done
-  abbrev pub Done : List Item → ℕ → Type 0
-  Done out i = join (trees_of out) (renumbered_list g (trees_of (drop i xs))) ≡ renumbered_list g (trees_of xs)
-
-  pub more_done : (out : List Item) (i : ℕ) (x y : Item) → i < length xs → x ≡ get_or xs i x → tree_at y ≡ renumbered_item g (tree_at x) → Done out i → Done (out ++ y ∷ []) (i + 1)
-  more_done out i x y h e k d =
-      let rest = renumbered_list g (trees_of (drop (i + 1) xs)) in
-      ap (λ z. join z rest) (trees-push out y) ∙ join_join (trees_of out) (one (tree_at y)) rest ∙ ap (λ z. join (trees_of out) (Then z rest)) k
-      ∙ sym (ap (λ z. join (trees_of out) (renumbered_list g z)) (trees-at xs i x h e)) ∙ d
-
-  pub all_done : (out : List Item) (i : ℕ) → length xs ≤ i → Done out i → trees_of out ≡ renumbered_list g (trees_of xs)
-  all_done out i h d = sym (join_nil (trees_of out)) ∙ sym (ap (λ z. join (trees_of out) (renumbered_list g z)) (trees-end xs i h)) ∙ d
-
-module _ (g : ℕ) (cs : List Real.Section) where
-  abbrev pub SectionsDone : List Real.Section → ℕ → Type 0
-  SectionsDone out i = joined (sections_of out) (renumbered_sections g (sections_of (drop i cs))) ≡ renumbered_sections g (sections_of cs)
-
-  pub more_sections : (out : List Real.Section) (i : ℕ) (x y : Real.Section) → i < length cs → x ≡ get_or cs i x → ((d : Sections) → before y (renumbered_sections g d) ≡ renumbered_sections g (before x d)) → SectionsDone out i → SectionsDone (out ++ y ∷ []) (i + 1)
-  more_sections out i x y h e k d =
-      let rest = sections_of (drop (i + 1) cs) in
-      one_behind out y (renumbered_sections g rest) ∙ ap (joined (sections_of out)) (k rest)
-      ∙ sym (ap (λ z. joined (sections_of out) (renumbered_sections g z)) (sections-at cs i x h e)) ∙ d
-
-  pub all_sections : (out : List Real.Section) (i : ℕ) → length cs ≤ i → SectionsDone out i → sections_of out ≡ renumbered_sections g (sections_of cs)
-  all_sections out i h d = sym (joined_none (sections_of out)) ∙ sym (ap (λ z. joined (sections_of out) (renumbered_sections g z)) (sections-end cs i h)) ∙ d
+  pub sections_same : (xs ys : List Real.Section) → length ys ≡ length xs → ((k : ℕ) (d : Real.Section) → k < length ys → SameSection (get_or xs k d) (get_or ys k d)) → sections_of ys ≡ renumbered_sections g (sections_of xs)
+  sections_same [] [] e h = sections-none ∙ sym (ap (renumbered_sections g) sections-none)
+  sections_same [] (y ∷ ys) e h = absurd (omega (arith, e))
+  sections_same (x ∷ xs) [] e h = absurd (omega (arith, e))
+  sections_same (x ∷ xs) (y ∷ ys) e h =
+      section-first y ys ∙ ap (before y) (sections_same xs ys (omega (arith, e)) (λ k d l. h (suc k) d (omega (arith, l))))
+      ∙ section_same x y (sections_of xs) (h 0 x (omega arith))
+      ∙ sym (ap (renumbered_sections g) (section-first x xs))

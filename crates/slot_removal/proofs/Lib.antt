@@ -1,2 +1,3 @@
 pub mod RemovalLaws
 pub mod ItemRemovals
+pub mod LoopLaws

@@ -1,6 +1,6 @@
 -- Each form of an expression without a slot.
 use mathlib.Core.Path.{ap₂}
-use Rattle.std.proofs.Common.{ℕ, ℤ, Bool, List, [], ◌∷◌, map, Option, ◌≡◌, refl, sym, ap, ◌∙◌}
+use Rattle.std.proofs.Common.{ℕ, suc, ◌<◌, arith, length, get_or, ℤ, Bool, List, [], ◌∷◌, map, Option, ◌≡◌, refl, sym, ap, ◌∙◌}
 use Rattle.c_types.specs.declared.kinds.ArithOp.{ArithOp}
 use Rattle.c_types.specs.declared.kinds.IntKind.{IntKind}
 use Rattle.c_tree.specs.declared.tree.UnaryOp.{UnaryOp}
@@ -15,13 +15,13 @@ use Rattle.c_tree.proofs.ExpressionLaws.{expression-parts, place-Var, place-Cell
 use Rattle.tidy_changes.specs.Renumbered.{renumbered_home, renumbered, renumbered_place, renumbered_node, renumbered_arguments}
 
 module _ (g : ℕ) where
-  abbrev Same : Expression → Expression → Type 0
+  abbrev pub Same : Expression → Expression → Type 0
   Same a b = expression_tree b ≡ renumbered g (expression_tree a)
 
-  abbrev SamePlace : Place → Place → Type 0
+  abbrev pub SamePlace : Place → Place → Type 0
   SamePlace p q = place_tree q ≡ renumbered_place g (place_tree p)
 
-  abbrev SameNode : Node → Node → Type 0
+  abbrev pub SameNode : Node → Node → Type 0
   SameNode n m = node_tree m ≡ renumbered_node g (node_tree n)
 
   pub whole : (e : Expression) (k : Option IntKind) (m : Node) → (out-Expression e).kind ≡ k → SameNode (out-Expression e).node m → Same e (roll-Expression (record { kind = k; node = m }))
@@ -31,6 +31,9 @@ module _ (g : ℕ) where
       ∙ ap (Typed k) i
       ∙ ap (λ k. Typed k (renumbered_node g (node_tree (out-Expression e).node))) (sym h)
       ∙ sym (ap (renumbered g) (expression-parts e))
+
+  pub lent : (a r b : Expression) → r ≡ a → expression_tree b ≡ renumbered g (expression_tree r) → Same a b
+  lent a r b e h = h ∙ ap (λ z. renumbered g (expression_tree z)) e
 
   -- by its form
   by_form : (n m : Node) (t : Plain.NodeTree) → n ≡ m → node_tree m ≡ t → renumbered_node g (node_tree n) ≡ renumbered_node g t
@@ -94,3 +97,10 @@ module _ (g : ℕ) where
   in-Call n m k xs ys e h i =
       node-Call k ys ∙ ap₂ (λ m ts. Plain.Call m (arguments ts)) h i ∙ ap (Plain.Call m) (renumbered_all (map expression_tree xs))
       ∙ sym (by_form n (Call m xs) _ e (node-Call m xs))
+
+  -- expression by expression
+  pub each_same : (xs ys : List Expression) → length ys ≡ length xs → ((k : ℕ) (d : Expression) → k < length ys → Same (get_or xs k d) (get_or ys k d)) → map expression_tree ys ≡ map (renumbered g) (map expression_tree xs)
+  each_same [] [] e h = refl
+  each_same [] (y ∷ ys) e h = absurd (omega (arith, e))
+  each_same (x ∷ xs) [] e h = absurd (omega (arith, e))
+  each_same (x ∷ xs) (y ∷ ys) e h = ap₂ (λ z zs. z ∷ zs) (h 0 x (omega arith)) (each_same xs ys (omega (arith, e)) (λ k d l. h (suc k) d (omega (arith, l))))

@@ -1,11 +1,11 @@
-ghost use Rattle.std.specs.Prelude.{◌≡◌, map, option_map, IfOk};
-ghost use Rattle.c_tree.specs.ExpressionTrees.{expression_tree, place_tree, node_tree, arguments};
+ghost use Rattle.std.specs.Prelude.{◌≡◌, length, map, option_map};
+ghost use Rattle.c_tree.specs.ExpressionTrees.{expression_tree, place_tree, node_tree};
 ghost use Rattle.c_tree.specs.Trees.{expression_trees};
-ghost use Rattle.tidy_changes.specs.Renumbered.{new_number as the_new_number, renumbered_home, renumbered, renumbered_place, renumbered_node, renumbered_option, renumbered_values};
+ghost use Rattle.tidy_changes.specs.Renumbered.{new_number as the_new_number, renumbered_home as the_renumbered_home, renumbered, renumbered_place as the_renumbered_place, renumbered_node as the_renumbered_node, renumbered_option as the_renumbered_option, renumbered_values as the_renumbered_values};
 
 use c_tree::{Expression, Home, Node, Place};
-use c_types::{Boxed, List, Memory};
-use std::alloc::Global;
+use c_types::List;
+use std::mem;
 
 /// The number of another slot once the slot is gone.
 pub fn new_number(slot: u32, at: u32) -> u32
@@ -14,141 +14,123 @@ pub fn new_number(slot: u32, at: u32) -> u32
     if slot < at { at - 1 } else { at }
 }
 
-fn home_without(alloc: Global, slot: u32, home: &Home) -> Result<Home, Memory>
-    ensures { IfOk result (λ it. it ≡ renumbered_home slot home.now) }
+fn renumbered_home(slot: u32, home: Home) -> Home
+    ensures { result ≡ the_renumbered_home slot home }
 {
     match home {
-        Home::Global(name) => Ok(Home::Global(name.copy(alloc)?)),
-        Home::Slot(at) => Ok(Home::Slot(new_number(slot, *at))),
+        Home::Global(name) => Home::Global(name),
+        Home::Slot(at) => Home::Slot(new_number(slot, at)),
     }
 }
 
-/// An expression without the slot, which it doesn't name.
-#[cycle(without)]
-pub fn expression_without(alloc: Global, slot: u32, e: &Expression) -> Result<Expression, Memory>
-    ensures { IfOk result (λ it. expression_tree it ≡ renumbered slot (expression_tree e.now)) }
+/// Takes the slot, which it doesn't name, out of an expression.
+#[cycle(renumbering)]
+pub fn renumber_expression(slot: u32, e: &mut Expression)
+    ensures { expression_tree e.new ≡ renumbered slot (expression_tree e.old) }
 {
-    let node = node_without(alloc, slot, &e.node)?;
-    Ok(Expression { kind: e.kind, node })
+    let kind = e.kind;
+    let taken = mem::replace(&mut e.node, Node::Number(0));
+    let node = renumbered_node(slot, taken);
+    let old = mem::replace(e, Expression { kind, node });
+    drop(old);
 }
 
-#[cycle(without)]
-fn boxed_without(
-    alloc: Global,
-    slot: u32,
-    e: &Boxed<Expression>,
-) -> Result<Boxed<Expression>, Memory>
-    ensures { IfOk result (λ it. expression_tree it ≡ renumbered slot (expression_tree e.now)) }
-{
-    let inner = expression_without(alloc, slot, e.get())?;
-    Ok(Boxed::new(alloc, inner)?)
-}
-
-#[cycle(without)]
-fn place_without(alloc: Global, slot: u32, place: &Place) -> Result<Place, Memory>
-    ensures { IfOk result (λ it. place_tree it ≡ renumbered_place slot (place_tree place.now)) }
+#[cycle(renumbering)]
+fn renumbered_place(slot: u32, place: Place) -> Place
+    ensures { place_tree result ≡ the_renumbered_place slot (place_tree place) }
 {
     match place {
-        Place::Var(home) => Ok(Place::Var(home_without(alloc, slot, home)?)),
-        Place::Cell(home, at) => {
-            let at = boxed_without(alloc, slot, at)?;
-            let home = home_without(alloc, slot, home)?;
-            Ok(Place::Cell(home, at))
+        Place::Var(home) => Place::Var(renumbered_home(slot, home)),
+        Place::Cell(home, mut at) => {
+            renumber_expression(slot, at.get_mut());
+            Place::Cell(renumbered_home(slot, home), at)
         }
     }
 }
 
-#[cycle(without)]
-fn node_without(alloc: Global, slot: u32, node: &Node) -> Result<Node, Memory>
-    ensures { IfOk result (λ it. node_tree it ≡ renumbered_node slot (node_tree node.now)) }
+#[cycle(renumbering)]
+fn renumbered_node(slot: u32, node: Node) -> Node
+    ensures { node_tree result ≡ the_renumbered_node slot (node_tree node) }
 {
     match node {
-        Node::Number(n) => Ok(Node::Number(*n)),
-        Node::Character(c) => Ok(Node::Character(*c)),
-        Node::EnumName(name, n) => Ok(Node::EnumName(name.copy(alloc)?, *n)),
-        Node::Text(text) => Ok(Node::Text(List::from_slice(alloc, text.as_slice())?)),
-        Node::Array(home) => Ok(Node::Array(home_without(alloc, slot, home)?)),
-        Node::Read(place) => Ok(Node::Read(place_without(alloc, slot, place)?)),
-        Node::Unary(op, a) => Ok(Node::Unary(*op, boxed_without(alloc, slot, a)?)),
-        Node::Cast(a) => Ok(Node::Cast(boxed_without(alloc, slot, a)?)),
-        Node::Binary(op, a, b) => {
-            let a = boxed_without(alloc, slot, a)?;
-            let b = boxed_without(alloc, slot, b)?;
-            Ok(Node::Binary(*op, a, b))
+        Node::Array(home) => Node::Array(renumbered_home(slot, home)),
+        Node::Read(place) => Node::Read(renumbered_place(slot, place)),
+        Node::Unary(op, mut a) => {
+            renumber_expression(slot, a.get_mut());
+            Node::Unary(op, a)
         }
-        Node::Conditional(a, b, c) => {
-            let a = boxed_without(alloc, slot, a)?;
-            let b = boxed_without(alloc, slot, b)?;
-            let c = boxed_without(alloc, slot, c)?;
-            Ok(Node::Conditional(a, b, c))
+        Node::Cast(mut a) => {
+            renumber_expression(slot, a.get_mut());
+            Node::Cast(a)
         }
-        Node::Assign(place, a) => {
-            let a = boxed_without(alloc, slot, a)?;
-            let place = place_without(alloc, slot, place)?;
-            Ok(Node::Assign(place, a))
+        Node::Binary(op, mut a, mut b) => {
+            renumber_expression(slot, a.get_mut());
+            renumber_expression(slot, b.get_mut());
+            Node::Binary(op, a, b)
         }
-        Node::Update(op, place, a) => {
-            let a = boxed_without(alloc, slot, a)?;
-            let place = place_without(alloc, slot, place)?;
-            Ok(Node::Update(*op, place, a))
+        Node::Conditional(mut a, mut b, mut c) => {
+            renumber_expression(slot, a.get_mut());
+            renumber_expression(slot, b.get_mut());
+            renumber_expression(slot, c.get_mut());
+            Node::Conditional(a, b, c)
         }
-        Node::Count(place, up, after) => {
-            let place = place_without(alloc, slot, place)?;
-            Ok(Node::Count(place, *up, *after))
+        Node::Assign(place, mut a) => {
+            renumber_expression(slot, a.get_mut());
+            Node::Assign(renumbered_place(slot, place), a)
         }
-        Node::Comma(a, b) => {
-            let a = boxed_without(alloc, slot, a)?;
-            let b = boxed_without(alloc, slot, b)?;
-            Ok(Node::Comma(a, b))
+        Node::Update(op, place, mut a) => {
+            renumber_expression(slot, a.get_mut());
+            Node::Update(op, renumbered_place(slot, place), a)
         }
-        Node::Call(name, args) => {
-            let name = name.copy(alloc)?;
-            let args = expressions_without(alloc, slot, args.as_slice())?;
-            Ok(Node::Call(name, args))
+        Node::Count(place, up, after) => Node::Count(renumbered_place(slot, place), up, after),
+        Node::Comma(mut a, mut b) => {
+            renumber_expression(slot, a.get_mut());
+            renumber_expression(slot, b.get_mut());
+            Node::Comma(a, b)
         }
+        Node::Call(name, mut args) => {
+            renumber_each(slot, args.as_mut_slice());
+            Node::Call(name, args)
+        }
+        Node::Number(n) => Node::Number(n),
+        Node::Character(c) => Node::Character(c),
+        Node::EnumName(name, n) => Node::EnumName(name, n),
+        Node::Text(text) => Node::Text(text),
     }
 }
 
-/// Expressions without the slot.
-#[cycle(without)]
-fn expressions_without(
-    alloc: Global,
-    slot: u32,
-    items: &[Expression],
-) -> Result<List<Expression>, Memory>
-    ensures { IfOk result (λ it. map expression_tree it ≡ map (renumbered slot) (map expression_tree items.now)) }
+#[cycle(renumbering)]
+fn renumber_each(slot: u32, items: &mut [Expression])
+    ensures as_long { length items.new ≡ length items.old }
+    ensures made { map expression_tree items.new ≡ map (renumbered slot) (map expression_tree items.old) }
 {
-    let mut out = List::new(alloc);
-    for item in items {
-        out.push(expression_without(alloc, slot, item)?)?;
+    for i in 0..items.len() {
+        renumber_expression(slot, &mut items[i]);
     }
-    Ok(out)
 }
 
 /// An expression without the slot, if there is one.
-pub fn option_without(
-    alloc: Global,
-    slot: u32,
-    e: &Option<Expression>,
-) -> Result<Option<Expression>, Memory>
-    ensures { IfOk result (λ it. option_map expression_tree it ≡ renumbered_option slot (option_map expression_tree e.now)) }
+pub fn renumbered_option(slot: u32, e: Option<Expression>) -> Option<Expression>
+    ensures { option_map expression_tree result ≡ the_renumbered_option slot (option_map expression_tree e) }
 {
     match e {
-        Some(e) => Ok(Some(expression_without(alloc, slot, e)?)),
-        None => Ok(None),
+        Some(mut e) => {
+            renumber_expression(slot, &mut e);
+            Some(e)
+        }
+        None => None,
     }
 }
 
 /// Initialisers without the slot, if there are any.
-pub fn values_without(
-    alloc: Global,
-    slot: u32,
-    values: &Option<List<Expression>>,
-) -> Result<Option<List<Expression>>, Memory>
-    ensures { IfOk result (λ it. option_map expression_trees it ≡ renumbered_values slot (option_map expression_trees values.now)) }
+pub fn renumbered_values(slot: u32, values: Option<List<Expression>>) -> Option<List<Expression>>
+    ensures { option_map expression_trees result ≡ the_renumbered_values slot (option_map expression_trees values) }
 {
     match values {
-        Some(es) => Ok(Some(expressions_without(alloc, slot, es.as_slice())?)),
-        None => Ok(None),
+        Some(mut es) => {
+            renumber_each(slot, es.as_mut_slice());
+            Some(es)
+        }
+        None => None,
     }
 }

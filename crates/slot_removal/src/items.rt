@@ -1,138 +1,148 @@
-ghost use Rattle.std.specs.Prelude.{◌≡◌, IfOk};
+ghost use Rattle.std.specs.Prelude.{◌≡◌, length};
+ghost use Rattle.c_tree.specs.Paths.{list_of, with_list};
 ghost use Rattle.c_tree.specs.TestTrees.{test_tree, selector_tree};
-ghost use Rattle.c_tree.specs.Trees.{Sections, trees_of, sections_of};
-ghost use Rattle.tidy_changes.specs.Renumbered.{renumbered_test, renumbered_selector, renumbered_item, renumbered_list, renumbered_sections};
-ghost use Rattle.tree_views.specs.Views.{tree_at, before};
+ghost use Rattle.c_tree.specs.Trees.{trees_of, sections_of};
+ghost use Rattle.tidy_changes.specs.Renumbered.{renumbered_test as the_renumbered_test, renumbered_selector as the_renumbered_selector, renumbered_item, renumbered_list, renumbered_sections};
+ghost use Rattle.tree_views.specs.Views.{tree_at};
 
-use crate::expressions::{expression_without, new_number, option_without, values_without};
-use c_copies::{copy_expressions, copy_option};
-use c_tree::{Item, Section, Selector, Test};
-use c_types::{Boxed, List, Memory};
-use std::alloc::Global;
+use crate::expressions::{new_number, renumber_expression, renumbered_option, renumbered_values};
+use c_tree::{Expression, Item, Node, Section, Selector, Test};
+use c_types::List;
+use std::mem;
 
 /// A test without the slot, which it doesn't name.
-pub fn test_without(alloc: Global, slot: u32, test: &Test) -> Result<Test, Memory>
-    ensures { IfOk result (λ it. test_tree it ≡ renumbered_test slot (test_tree test.now)) }
+pub fn renumbered_test(slot: u32, test: Test) -> Test
+    ensures { test_tree result ≡ the_renumbered_test slot (test_tree test) }
 {
     match test {
-        Test::Source(e) => Ok(Test::Source(expression_without(alloc, slot, e)?)),
-        Test::On(label) => Ok(Test::On(*label)),
-        Test::Off(label) => Ok(Test::Off(*label)),
-        Test::AndOff(label, rest) => {
-            let rest = test_without(alloc, slot, rest.get())?;
-            Ok(Test::AndOff(*label, Boxed::new(alloc, rest)?))
+        Test::Source(mut e) => {
+            renumber_expression(slot, &mut e);
+            Test::Source(e)
         }
-        Test::OrOn(label, rest) => {
-            let rest = test_without(alloc, slot, rest.get())?;
-            Ok(Test::OrOn(*label, Boxed::new(alloc, rest)?))
+        Test::On(label) => Test::On(label),
+        Test::Off(label) => Test::Off(label),
+        Test::AndOff(label, mut rest) => {
+            let inner = mem::replace(rest.get_mut(), Test::On(0));
+            rest.set(renumbered_test(slot, inner));
+            Test::AndOff(label, rest)
+        }
+        Test::OrOn(label, mut rest) => {
+            let inner = mem::replace(rest.get_mut(), Test::On(0));
+            rest.set(renumbered_test(slot, inner));
+            Test::OrOn(label, rest)
         }
     }
 }
 
-fn selector_without(alloc: Global, slot: u32, selector: &Selector) -> Result<Selector, Memory>
-    ensures { IfOk result (λ it. selector_tree it ≡ renumbered_selector slot (selector_tree selector.now)) }
+/// A selector that stands in the place of one that is taken out.
+fn placeholder() -> Selector {
+    Selector::Source(Expression {
+        kind: None,
+        node: Node::Number(0),
+    })
+}
+
+fn renumbered_selector(slot: u32, selector: Selector) -> Selector
+    ensures { selector_tree result ≡ the_renumbered_selector slot (selector_tree selector) }
 {
     match selector {
-        Selector::Source(e) => Ok(Selector::Source(expression_without(alloc, slot, e)?)),
-        Selector::Pick(label, n, rest) => {
-            let rest = selector_without(alloc, slot, rest.get())?;
-            Ok(Selector::Pick(*label, *n, Boxed::new(alloc, rest)?))
+        Selector::Source(mut e) => {
+            renumber_expression(slot, &mut e);
+            Selector::Source(e)
+        }
+        Selector::Pick(label, n, mut rest) => {
+            let inner = mem::replace(rest.get_mut(), placeholder());
+            rest.set(renumbered_selector(slot, inner));
+            Selector::Pick(label, n, rest)
         }
     }
 }
 
-/// A list without the slot, which it doesn't name.
+/// Takes the slot, which it doesn't name, out of a list.
 #[cycle(items)]
-pub fn list_without(alloc: Global, slot: u32, list: &List<Item>) -> Result<List<Item>, Memory>
-    ensures { IfOk result (λ it. trees_of it ≡ renumbered_list slot (trees_of list.now)) }
+pub fn renumber_list(slot: u32, list: &mut List<Item>)
+    ensures { trees_of list.new ≡ renumbered_list slot (trees_of list.old) }
 {
-    items_without(alloc, slot, list.as_slice())
+    renumber_items(slot, list.as_mut_slice());
 }
 
 #[cycle(items)]
-fn items_without(alloc: Global, slot: u32, items: &[Item]) -> Result<List<Item>, Memory>
-    ensures { IfOk result (λ it. trees_of it ≡ renumbered_list slot (trees_of items.now)) }
+fn renumber_items(slot: u32, items: &mut [Item])
+    ensures as_long { length items.new ≡ length items.old }
+    ensures made { trees_of items.new ≡ renumbered_list slot (trees_of items.old) }
 {
-    let mut out = List::new(alloc);
     for i in 0..items.len() {
-        out.push(item_without(alloc, slot, &items[i])?)?;
-    }
-    Ok(out)
-}
-
-#[cycle(items)]
-fn item_without(alloc: Global, slot: u32, item: &Item) -> Result<Item, Memory>
-    ensures { IfOk result (λ it. tree_at it ≡ renumbered_item slot (tree_at item.now)) }
-{
-    match item {
-        Item::Evaluate(e) => Ok(Item::Evaluate(expression_without(alloc, slot, e)?)),
-        Item::Return(e) => Ok(Item::Return(option_without(alloc, slot, e)?)),
-        Item::If(test, a, b) => {
-            let test = test_without(alloc, slot, test)?;
-            let a = list_without(alloc, slot, a)?;
-            let b = list_without(alloc, slot, b)?;
-            Ok(Item::If(test, a, b))
-        }
-        Item::While(test, a) => {
-            let test = test_without(alloc, slot, test)?;
-            let a = list_without(alloc, slot, a)?;
-            Ok(Item::While(test, a))
-        }
-        Item::Do(a, test) => {
-            let a = list_without(alloc, slot, a)?;
-            let test = test_without(alloc, slot, test)?;
-            Ok(Item::Do(a, test))
-        }
-        Item::For(first, test, third, a) => {
-            let first = list_without(alloc, slot, first)?;
-            let test = option_without(alloc, slot, test)?;
-            let third = option_without(alloc, slot, third)?;
-            let a = list_without(alloc, slot, a)?;
-            Ok(Item::For(first, test, third, a))
-        }
-        Item::Switch(selector, sections) => {
-            let selector = selector_without(alloc, slot, selector)?;
-            let sections = sections_without(alloc, slot, sections.as_slice())?;
-            Ok(Item::Switch(selector, sections))
-        }
-        Item::Block(a) => Ok(Item::Block(list_without(alloc, slot, a)?)),
-        Item::Local(at, values) => {
-            let values = values_without(alloc, slot, values)?;
-            Ok(Item::Local(new_number(slot, *at), values))
-        }
-        Item::Break => Ok(Item::Break),
-        Item::Continue => Ok(Item::Continue),
-        Item::Goto(label) => Ok(Item::Goto(*label)),
-        Item::Mark(label) => Ok(Item::Mark(*label)),
-        Item::Arm(label, e) => Ok(Item::Arm(*label, option_without(alloc, slot, e)?)),
-        Item::Leap(label) => Ok(Item::Leap(*label)),
-        Item::Land(label) => Ok(Item::Land(*label)),
-        Item::Arrival(e) => Ok(Item::Arrival(copy_option(alloc, e)?)),
-        Item::Note(bytes) => Ok(Item::Note(List::from_slice(alloc, bytes.as_slice())?)),
+        renumber_item(slot, &mut items[i]);
     }
 }
 
 #[cycle(items)]
-fn sections_without(alloc: Global, slot: u32, sections: &[Section]) -> Result<List<Section>, Memory>
-    ensures { IfOk result (λ it. sections_of it ≡ renumbered_sections slot (sections_of sections.now)) }
+fn renumber_sections(slot: u32, sections: &mut [Section])
+    ensures as_long { length sections.new ≡ length sections.old }
+    ensures made { sections_of sections.new ≡ renumbered_sections slot (sections_of sections.old) }
 {
-    let mut out = List::new(alloc);
     for i in 0..sections.len() {
-        out.push(section_without(alloc, slot, &sections[i])?)?;
+        renumber_section(slot, &mut sections[i]);
     }
-    Ok(out)
 }
 
 #[cycle(items)]
-fn section_without(alloc: Global, slot: u32, section: &Section) -> Result<Section, Memory>
-    ensures { IfOk result (λ it. (d : Sections) → before it (renumbered_sections slot d) ≡ renumbered_sections slot (before section.now d)) }
+fn renumber_section(slot: u32, section: &mut Section)
+    ensures list { trees_of (list_of section.new) ≡ renumbered_list slot (trees_of (list_of section.old)) }
+    ensures rest { section.new ≡ with_list (list_of section.new) section.old }
 {
-    let cases = copy_expressions(alloc, section.cases.as_slice())?;
-    let list = list_without(alloc, slot, &section.list)?;
-    Ok(Section {
-        cases,
-        default: section.default,
-        list,
-        ends: section.ends,
-    })
+    renumber_list(slot, &mut section.list);
+}
+
+#[cycle(items)]
+fn renumber_item(slot: u32, item: &mut Item)
+    ensures { tree_at item.new ≡ renumbered_item slot (tree_at item.old) }
+{
+    match mem::replace(item, Item::Break) {
+        Item::Evaluate(mut e) => {
+            renumber_expression(slot, &mut e);
+            *item = Item::Evaluate(e);
+        }
+        Item::Return(e) => *item = Item::Return(renumbered_option(slot, e)),
+        Item::If(test, mut a, mut b) => {
+            renumber_list(slot, &mut a);
+            renumber_list(slot, &mut b);
+            *item = Item::If(renumbered_test(slot, test), a, b);
+        }
+        Item::While(test, mut a) => {
+            renumber_list(slot, &mut a);
+            *item = Item::While(renumbered_test(slot, test), a);
+        }
+        Item::Do(mut a, test) => {
+            renumber_list(slot, &mut a);
+            *item = Item::Do(a, renumbered_test(slot, test));
+        }
+        Item::For(mut first, test, third, mut a) => {
+            renumber_list(slot, &mut first);
+            renumber_list(slot, &mut a);
+            let test = renumbered_option(slot, test);
+            let third = renumbered_option(slot, third);
+            *item = Item::For(first, test, third, a);
+        }
+        Item::Switch(selector, mut sections) => {
+            renumber_sections(slot, sections.as_mut_slice());
+            *item = Item::Switch(renumbered_selector(slot, selector), sections);
+        }
+        Item::Block(mut a) => {
+            renumber_list(slot, &mut a);
+            *item = Item::Block(a);
+        }
+        Item::Local(at, values) => {
+            *item = Item::Local(new_number(slot, at), renumbered_values(slot, values));
+        }
+        Item::Arm(label, e) => *item = Item::Arm(label, renumbered_option(slot, e)),
+        Item::Break => *item = Item::Break,
+        Item::Continue => *item = Item::Continue,
+        Item::Goto(label) => *item = Item::Goto(label),
+        Item::Mark(label) => *item = Item::Mark(label),
+        Item::Leap(label) => *item = Item::Leap(label),
+        Item::Land(label) => *item = Item::Land(label),
+        Item::Arrival(e) => *item = Item::Arrival(e),
+        Item::Note(bytes) => *item = Item::Note(bytes),
+    }
 }

@@ -1,8 +1,8 @@
-//! Expressions and items without a slot: each later slot has one number less.
+//! Expressions and items without a slot, in place: each later slot has one number less.
 #![tactic(auto)]
 
 mod expressions;
 mod items;
 
-pub use expressions::{expression_without, new_number, option_without, values_without};
-pub use items::{list_without, test_without};
+pub use expressions::{new_number, renumber_expression, renumbered_option, renumbered_values};
+pub use items::{renumber_list, renumbered_test};

@@ -1,8 +1,9 @@
-use Rattle.slot_removal.proofs.ItemRemovals.{Done, SectionsDone}
+use Rattle.slot_removal.proofs.ItemRemovals.{SameItem, SameSection}
+use Rattle.slot_removal.proofs.LoopLaws.{DoneTo}
 use Rattle.slot_removal.proofs.items.+items.Given as goal
 
-abbrev pub invariant-items_without-loop-i : goal.invariant-items_without-loop-i
-invariant-items_without-loop-i l = Done l.slot l.items l.out l.i
+abbrev pub invariant-renumber_items-loop-i : goal.invariant-renumber_items-loop-i
+invariant-renumber_items-loop-i l = goal.unvisited-renumber_items-loop-i l × DoneTo (SameItem l.slot) l.i l.initial.items l.items
 
-abbrev pub invariant-sections_without-loop-i : goal.invariant-sections_without-loop-i
-invariant-sections_without-loop-i l = SectionsDone l.slot l.sections l.out l.i
+abbrev pub invariant-renumber_sections-loop-i : goal.invariant-renumber_sections-loop-i
+invariant-renumber_sections-loop-i l = goal.unvisited-renumber_sections-loop-i l × DoneTo (SameSection l.slot) l.i l.initial.sections l.sections

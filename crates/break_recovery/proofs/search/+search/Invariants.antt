@@ -1,0 +1,38 @@
+use Rattle.std.proofs.Common.{◌≡◌, ◌+◌, ◌-◌, ◌*◌, length}
+use Rattle.c_tree.specs.Paths.{list_of}
+use Rattle.c_tree.specs.Trees.{tree_of, trees_of, sections_of}
+use Rattle.jump_meaning.specs.Code.{FunctionTree}
+use Rattle.loop_changes.specs.Slots.{Tells}
+use Rattle.break_recovery.proofs.Sizes.{items, items_of, items_in}
+use Rattle.break_recovery.proofs.Steps.{Goes, SectionsGo}
+use Rattle.break_recovery.proofs.search.+search.Given as goal
+
+abbrev pub decreases-change_item : goal.decreases-change_item
+decreases-change_item l = 6 * items_of (tree_of l.item.now)
+
+abbrev pub decreases-change_at : goal.decreases-change_at
+decreases-change_at l = 6 * items (trees_of l.list.now) + 1
+
+abbrev pub decreases-change_list : goal.decreases-change_list
+decreases-change_list l = 6 * items (trees_of l.list.now) + 2
+
+abbrev pub decreases-change_either : goal.decreases-change_either
+decreases-change_either l = 6 * (items (trees_of l.first.now) + items (trees_of l.second.now)) + 3
+
+abbrev pub decreases-change_section : goal.decreases-change_section
+decreases-change_section l = 6 * items (trees_of (list_of l.section.now)) + 3
+
+abbrev pub decreases-change_sections : goal.decreases-change_sections
+decreases-change_sections l = 6 * items_in (sections_of l.sections.now) + 4
+
+abbrev pub invariant-change_list-loop-i : goal.invariant-change_list-loop-i
+invariant-change_list-loop-i l = (l.list ≡ l.initial.list) × ((f : FunctionTree) → Tells l.counts f → Goes f l.level l.initial.list l.i)
+
+abbrev pub decreases-change_list-loop-i : goal.decreases-change_list-loop-i
+decreases-change_list-loop-i l = length l.list - l.i
+
+abbrev pub invariant-change_sections-loop-i : goal.invariant-change_sections-loop-i
+invariant-change_sections-loop-i l = (l.sections ≡ l.initial.sections) × ((f : FunctionTree) → Tells l.counts f → SectionsGo f l.level l.initial.sections l.i)
+
+abbrev pub decreases-change_sections-loop-i : goal.decreases-change_sections-loop-i
+decreases-change_sections-loop-i l = length l.sections - l.i

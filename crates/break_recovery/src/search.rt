@@ -1,0 +1,159 @@
+ghost use Rattle.std.specs.Prelude.{◌≡◌, ◌<◌, length, take, drop, None, IfOk};
+ghost use Rattle.c_tree.specs.Paths.{list_of, with_list};
+ghost use Rattle.c_tree.specs.Trees.{trees_of, sections_of, join};
+ghost use Rattle.jump_meaning.specs.Code.{FunctionTree};
+ghost use Rattle.tree_views.specs.Views.{tree_at};
+ghost use Rattle.loop_changes.specs.Slots.{Tells};
+ghost use Rattle.break_recovery.specs.Next.{put, next_list, next_at, next_item, next_either, next_sections, changed_to};
+
+use crate::here::change_here;
+use c_tree::{Item, Section};
+use c_types::{List, Memory};
+use std::alloc::Global;
+use std::mem;
+use tail_exits::deeper;
+
+/// Makes the next change of a list at this level, if one applies, and answers its slot. Else the list
+/// stays. The counts are those of the function.
+#[cycle(search)]
+pub fn change_list(
+    alloc: Global,
+    counts: &List<u64>,
+    level: u32,
+    list: &mut List<Item>,
+) -> Result<Option<u32>, Memory>
+    ensures made { IfOk result (λ it. (f : FunctionTree) → Tells counts.now f → changed_to it (trees_of list.new) ≡ next_list f level (trees_of list.old)) }
+    ensures kept { IfOk result (λ it. it ≡ None → list.new ≡ list.old) }
+{
+    let inside = deeper(level)?;
+    let mut i = 0;
+    while i < list.len() {
+        let change = change_at(alloc, counts, inside, list, i)?;
+        if change.is_some() {
+            return Ok(change);
+        }
+        i += 1;
+    }
+    Ok(None)
+}
+
+#[cycle(search)]
+fn change_at(
+    alloc: Global,
+    counts: &List<u64>,
+    level: u32,
+    list: &mut List<Item>,
+    at: usize,
+) -> Result<Option<u32>, Memory>
+    requires { at < length list.old }
+    ensures made { IfOk result (λ it. (f : FunctionTree) → Tells counts.now f → changed_to it (trees_of list.new) ≡ put (join (trees_of (take at list.old))) (next_at f level (trees_of (drop at list.old)))) }
+    ensures kept { IfOk result (λ it. it ≡ None → list.new ≡ list.old) }
+{
+    let here = change_here(alloc, counts, level, list, at)?;
+    if here.is_some() {
+        return Ok(here);
+    }
+    change_item(alloc, counts, level, list.at_mut(at))
+}
+
+#[cycle(search)]
+fn change_item(
+    alloc: Global,
+    counts: &List<u64>,
+    level: u32,
+    item: &mut Item,
+) -> Result<Option<u32>, Memory>
+    ensures made { IfOk result (λ it. (f : FunctionTree) → Tells counts.now f → changed_to it (tree_at item.new) ≡ next_item f level (tree_at item.old)) }
+    ensures kept { IfOk result (λ it. it ≡ None → item.new ≡ item.old) }
+{
+    match mem::replace(item, Item::Break) {
+        Item::If(test, mut a, mut b) => {
+            let change = change_either(alloc, counts, level, &mut a, &mut b);
+            *item = Item::If(test, a, b);
+            change
+        }
+        Item::While(test, mut a) => {
+            let change = change_list(alloc, counts, level, &mut a);
+            *item = Item::While(test, a);
+            change
+        }
+        Item::Do(mut a, test) => {
+            let change = change_list(alloc, counts, level, &mut a);
+            *item = Item::Do(a, test);
+            change
+        }
+        Item::For(mut first, test, third, mut a) => {
+            let change = change_either(alloc, counts, level, &mut first, &mut a);
+            *item = Item::For(first, test, third, a);
+            change
+        }
+        Item::Switch(selector, mut sections) => {
+            let change = change_sections(alloc, counts, level, &mut sections);
+            *item = Item::Switch(selector, sections);
+            change
+        }
+        Item::Block(mut a) => {
+            let change = change_list(alloc, counts, level, &mut a);
+            *item = Item::Block(a);
+            change
+        }
+        other => {
+            *item = other;
+            Ok(None)
+        }
+    }
+}
+
+/// The same in the first of two lists, or else in the second.
+#[cycle(search)]
+fn change_either(
+    alloc: Global,
+    counts: &List<u64>,
+    level: u32,
+    first: &mut List<Item>,
+    second: &mut List<Item>,
+) -> Result<Option<u32>, Memory>
+    ensures made { IfOk result (λ it. (f : FunctionTree) → Tells counts.now f → changed_to it (trees_of first.new, trees_of second.new) ≡ next_either f level (trees_of first.old) (trees_of second.old)) }
+    ensures kept { IfOk result (λ it. it ≡ None → (first.new ≡ first.old) × (second.new ≡ second.old)) }
+{
+    let change = change_list(alloc, counts, level, first)?;
+    if change.is_some() {
+        return Ok(change);
+    }
+    change_list(alloc, counts, level, second)
+}
+
+#[cycle(search)]
+fn change_sections(
+    alloc: Global,
+    counts: &List<u64>,
+    level: u32,
+    sections: &mut List<Section>,
+) -> Result<Option<u32>, Memory>
+    ensures made { IfOk result (λ it. (f : FunctionTree) → Tells counts.now f → changed_to it (sections_of sections.new) ≡ next_sections f level (sections_of sections.old)) }
+    ensures kept { IfOk result (λ it. it ≡ None → sections.new ≡ sections.old) }
+{
+    let mut i = 0;
+    while i < sections.len() {
+        let change = change_section(alloc, counts, level, sections.at_mut(i))?;
+        if change.is_some() {
+            return Ok(change);
+        }
+        i += 1;
+    }
+    Ok(None)
+}
+
+#[cycle(search)]
+fn change_section(
+    alloc: Global,
+    counts: &List<u64>,
+    level: u32,
+    section: &mut Section,
+) -> Result<Option<u32>, Memory>
+    ensures made { IfOk result (λ it. (f : FunctionTree) → Tells counts.now f → changed_to it (trees_of (list_of section.new)) ≡ next_list f level (trees_of (list_of section.old))) }
+    ensures rest { IfOk result (λ it. section.new ≡ with_list (list_of section.new) section.old) }
+    ensures kept { IfOk result (λ it. it ≡ None → section.new ≡ section.old) }
+{
+    change_list(alloc, counts, level, &mut section.list)
+}

@@ -1,0 +1,6 @@
+//! The first jump of a file.
+#![tactic(auto)]
+
+mod jumps;
+
+pub use jumps::first_jump;

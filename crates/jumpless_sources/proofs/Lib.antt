@@ -1,0 +1,4 @@
+pub mod Still
+pub mod Sections
+pub mod Statements
+pub mod Files

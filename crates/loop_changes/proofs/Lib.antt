@@ -1,0 +1,4 @@
+pub mod Single
+pub mod AtLoop
+pub mod Read
+pub mod Kept

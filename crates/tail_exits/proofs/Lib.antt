@@ -1,0 +1,4 @@
+pub mod FormLaws
+pub mod Gone
+pub mod Counted
+pub mod Made
