@@ -1,4 +1,4 @@
-/* Copies the input up to its end or to a q: either leaves the loop by a jump. */
+/* Copies the input up to its end or to a q: both leave the loop by one jump each, which tidy makes a break. */
 int main(void) {
     int c;
     while (1) {

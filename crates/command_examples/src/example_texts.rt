@@ -1,7 +1,7 @@
 //! The texts of examples/, and the results that stand beside them there.
 
 /// Behind `====` the name and the text, behind the first `----` the line on the standard error and the report, and
-/// behind the second the text that is written.
+/// behind the second the text that is written; where `tidy` changes that, behind a third its line and its text.
 pub static EXAMPLES: &str = r#"
 ==== examples/cleanup.c
 #include <stdio.h>
@@ -168,7 +168,7 @@ void send(int count, const char bytes[]) {
     goto_break_1 = 0;
 }
 ==== examples/echo.c
-/* Copies the input up to its end or to a q: either leaves the loop by a jump. */
+/* Copies the input up to its end or to a q: both leave the loop by one jump each, which tidy makes a break. */
 int main(void) {
     int c;
     while (1) {
@@ -188,7 +188,7 @@ main out end 0.b.3
 main join end 1
 main z2 end 0
 ----
-/* Copies the input up to its end or to a q: either leaves the loop by a jump. */
+/* Copies the input up to its end or to a q: both leave the loop by one jump each, which tidy makes a break. */
 int main(void) {
     int c;
     int goto_end = 0;
@@ -203,6 +203,22 @@ int main(void) {
         }
     }
     goto_end = 0;
+    return 0;
+}
+---- regoto: 1 changes
+/* Copies the input up to its end or to a q: both leave the loop by one jump each, which tidy makes a break. */
+int main(void) {
+    int c;
+    while (1) {
+        c = getchar();
+        if (c == -1) {
+            break;
+        }
+        if (c == 'q') {
+            break;
+        }
+        putchar(c);
+    }
     return 0;
 }
 ==== examples/endless.c
@@ -751,6 +767,25 @@ int total(int n) {
         }
     }
     goto_done = 0;
+    return sum;
+}
+---- regoto: 1 changes
+/* One jump into a loop, and one out of it: docs/REWRITING.md shows it after each step. */
+int total(int n) {
+    int sum;
+    int goto_middle = 0;
+    sum = 0;
+    goto_middle = n > 9;
+    while (goto_middle || n > 0) {
+        if (!goto_middle) {
+            sum = sum + n;
+            if (sum > 99) {
+                break;
+            }
+        }
+        goto_middle = 0;
+        n--;
+    }
     return sum;
 }
 "#;

@@ -3,7 +3,15 @@
 #![tactic(auto)]
 
 #[cfg(test)]
+mod demos;
+#[cfg(test)]
+mod devices;
+#[cfg(test)]
 mod example_texts;
+#[cfg(test)]
+mod limits;
+#[cfg(test)]
+mod lowering;
 #[cfg(test)]
 mod ports;
 #[cfg(test)]
@@ -12,6 +20,8 @@ mod replays;
 mod runs;
 #[cfg(test)]
 mod statuses;
+#[cfg(test)]
+mod tidying;
 #[cfg(test)]
 mod worked;
 #[cfg(test)]

@@ -20,7 +20,7 @@ struct Undone {
     line: &'static str,
 }
 
-static UNDONE: [Undone; 18] = [
+static UNDONE: [Undone; 25] = [
     Undone {
         words: &["restructure", "a.c", "b.c"],
         source: "int f(void) { goto no; } int g(void) { return y; }",
@@ -158,6 +158,62 @@ static UNDONE: [Undone; 18] = [
         line: "regoto: read failed\n",
     },
     Undone {
+        words: &["tidy", "a.c", "b.c"],
+        source: SOURCE,
+        shelf: &[],
+        out: &[],
+        code: 1,
+        line: "a.c:1:44: error 60: jump present\n",
+    },
+    Undone {
+        words: &["tidy", "a.c", "b.c"],
+        source: "int x;",
+        shelf: &[1],
+        out: &[],
+        code: 5,
+        line: "regoto: write failed\n",
+    },
+    Undone {
+        words: &["lower", "c.c", "b.c"],
+        source: SOURCE,
+        shelf: &[],
+        out: &[],
+        code: 8,
+        line: "regoto: no file c.c\n",
+    },
+    Undone {
+        words: &["lower", "a.c", "b.c"],
+        source: SOURCE,
+        shelf: &[1],
+        out: &[],
+        code: 5,
+        line: "regoto: write failed\n",
+    },
+    Undone {
+        words: &["demo", "2"],
+        source: SOURCE,
+        shelf: &[],
+        out: &[0],
+        code: 5,
+        line: "regoto: write failed\n",
+    },
+    Undone {
+        words: &["demo", "0"],
+        source: SOURCE,
+        shelf: &[],
+        out: &[],
+        code: 2,
+        line: "regoto: unknown use, try help\n",
+    },
+    Undone {
+        words: &["demo", "2001"],
+        source: SOURCE,
+        shelf: &[],
+        out: &[],
+        code: 2,
+        line: "regoto: unknown use, try help\n",
+    },
+    Undone {
         words: &["help"],
         source: SOURCE,
         shelf: &[],
@@ -247,7 +303,7 @@ fn helps(rt: HostRuntime) -> Result<(), Fail> {
     assert_eq!(rt; ran.status, Status::Done);
     assert_eq!(rt;
         ran.out.bytes(),
-        b"regoto restructure IN OUT [--report R]\nregoto run FILE [--steps N]\nregoto help\nregoto show IN\nregoto moves IN\nregoto replay IN REPORT OUT\n".as_slice()
+        b"regoto restructure IN OUT [--report R]\nregoto run FILE [--steps N]\nregoto demo N\nregoto help\nregoto show IN\nregoto moves IN\nregoto replay IN REPORT OUT\nregoto tidy IN OUT\nregoto lower IN OUT\n".as_slice()
     );
     assert_eq!(rt; ran.err.bytes().len(), 0);
     Ok(())

@@ -14,6 +14,8 @@ pub struct Case<'a> {
     pub line: &'a str,
     pub report: &'a str,
     pub text: &'a str,
+    /// The line and the text of `tidy` on the text that is written, where it changes that.
+    pub tidied: Option<(&'a str, &'a str)>,
 }
 
 /// A case of these texts.
@@ -21,12 +23,17 @@ pub fn case_of<'a>(block: &'a str) -> Option<Case<'a>> {
     let (_name, rest) = block.split_once("\n")?;
     let (source, rest) = rest.split_once("---- ")?;
     let (line, rest) = rest.split_once("\n")?;
-    let (report, text) = rest.split_once("----\n")?;
+    let (report, rest) = rest.split_once("----\n")?;
+    let (text, tidied) = match rest.split_once("---- ") {
+        Some((text, tidied)) => (text, tidied.split_once("\n")),
+        None => (rest, None),
+    };
     Some(Case {
         source,
         line,
         report,
         text,
+        tidied,
     })
 }
 

@@ -2,7 +2,7 @@
 //! the method.
 
 /// Behind `====` the name and the text, behind the first `----` the line on the standard error and the report, and
-/// behind the second the text that is written.
+/// behind the second the text that is written; where `tidy` changes that, behind a third its line and its text.
 pub static WORKED: &str = r#"
 ==== a loop by hand
 int main(void) { int i = 0; loop: if (i >= 3) goto done; putchar('a' + i); i++; goto loop; done: return 0; }
@@ -188,6 +188,21 @@ int main(void) {
         }
     }
     goto_end = 0;
+    return 0;
+}
+---- regoto: 1 changes
+int main(void) {
+    int c;
+    while (1) {
+        c = getchar();
+        if (c == -1) {
+            break;
+        }
+        if (c == 'q') {
+            break;
+        }
+        putchar(c);
+    }
     return 0;
 }
 ==== from section to section

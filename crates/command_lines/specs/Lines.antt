@@ -48,7 +48,8 @@ reason_text reason =
     else (if reason == 51 then codes "move does not fit"
     else (if reason == 52 then codes "a jump is left"
     else (if reason == 53 then codes "result nested too deeply"
-    else [])))))))))))))))))))))))))))))))))))
+    else (if reason == 60 then codes "jump present"
+    else []))))))))))))))))))))))))))))))))))))
 
 abbrev pub counts_line : ℕ → ℕ → ℕ → List ℕ
 counts_line jumps moves guards =
@@ -57,10 +58,18 @@ counts_line jumps moves guards =
 abbrev pub replayed_line : ℕ → ℕ → List ℕ
 replayed_line moves guards = codes "regoto: " ++ decimal moves ++ codes " moves, " ++ decimal guards ++ codes " guards\n"
 
+abbrev pub tidied_line : ℕ → List ℕ
+tidied_line changes = codes "regoto: " ++ decimal changes ++ codes " changes\n"
+
+abbrev pub lowered_line : ℕ → List ℕ
+lowered_line gotos = codes "regoto: " ++ decimal gotos ++ codes " gotos\n"
+
 -- what a command did that wrote a file
 abbrev pub summary_line : Summary → List ℕ
 summary_line (summary.Restructured jumps moves guards) = counts_line jumps moves guards
 summary_line (summary.Replayed moves guards) = replayed_line moves guards
+summary_line (summary.Tidied changes) = tidied_line changes
+summary_line (summary.Lowered gotos) = lowered_line gotos
 
 abbrev pub place_and_reason : Refusal → List ℕ
 place_and_reason refusal =

@@ -6,7 +6,7 @@ use crate::status::Status;
 use rg_ports::{Sink, write_all};
 
 const HELP: &str =
-    "regoto restructure IN OUT [--report R]\nregoto run FILE [--steps N]\nregoto help\nregoto show IN\nregoto moves IN\nregoto replay IN REPORT OUT\n";
+    "regoto restructure IN OUT [--report R]\nregoto run FILE [--steps N]\nregoto demo N\nregoto help\nregoto show IN\nregoto moves IN\nregoto replay IN REPORT OUT\nregoto tidy IN OUT\nregoto lower IN OUT\n";
 
 /// Writes the list of commands. It takes no memory.
 pub fn write_help<O: Sink, E: Sink>(out: &mut O, err: &mut E) -> Status

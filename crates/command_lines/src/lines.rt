@@ -1,6 +1,6 @@
-ghost use Rattle.std.specs.Prelude.{◌≡◌, ◌++◌, codes};
+ghost use Rattle.std.specs.Prelude.{◌≡◌, ◌++◌, codes, decimal};
 ghost use Rattle.std.specs.List.{flat_map};
-ghost use Rattle.command_lines.specs.Lines.{Writes, Tells, reason_text as the_reason_text, summary_line, counts_line, replayed_line, place_and_reason, refusal_line, absent_line};
+ghost use Rattle.command_lines.specs.Lines.{Writes, Tells, reason_text as the_reason_text, summary_line, counts_line, replayed_line, tidied_line, lowered_line, place_and_reason, refusal_line, absent_line};
 
 use c_types::Refusal;
 use itoa::Buffer;
@@ -13,6 +13,10 @@ pub enum Summary {
     Restructured { jumps: u64, moves: u64, guards: u64 },
     /// It made so many moves of a report, and declared so many guards.
     Replayed { moves: u64, guards: u64 },
+    /// It made so many changes, each of which took a variable away.
+    Tidied { changes: u64 },
+    /// It wrote so many gotos.
+    Lowered { gotos: u64 },
 }
 
 /// Writes the text, and answers whether all of it was taken.
@@ -83,6 +87,14 @@ fn write_replayed<E: Sink>(err: &mut E, moves: u64, guards: u64) -> bool
     write_pieces(err, &pieces)
 }
 
+fn write_count<E: Sink>(err: &mut E, count: u64, counted: &str) -> bool
+    ensures { Writes result (E.written err.old) (E.written err.new) (E.faults err.old) (E.faults err.new) (codes "regoto: " ++ decimal count ++ counted.now) }
+{
+    let mut text = Buffer::new();
+    let pieces = ["regoto: ", text.format(count), counted];
+    write_pieces(err, &pieces)
+}
+
 /// Tells what a command did.
 pub fn tell_summary<E: Sink>(err: &mut E, summary: &Summary)
     ensures { Tells (E.written err.old) (E.written err.new) (E.faults err.old) (E.faults err.new) (summary_line summary.now) }
@@ -94,6 +106,8 @@ pub fn tell_summary<E: Sink>(err: &mut E, summary: &Summary)
             guards,
         } => write_counts(err, *jumps, *moves, *guards),
         Summary::Replayed { moves, guards } => write_replayed(err, *moves, *guards),
+        Summary::Tidied { changes } => write_count(err, *changes, " changes\n"),
+        Summary::Lowered { gotos } => write_count(err, *gotos, " gotos\n"),
     };
 }
 
@@ -137,6 +151,7 @@ fn reason_text(reason: u32) -> &'static str
         51 => "move does not fit",
         52 => "a jump is left",
         53 => "result nested too deeply",
+        60 => "jump present",
         _ => "",
     }
 }

@@ -1,10 +1,14 @@
-ghost use Rattle.std.specs.Prelude.{◌≡◌, map, option_map, string_bytes, [], ◌∷◌};
-ghost use Rattle.command_lines.specs.Command.{names_file, asks_for_report, pair_of, run_of, replay_of, command_of, seen};
+ghost use Rattle.std.specs.Prelude.{◌≡◌, Some, map, option_map, string_bytes, [], ◌∷◌};
+ghost use Rattle.command_lines.specs.Command.{names_file, asks_for_report, pair_of, run_of, replay_of, demo_of, command_of, seen};
+ghost use Rattle.command_lines.specs.Numbers.{number_of};
 
 use crate::numbers::number;
 
 /// How many steps a program makes at most where no number is given.
 pub const STEPS: u64 = 10000000;
+
+/// How many functions a demonstration has at most.
+const MOST_FUNCTIONS: u32 = 2000;
 
 /// What the words of a command ask for (docs/COMMANDS.md).
 #[derive(Clone, Copy, Debug, PartialEq, Eq)]
@@ -13,6 +17,8 @@ pub enum Job<'a> {
     Restructure(&'a str, &'a str, Option<&'a str>),
     /// Run `main` of the file for at most so many steps.
     Run(&'a str, u64),
+    /// Restructure a text of so many functions that is made by a rule, and run its program and that of the result.
+    Demo(u32),
     /// Write the list of commands.
     Help,
     /// Restructure the file, and write the text to the standard output.
@@ -21,6 +27,10 @@ pub enum Job<'a> {
     Moves(&'a str),
     /// Make the moves of a report: the file that is read, the one of the report, and the one that is written.
     Replay(&'a str, &'a str, &'a str),
+    /// Tidy the first file, and write the second.
+    Tidy(&'a str, &'a str),
+    /// Lower the first file, and write the second.
+    Lower(&'a str, &'a str),
 }
 
 /// Whether a word names a file: it isn't empty and doesn't begin with `-`.
@@ -74,6 +84,27 @@ fn file_job<'a>(word: &str, from: &'a str) -> Option<Job<'a>>
         Some(Job::Moves(from))
     } else if word == "run" && names_a_file(from) {
         Some(Job::Run(from, STEPS))
+    } else if word == "demo" {
+        demo_job(from)
+    } else {
+        None
+    }
+}
+
+fn demo_job<'a>(count: &str) -> Option<Job<'a>>
+    ensures { option_map seen result ≡ demo_of (number_of count.now) }
+{
+    match number(count) {
+        Some(count) => demo_with(count),
+        None => None,
+    }
+}
+
+fn demo_with<'a>(count: u64) -> Option<Job<'a>>
+    ensures { option_map seen result ≡ demo_of (Some count) }
+{
+    if count >= 1 && count <= MOST_FUNCTIONS as u64 {
+        Some(Job::Demo(count as u32))
     } else {
         None
     }
@@ -117,6 +148,10 @@ fn pair_job<'a>(word: &str, from: &'a str, to: &'a str) -> Option<Job<'a>>
 {
     if word == "restructure" {
         Some(Job::Restructure(from, to, None))
+    } else if word == "tidy" {
+        Some(Job::Tidy(from, to))
+    } else if word == "lower" {
+        Some(Job::Lower(from, to))
     } else {
         None
     }

@@ -3,7 +3,7 @@
 use command_lines::{Job, command, number};
 use std::test::Fail;
 
-static COMMANDS: [(&[&str], Option<Job<'static>>); 24] = [
+static COMMANDS: [(&[&str], Option<Job<'static>>); 37] = [
     (&[], None),
     (&["help"], Some(Job::Help)),
     (&["help", "show"], None),
@@ -42,7 +42,20 @@ static COMMANDS: [(&[&str], Option<Job<'static>>); 24] = [
     ),
     (&["replay", "a.c", "-r", "b.c"], None),
     (&["replay", "a.c", "r.txt"], None),
-    (&["demo", "2"], None),
+    (&["demo", "2"], Some(Job::Demo(2))),
+    (&["demo", "002000"], Some(Job::Demo(2000))),
+    (&["demo", "0"], None),
+    (&["demo", "2001"], None),
+    (&["demo", "4294967297"], None),
+    (&["demo", "x"], None),
+    (&["demo"], None),
+    (&["demo", "2", "2"], None),
+    (&["tidy", "a.c", "a.c"], Some(Job::Tidy("a.c", "a.c"))),
+    (&["tidy", "a.c", ""], None),
+    (&["tidy", "a.c"], None),
+    (&["lower", "a.c", "b.c"], Some(Job::Lower("a.c", "b.c"))),
+    (&["lower", "-a", "b.c"], None),
+    (&["lower", "a.c", "b.c", "--report", "r.txt"], None),
 ];
 
 #[test]

@@ -1,20 +1,47 @@
 ghost use Rattle.std.specs.Prelude.{◌≡◌, ◌↔◌, ℕ, List, Option, map, string_bytes, Some, None};
 ghost use Rattle.command_lines.specs.Lines.{Tells, usage_line};
-ghost use Rattle.command_lines.specs.Command.{Restructure, Run, Help, Show, Moves, Replay, command_of};
+ghost use Rattle.command_lines.specs.Command.{Restructure, Run, Demo, Help, Show, Moves, Replay, Tidy, Lower, command_of};
 ghost use Rattle.command_lines.specs.Help.{Helps};
+ghost use Rattle.file_commands.specs.Translated.{Completes as CompletesWhere};
+ghost use Rattle.file_commands.specs.Written.{Writes};
+ghost use Rattle.demo_runs.specs.Demos.{ShowsDemo, CompletesDemo};
 ghost use Rattle.text_runs.specs.Texts.{RunsText, CompletesText};
 ghost use Rattle.text_replay.specs.Texts.{ReplaysText, CompletesText as CompletesReplay};
+ghost use Rattle.text_tidy.specs.Texts.{TidiesText, CompletesText as CompletesTidy};
+ghost use Rattle.text_lower.specs.Texts.{LowersText, CompletesText as CompletesLower};
 ghost use Rattle.regoto.specs.Restructure.{Restructures, ShowsRestructured, Completes};
 
 use crate::restructurer::Restructurer;
 use command_lines::{Job, Status, command, tell, write_help};
-use file_commands::{Part, Targets, show, write};
+use demo_runs::demo;
+use file_commands::{Part, Targets, Translator, show, write};
 use replay_commands::replay_file;
 use rg_ports::{Shelf, Sink, Source};
 use run_commands::run_file;
 use std::alloc::Global;
+use text_lower::TextLowerer;
 use text_replay::TextReplayer;
 use text_runs::TextReader;
+use text_tidy::TextTidier;
+
+/// Reads one file, and writes what becomes of its text to another, which may be the same; no report is written.
+fn write_text<T: Translator, H: Shelf, E: Sink>(
+    alloc: Global,
+    translator: &T,
+    from: &str,
+    text: &str,
+    shelf: &mut H,
+    err: &mut E,
+) -> Status
+    ensures writes { Writes (λ line. Tells (E.written err.old) (E.written err.new) (E.faults err.old) (E.faults err.new) line)
+        T.gives T.refuses from.now text.now None (H.held shelf.old) (H.held shelf.new)
+        (H.read_faults shelf.old) (H.read_faults shelf.new) (H.write_faults shelf.old) (H.write_faults shelf.new) result }
+    ensures completes { CompletesWhere T.accepts from.now (H.held shelf.old) (H.read_faults shelf.old) (H.read_faults shelf.new)
+        (H.write_faults shelf.old) (H.write_faults shelf.new) result }
+{
+    let to = Targets { text, report: None };
+    write(alloc, translator, from, &to, shelf, err)
+}
 
 /// Carries out the command that the words after the program's name are, through these ports.
 /// docs/COMMANDS.md lists the words, the statuses and the lines on `err`.
@@ -82,6 +109,31 @@ pub fn regoto<H: Shelf, I: Source, O: Sink, E: Sink>(
         → CompletesReplay from report (H.held shelf.old) (H.read_faults shelf.old) (H.read_faults shelf.new)
         (H.write_faults shelf.old) (H.write_faults shelf.new) result }
 
+    ensures tidy { (from to : List ℕ) → command_of (map string_bytes words.now) ≡ Some (Tidy from to)
+        → (out.new ≡ out.old) × TidiesText (λ line. Tells (E.written err.old) (E.written err.new) (E.faults err.old) (E.faults err.new) line)
+        from to (H.held shelf.old) (H.held shelf.new) (H.read_faults shelf.old) (H.read_faults shelf.new)
+        (H.write_faults shelf.old) (H.write_faults shelf.new) result }
+
+    ensures complete_tidy { (from to : List ℕ) → command_of (map string_bytes words.now) ≡ Some (Tidy from to)
+        → CompletesTidy from (H.held shelf.old) (H.read_faults shelf.old) (H.read_faults shelf.new)
+        (H.write_faults shelf.old) (H.write_faults shelf.new) result }
+
+    ensures lower { (from to : List ℕ) → command_of (map string_bytes words.now) ≡ Some (Lower from to)
+        → (out.new ≡ out.old) × LowersText (λ line. Tells (E.written err.old) (E.written err.new) (E.faults err.old) (E.faults err.new) line)
+        from to (H.held shelf.old) (H.held shelf.new) (H.read_faults shelf.old) (H.read_faults shelf.new)
+        (H.write_faults shelf.old) (H.write_faults shelf.new) result }
+
+    ensures complete_lower { (from to : List ℕ) → command_of (map string_bytes words.now) ≡ Some (Lower from to)
+        → CompletesLower from (H.held shelf.old) (H.read_faults shelf.old) (H.read_faults shelf.new)
+        (H.write_faults shelf.old) (H.write_faults shelf.new) result }
+
+    ensures demo { (count : ℕ) → command_of (map string_bytes words.now) ≡ Some (Demo count)
+        → (shelf.new ≡ shelf.old) × ShowsDemo count (out.new ≡ out.old) (O.written out.old) (O.written out.new) (O.faults out.old) (O.faults out.new)
+        (E.written err.old) (E.written err.new) (E.faults err.old) (E.faults err.new) result }
+
+    ensures complete_demo { (count : ℕ) → command_of (map string_bytes words.now) ≡ Some (Demo count)
+        → CompletesDemo count (O.faults out.old) (O.faults out.new) result }
+
     // Every other command leaves the input untouched.
     ensures input { ((from : List ℕ) (steps : ℕ) → ¬ (command_of (map string_bytes words.now) ≡ Some (Run from steps))) → input.new ≡ input.old }
 {
@@ -103,11 +155,14 @@ pub fn regoto<H: Shelf, I: Source, O: Sink, E: Sink>(
         Some(Job::Run(from, steps)) => {
             run_file(alloc, &TextReader, from, steps, shelf, input, out, err)
         }
+        Some(Job::Demo(count)) => demo(alloc, count, out, err),
         Some(Job::Help) => write_help(out, err),
         Some(Job::Show(from)) => show(alloc, &Restructurer, from, Part::Text, shelf, out, err),
         Some(Job::Moves(from)) => show(alloc, &Restructurer, from, Part::Report, shelf, out, err),
         Some(Job::Replay(from, report, to)) => {
             replay_file(alloc, &TextReplayer, from, report, to, shelf, err)
         }
+        Some(Job::Tidy(from, to)) => write_text(alloc, &TextTidier, from, to, shelf, err),
+        Some(Job::Lower(from, to)) => write_text(alloc, &TextLowerer, from, to, shelf, err),
     }
 }

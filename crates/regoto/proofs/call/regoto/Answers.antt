@@ -1,6 +1,6 @@
 use Rattle.std.proofs.Common.{◌≡◌, Option, Some, List, ℕ, option_map, refl, sym, ◌∙◌}
 use Rattle.std.specs.Borrow.{Bor}
-use Rattle.command_lines.specs.Command.{Command, Restructure, Run, Show, Moves, Replay}
+use Rattle.command_lines.specs.Command.{Command, Restructure, Run, Demo, Show, Moves, Replay, Tidy, Lower}
 use Rattle.regoto.proofs.call.regoto.Goals as goal
 
 pub returns-in-Some-Restructure-clause-restructure : goal.returns-in-Some-Restructure-clause-restructure
@@ -64,3 +64,47 @@ returns-in-Some-Replay-clause-complete_replay g c = λ from report to e.
     let same_from : c.in-Some-Replay.from.now ≡ from = cc in
     let same_report : c.in-Some-Replay.report.now ≡ report = cc in
     rw (← same_from, ← same_report) c.replay_file.ensures.completes
+
+pub returns-in-Some-Demo-clause-demo : goal.returns-in-Some-Demo-clause-demo
+returns-in-Some-Demo-clause-demo g c = λ count e.
+    let words = rw c.in-Some-Demo.field-0-is at c.in-Some-Demo.ensures in
+    let same : ◌≡◌ {A = Option Command} (Some (Demo c.in-Some-Demo.count)) (Some (Demo count)) = words ∙ e in
+    let same_count : c.in-Some-Demo.count ≡ count = cc in
+    (refl, rw (← same_count) c.demo.ensures.shows)
+
+pub returns-in-Some-Demo-clause-complete_demo : goal.returns-in-Some-Demo-clause-complete_demo
+returns-in-Some-Demo-clause-complete_demo g c = λ count e.
+    let words = rw c.in-Some-Demo.field-0-is at c.in-Some-Demo.ensures in
+    let same : ◌≡◌ {A = Option Command} (Some (Demo c.in-Some-Demo.count)) (Some (Demo count)) = words ∙ e in
+    let same_count : c.in-Some-Demo.count ≡ count = cc in
+    rw (← same_count) c.demo.ensures.completes
+
+pub returns-in-Some-Tidy-clause-tidy : goal.returns-in-Some-Tidy-clause-tidy
+returns-in-Some-Tidy-clause-tidy g c = λ from to e.
+    let words = rw c.in-Some-Tidy.field-0-is at c.in-Some-Tidy.ensures in
+    let same : ◌≡◌ {A = Option Command} (Some (Tidy c.in-Some-Tidy.from.now c.in-Some-Tidy.to.now)) (Some (Tidy from to)) = words ∙ e in
+    let same_from : c.in-Some-Tidy.from.now ≡ from = cc in
+    let same_to : c.in-Some-Tidy.to.now ≡ to = cc in
+    (refl, rw (← same_from, ← same_to) c.write_text.ensures.writes)
+
+pub returns-in-Some-Tidy-clause-complete_tidy : goal.returns-in-Some-Tidy-clause-complete_tidy
+returns-in-Some-Tidy-clause-complete_tidy g c = λ from to e.
+    let words = rw c.in-Some-Tidy.field-0-is at c.in-Some-Tidy.ensures in
+    let same : ◌≡◌ {A = Option Command} (Some (Tidy c.in-Some-Tidy.from.now c.in-Some-Tidy.to.now)) (Some (Tidy from to)) = words ∙ e in
+    let same_from : c.in-Some-Tidy.from.now ≡ from = cc in
+    rw (← same_from) c.write_text.ensures.completes
+
+pub returns-in-Some-Lower-clause-lower : goal.returns-in-Some-Lower-clause-lower
+returns-in-Some-Lower-clause-lower g c = λ from to e.
+    let words = rw c.in-Some-Lower.field-0-is at c.in-Some-Lower.ensures in
+    let same : ◌≡◌ {A = Option Command} (Some (Lower c.in-Some-Lower.from.now c.in-Some-Lower.to.now)) (Some (Lower from to)) = words ∙ e in
+    let same_from : c.in-Some-Lower.from.now ≡ from = cc in
+    let same_to : c.in-Some-Lower.to.now ≡ to = cc in
+    (refl, rw (← same_from, ← same_to) c.write_text-in-Some-Lower.ensures.writes)
+
+pub returns-in-Some-Lower-clause-complete_lower : goal.returns-in-Some-Lower-clause-complete_lower
+returns-in-Some-Lower-clause-complete_lower g c = λ from to e.
+    let words = rw c.in-Some-Lower.field-0-is at c.in-Some-Lower.ensures in
+    let same : ◌≡◌ {A = Option Command} (Some (Lower c.in-Some-Lower.from.now c.in-Some-Lower.to.now)) (Some (Lower from to)) = words ∙ e in
+    let same_from : c.in-Some-Lower.from.now ≡ from = cc in
+    rw (← same_from) c.write_text-in-Some-Lower.ensures.completes

@@ -1,0 +1,34 @@
+ghost use Rattle.std.specs.Prelude.{◌≡◌};
+
+use crate::text::{Tidied, tidy_text};
+use c_types::{List, ReadStop};
+use command_lines::Summary;
+use file_commands::{Translation, Translator};
+use std::alloc::Global;
+
+/// Tidies texts.
+pub struct TextTidier;
+
+impl Translator for TextTidier {
+    ghost use Rattle.text_jumps.specs.Jumps.{IsRefusedForJumps, IsWithoutJumps};
+    ghost use Rattle.text_jumps.proofs.Jumpless.{apart};
+    ghost use Rattle.text_tidy.specs.Texts.{IsTidiedTo};
+
+    ghost gives = { IsTidiedTo };
+
+    ghost accepts = { IsWithoutJumps };
+
+    ghost refuses = { λ text refusal. IsRefusedForJumps text refusal };
+
+    fn translate(&self, alloc: Global, text: &[u8]) -> Result<Translation, ReadStop> {
+        let Tidied { text, changes } = tidy_text(alloc, text)?;
+        Ok(Translation {
+            text,
+            // no report is made
+            report: List::new(alloc),
+            summary: Summary::Tidied { changes },
+        })
+    }
+
+    ghost apart = { λ text refusal without refused. apart text refusal without refused };
+}
