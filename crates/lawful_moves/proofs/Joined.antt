@@ -1,5 +1,5 @@
 -- Each join takes one Leap, and no other move takes or adds one.
-use Rattle.std.proofs.Common.{inl, inr, ◌≡◌, ℕ, ◌+◌, Bool, true, false, eqb, cond, List, [], ◌∷◌, Option, Some, None, refl, sym, ap, subst, ◌∙◌, arith}
+use Rattle.std.proofs.Common.{inl, inr, ◌≡◌, ℕ, ◌+◌, true, false, eqb, cond, List, [], ◌∷◌, Option, Some, None, refl, sym, ap, subst, ◌∙◌, arith}
 use Rattle.std.specs.Prelude.{sum_by}
 use Rattle.std.proofs.lemmas.List.Sums.{sum_by-append}
 use Rattle.c_tree.specs.declared.tree.Item.{Item}
@@ -10,8 +10,8 @@ use Rattle.c_tree.specs.declared.tree.Top.TheVariants as T
 use Rattle.c_tree.specs.InRange.{body_of}
 use Rattle.c_tree.specs.Trees.{Tree, Forest, Nil, Then, Sections, NoSection, Section, Evaluate, Return, If, While, Do, For, Switch, Block, Local, Break, Continue, Goto, Mark, Arm, Leap, Land, Arrival, Note, trees_of}
 use Rattle.c_tree.specs.Everywhere.{total_of, total_in, Everywhere, EverywhereOf, EverywhereIn}
-use Rattle.simpler_core.proofs.Kept.{IsStable, simplified_kept}
-use Rattle.unread_guards.proofs.DroppedItems.{Becomes, becomes}
+use Rattle.simpler_core.proofs.Kept.{simplified_kept}
+use Rattle.unread_guards.proofs.DroppedItems.{becomes}
 use Rattle.move_core.specs.Bodies.{with_body}
 use Rattle.plain_core.specs.Laws.{IsNoLeap}
 use Rattle.move_records.specs.declared.moves.Move.{Move}
@@ -33,37 +33,9 @@ use Rattle.lawful_moves.specs.Lawful as L
 use Rattle.lawful_moves.specs.Lawful.{IsLeapMoved, IsSimplifiedBy, IsMovedBy, OneMoved, Moves, none, more}
 use Rattle.lawful_moves.specs.Replayed.{top_leaps}
 use Rattle.lawful_moves.proofs.Bodies.{IsChanged}
+use Rattle.whole_core.proofs.Ended.{no_leap, leapless_stable, leapless_become}
 
 -- ---- no Leap
-
-mutual
-  pub no_leap : (a : Forest) → leaps a ≡ 0 → Everywhere IsNoLeap a
-  no_leap Nil h = tt
-  no_leap (Then x a) h = (no_leap_of x (omega (arith, h)), no_leap a (omega (arith, h)))
-
-  no_leap_of : (x : Tree) → total_of leap_of x ≡ 0 → EverywhereOf IsNoLeap x
-  no_leap_of (If t a b) h = (tt, no_leap a (omega (arith, h)), no_leap b (omega (arith, h)))
-  no_leap_of (While t a) h = (tt, no_leap a (omega (arith, h)))
-  no_leap_of (Do a t) h = (tt, no_leap a (omega (arith, h)))
-  no_leap_of (For first t u a) h = (tt, no_leap first (omega (arith, h)), no_leap a (omega (arith, h)))
-  no_leap_of (Switch s c) h = (tt, no_leap_in c (omega (arith, h)))
-  no_leap_of (Block a) h = (tt, no_leap a (omega (arith, h)))
-  no_leap_of (Leap l) h = absurd (omega (arith, h))
-  no_leap_of (Evaluate e) h = tt
-  no_leap_of (Return e) h = tt
-  no_leap_of (Local x e) h = tt
-  no_leap_of Break h = tt
-  no_leap_of Continue h = tt
-  no_leap_of (Goto l) h = tt
-  no_leap_of (Mark l) h = tt
-  no_leap_of (Arm l e) h = tt
-  no_leap_of (Land l) h = tt
-  no_leap_of (Arrival e) h = tt
-  no_leap_of (Note bs) h = tt
-
-  no_leap_in : (c : Sections) → total_in leap_of c ≡ 0 → EverywhereIn IsNoLeap c
-  no_leap_in NoSection h = tt
-  no_leap_in (Section cases default a ends c) h = (no_leap a (omega (arith, h)), no_leap_in c (omega (arith, h)))
 
 mutual
   none_counted : (a : Forest) → Everywhere IsNoLeap a → leaps a ≡ 0
@@ -93,35 +65,6 @@ mutual
   none_counted_in : (c : Sections) → EverywhereIn IsNoLeap c → total_in leap_of c ≡ 0
   none_counted_in NoSection h = refl
   none_counted_in (Section cases default a ends c) h = let i = none_counted a h.0 in let j = none_counted_in c h.1 in omega (arith, i, j)
-
-leapless_stable : IsStable IsNoLeap
-leapless_stable = record {
-  ifs = λ t a b a' b' e h. tt;
-  whiles = λ t a a' n h. tt;
-  dos = λ t a a' n h. tt;
-  fors = λ first t u a a' n h. tt;
-  switches = λ s c d e h. tt;
-  blocks = λ a a' h. tt;
-  if_tests = λ a b r h. tt;
-  while_tests = λ a r h. tt;
-  do_tests = λ a r h. tt;
-  selectors = λ c r h. tt;
-  nests = λ t u a o h j. tt;
-}
-
-leapless_become : (d : ℕ → Bool) → Becomes d IsNoLeap IsNoLeap
-leapless_become d = record {
-  arm = λ l e i h. h;
-  arm_if = λ l e i h. tt;
-  land = λ l i h. tt;
-  ifs = λ t a b h. tt;
-  whiles = λ t a h. tt;
-  dos = λ t a h. tt;
-  fors = λ first t u a h. tt;
-  switches = λ s c h. tt;
-  blocks = λ a h. tt;
-  others = λ x o h. h;
-}
 
 simplified_leapless : (old new : List Item) → IsSimplified old new → Everywhere IsNoLeap (trees_of old) → Everywhere IsNoLeap (trees_of new)
 simplified_leapless old new s h = elim s.either [

@@ -1,5 +1,5 @@
 -- What a resolved program is made by lawful moves.
-use Rattle.std.proofs.Common.{◌≡◌, ℕ, ◌+◌, Bool, true, false, true≢false, if◌then◌else◌, cond, List, [], ◌∷◌, map, Option, Some, None, option_map, All, refl, sym, ap, subst, ◌∙◌, arith}
+use Rattle.std.proofs.Common.{◌≡◌, ℕ, ◌+◌, Bool, true, false, true≢false, cond, List, [], ◌∷◌, Option, Some, None, option_map, All, refl, sym, ap, subst, ◌∙◌, arith}
 use Rattle.std.specs.Prelude.{sum_by}
 use Rattle.std.specs.List.{AllByRecursion}
 use Rattle.std.specs.Option.{option_map_or}
@@ -11,17 +11,15 @@ use Rattle.c_tree.specs.declared.tree.Top.{Top}
 use Rattle.c_tree.specs.declared.tree.Top.TheVariants as T
 use Rattle.c_tree.specs.declared.tree.Program.{Program}
 use Rattle.c_tree.specs.InRange.{body_of}
-use Rattle.c_tree.specs.Jumps.{all_true, is_jump_free, is_plain, body_holds, is_plain_function, is_jump_free_function, top_holds, is_jump_free_program}
-use Rattle.c_tree.specs.Trees.{Tree, Nil, Evaluate, Return, If, While, Do, For, Switch, Block, Local, Break, Continue, Goto, Mark, Arm, Leap, Land, Arrival, Note, trees_of}
+use Rattle.c_tree.specs.Jumps.{is_jump_free, body_holds, is_jump_free_program}
+use Rattle.c_tree.specs.Trees.{Nil, trees_of}
 use Rattle.c_tree.specs.Everywhere.{Everywhere}
 use Rattle.c_tree.specs.WellMade.{IsConverted, IsWellMade}
 use Rattle.c_tree.proofs.WellMoved.{everywhere_map, everywhere_both}
-use Rattle.jump_meaning.specs.Code.{Code, code_of}
-use Rattle.jump_meaning.specs.Runs.{jump_run, BehaveTheSame}
+use Rattle.jump_meaning.specs.Code.{code_of}
+use Rattle.jump_meaning.specs.Runs.{BehaveTheSame}
 use Rattle.jump_meaning.specs.Steady.{IsSteady}
-use Rattle.jump_meaning.proofs.Covering.{same_runs_trans}
 use Rattle.jump_meaning.proofs.RunFacts.{same_trans}
-use Rattle.struct_meaning.specs.Runs.{structural_run}
 use Rattle.guard_vars.specs.Conversion.{converted, converted_list}
 use Rattle.conversion_core.proofs.ConvertedTrees.{converted_trees}
 use Rattle.derived_bodies.specs.Laws.{gotos}
@@ -29,7 +27,7 @@ use Rattle.derived_bodies.proofs.Depth.{depth_laws}
 use Rattle.derived_functions.specs.Counts.{joined, jumps_of, jumps}
 use Rattle.derivation.specs.Leaps.{leaps}
 use Rattle.plain_core.specs.Plain.{plain_with}
-use Rattle.plain_core.specs.Laws.{IsNoLeap, BehavesAsStructured, IsTopFinished, IsFinished, IsProgramReady}
+use Rattle.plain_core.specs.Laws.{IsNoLeap, IsTopFinished, IsFinished, IsProgramReady}
 use Rattle.plain_core.proofs.TheLaws.{plain_laws}
 use Rattle.kinds_kept.specs.Laws.{IsKindedTop, IsKindedProgram}
 use Rattle.move_records.specs.declared.moves.Move.{Move}
@@ -39,13 +37,14 @@ use Rattle.whole_core.proofs.Source.{IsSourceTop, IsSource}
 use Rattle.whole_core.proofs.Chains.{program, chain_steady, chain_kinds, IsConvertible, AreConvertible}
 use Rattle.whole_core.proofs.FlatPrograms.{flat_program}
 use Rattle.whole_core.proofs.Flattened.{body_is}
-use Rattle.whole_core.proofs.Free.{IsFree, free_body, both}
-use Rattle.whole_core.proofs.Ended.{IsEndedFunction, IsEnded, IsPlainTop, plain_top}
+use Rattle.whole_core.proofs.Free.{IsFree, free_body}
+use Rattle.whole_core.proofs.Ended.{no_leap, IsEndedFunction, IsEnded, IsPlainTop, plain_top, free_item, flat_free, unflat_free}
 use Rattle.lawful_moves.specs.Lawful as L
 use Rattle.lawful_moves.specs.Lawful.{IsMovedBy, OneMoved, Moves, none, more}
 use Rattle.lawful_moves.specs.Replayed.{converted_top, converted_tops, IsTopWellMade, IsTopLeapless, top_leaps, IsReplayed}
-use Rattle.lawful_moves.proofs.Joined.{no_leap, joins}
+use Rattle.lawful_moves.proofs.Joined.{joins}
 use Rattle.lawful_moves.proofs.Tops.{AreWellMade, all_made, moves_chain, chain_both, conversions}
+use Rattle.whole_core.proofs.Whole.{free_tops, finished_tops, both_runs}
 
 -- ---- well made
 
@@ -105,35 +104,9 @@ plain_end p (more h r) = plain_end (still_plain p h) r
 
 -- ---- the end of each function
 
-free_item : (x : Tree) → IsConverted x × IsNoLeap x → IsFree x
-free_item (Goto l) h = h.0
-free_item (Mark l) h = h.0
-free_item (Leap l) h = h.1
-free_item (Arrival e) h = h.0
-free_item (Evaluate e) h = tt
-free_item (Return e) h = tt
-free_item (If t a b) h = tt
-free_item (While t a) h = tt
-free_item (Do a t) h = tt
-free_item (For first t u a) h = tt
-free_item (Switch s c) h = tt
-free_item (Block a) h = tt
-free_item (Local x e) h = tt
-free_item Break h = tt
-free_item Continue h = tt
-free_item (Arm l e) h = tt
-free_item (Land l) h = tt
-free_item (Note bs) h = tt
-
 body_free : (f : Function) (o : Option (List Item)) → f.body ≡ o → Everywhere IsFree (body_of f) → body_holds is_jump_free f.body ≡ true
 body_free f None e h = subst (λ o. body_holds is_jump_free o ≡ true) (sym e) refl
 body_free f (Some a) e h = subst (λ o. body_holds is_jump_free o ≡ true) (sym e) (free_body a (subst (Everywhere IsFree) (body_is f a e) h))
-
-flat_free : (f : Function) → f.flat ≡ true → body_holds is_jump_free f.body ≡ true → is_jump_free_function f ≡ true
-flat_free f e h = subst (λ b. body_holds (if b then is_jump_free else is_plain) f.body ≡ true) (sym e) h
-
-unflat_free : (f : Function) → f.flat ≡ false → is_plain_function f ≡ true → is_jump_free_function f ≡ true
-unflat_free f e h = subst (λ b. body_holds (if b then is_jump_free else is_plain) f.body ≡ true) (sym e) h
 
 ended_by : (f : Function) (b : Bool) → f.flat ≡ b → IsTopWellMade (T.Function f) → IsTopLeapless (T.Function f) → IsPlainTop (T.Function f) → IsEndedFunction f
 ended_by f true e w n p =
@@ -186,33 +159,10 @@ kept p q ms s w =
 ended : (p q : Program) (ms : List Move) → IsSource p → IsReplayed p q ms → All IsTopLeapless q.tops → AllByRecursion IsEnded q.tops
 ended p q ms s w n = let k = kept p q ms s w in ended_tops q.tops k.made (recursion_from_All IsTopLeapless q.tops n) k.unflat
 
-free_tops : (ts : List Top) → AllByRecursion IsEnded ts → all_true (map (top_holds is_jump_free_function) ts) ≡ true
-free_tops [] h = refl
-free_tops (T.Function f ∷ ts) h = both (is_jump_free_function f) (all_true (map (top_holds is_jump_free_function) ts)) h.0.free (free_tops ts h.1)
-free_tops (T.Include b ∷ ts) h = free_tops ts h.1
-free_tops (T.Enum es ∷ ts) h = free_tops ts h.1
-free_tops (T.Global g ∷ ts) h = free_tops ts h.1
-free_tops (T.Note b ∷ ts) h = free_tops ts h.1
-
 pub jump_free : (p q : Program) (ms : List Move) → IsSource p → IsReplayed p q ms → All IsTopLeapless q.tops → is_jump_free_program q ≡ true
 jump_free p q ms s w n = free_tops q.tops (ended p q ms s w n)
 
 -- ---- the plain form
-
-finished_tops : (c : Code) (names : Function → List (List ℕ)) (ts : List Top) → AllByRecursion IsEnded ts → AllByRecursion (IsKindedTop c) ts → AllByRecursion (IsTopNamed names) ts → AllByRecursion (IsTopFinished c names) ts
-finished_tops c names [] e k n = tt
-finished_tops c names (T.Function f ∷ ts) e k n = (record { kinded = k.0; made = e.0.made; leapless = e.0.leapless; named = n.0 }, finished_tops c names ts e.1 k.1 n.1)
-finished_tops c names (T.Include b ∷ ts) e k n = (tt, finished_tops c names ts e.1 k.1 n.1)
-finished_tops c names (T.Enum es ∷ ts) e k n = (tt, finished_tops c names ts e.1 k.1 n.1)
-finished_tops c names (T.Global g ∷ ts) e k n = (tt, finished_tops c names ts e.1 k.1 n.1)
-finished_tops c names (T.Note b ∷ ts) e k n = (tt, finished_tops c names ts e.1 k.1 n.1)
-
-both_runs : (p q r : Program) → BehaveTheSame p q → BehavesAsStructured q r → BehavesAsStructured p r
-both_runs p q r h k = record {
-  runs = λ m arguments e input answers.
-      same_runs_trans (jump_run (code_of p) m arguments input answers) (jump_run (code_of q) m arguments input answers) (structural_run (code_of r) m arguments input answers)
-      (h.codes.runs m arguments e input answers) (k.runs m arguments ((h.codes.entries m arguments).0 e) input answers);
-}
 
 -- what is reached is ready for its plain form
 pub ready : (names : Function → List (List ℕ)) (p q : Program) (ms : List Move) → IsSource p → IsReplayed p q ms → All IsTopLeapless q.tops → All (IsTopNamed names) q.tops → IsProgramReady names q

@@ -1,5 +1,5 @@
 -- The layout of the code, and the parts of a body one after another.
-use Rattle.std.proofs.Common.{◌≡◌, ℕ, suc, ◌+◌, ◌-◌, ◌*◌, ◌<◌, ◌≤◌, Bool, List, [], ◌∷◌, length, get_or, slice_set, Option, Some, None, arith, refl, sym, ap, ◌∙◌}
+use Rattle.std.proofs.Common.{◌≡◌, ℕ, suc, ◌+◌, ◌-◌, ◌*◌, ◌<◌, ◌≤◌, Bool, List, [], ◌∷◌, length, get_or, slice_set, Some, None, arith, refl, sym, ap, ◌∙◌}
 use Rattle.std.proofs.Math.Path.{fun_ext}
 use Rattle.c_tree.specs.Changed.{one}
 use Rattle.c_tree.specs.declared.tree.Item.{Item}
@@ -12,7 +12,7 @@ use Rattle.flat_parts.specs.Reading.{is_flagged}
 use Rattle.lowered_core.specs.Lowered.{Layout, coded, declarations}
 use Rattle.tree_views.specs.Views.{tree_at}
 use Rattle.tree_views.proofs.Views.{trees-first, at-Goto}
-use Rattle.flat_items.proofs.Joining.{joined, one_more}
+use Rattle.flat_items.proofs.Joining.{one_more}
 use Rattle.lowered_items.specs.declared.plans.Plan as L
 use Rattle.lowered_items.specs.Plans.{layout_of}
 use Rattle.lowered_items.specs.Jumps.{goto_of}

@@ -1,5 +1,5 @@
 -- A flat list with other numbers of labels is the flat list by a layout that has these.
-use Rattle.std.proofs.Common.{◌≡◌, ℕ, zero, suc, ◌-◌, ℤ, Bool, true, false, cond, List, [], ◌∷◌, length, Option, Some, None, refl, sym, ap, ◌∙◌}
+use Rattle.std.proofs.Common.{◌≡◌, ℕ, zero, suc, ◌-◌, ℤ, Bool, true, false, cond, List, [], ◌∷◌, length, Option, Some, None, refl, ap, ◌∙◌}
 use Rattle.std.specs.Option.{option_map_or}
 use Rattle.std.proofs.Math.Path.{fun_ext}
 use Rattle.c_types.specs.declared.kinds.IntKind.{IntKind}
@@ -15,8 +15,8 @@ use Rattle.jump_meaning.specs.Step.{switch_kind}
 use Rattle.loose_core.specs.Pieces.{Aim, Stays, Becomes, Absent, Names, mark_of, third_items, with_third, is_number, zero_tree, assign_number, assign_cell, assigned_cells, test_for, tests_for, tests, tests_in, tests_among, case_marks}
 use Rattle.loose_core.specs.Loose.{Arrivals, NoArrival, Arrives}
 use Rattle.flat_core.specs.Parts.{Here, switch_labels, has_default, leaves}
-use Rattle.flat_core.specs.FlatForm.{Plan, names_of, scatter_aim, otherwise_label, end_goto, aim, exit, assigned, initialised, mark_if, arrival, dissolved, place_in}
-use Rattle.lowered_core.specs.Straight.{jump_if, if_items, while_items, do_items, ever_items}
+use Rattle.flat_core.specs.FlatForm.{names_of, scatter_aim, otherwise_label, end_goto, aim, exit, assigned, mark_if, arrival, dissolved, place_in}
+use Rattle.lowered_core.specs.Straight.{jump_if, while_items, do_items, ever_items}
 use Rattle.lowered_core.specs.Lowered.{Layout, past, past_item, inside, jump_of, lowered_if, lowered_do, lowered_for, break_aim, for_aim, continue_aim, lowered, lowered_item, lowered_among, placed}
 use Rattle.lowered_bodies.specs.Renumbered.{renumbered, renumbered_item}
 

@@ -1,8 +1,8 @@
 -- What is left of the lists of an `if`, item by item.
-use Rattle.std.proofs.Common.{◌≡◌, ℕ, ◌+◌, ◌<◌, ◌≤◌, Bool, true, false, not, cond, List, length, drop, get_or, Option, Some, None, refl, sym, ap, ◌∙◌}
+use Rattle.std.proofs.Common.{◌≡◌, ℕ, ◌+◌, ◌<◌, ◌≤◌, Bool, true, false, not, cond, List, length, drop, get_or, Option, None, refl, sym, ap, ◌∙◌}
 use Rattle.std.proofs.lemmas.Bool.{false≢true}
 use Rattle.c_tree.specs.declared.tree.Item.{Item}
-use Rattle.c_tree.specs.Trees.{Tree, Forest, Nil, Then, Goto, Mark, trees_of}
+use Rattle.c_tree.specs.Trees.{Tree, Forest, Then, Goto, Mark, trees_of}
 use Rattle.lowered_core.specs.Lowered.{is_bare, only_goto}
 use Rattle.tree_views.specs.Views.{tree_at}
 use Rattle.tree_views.proofs.Views.{trees-at, trees-end}

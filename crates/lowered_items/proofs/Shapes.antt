@@ -1,5 +1,5 @@
 -- What is written for each kind of item is what the definition has for it.
-use Rattle.std.proofs.Common.{◌≡◌, ℕ, ◌+◌, ◌*◌, ℤ, true, false, List, [], map, Option, Some, None, refl, sym, ap, ◌∙◌}
+use Rattle.std.proofs.Common.{◌≡◌, ℕ, ◌+◌, ◌*◌, List, Option, Some, None, refl, sym, ap, ◌∙◌}
 use Rattle.std.proofs.Math.Path.{fun_ext}
 use Rattle.c_types.specs.declared.kinds.IntKind.{IntKind}
 use Rattle.c_tree.specs.Cases.{case_number, selector_source}
@@ -7,15 +7,14 @@ use Rattle.c_tree.specs.Changed.{one}
 use Rattle.c_tree.specs.Numerals.{constant}
 use Rattle.c_tree.specs.ExpressionTrees.{ExpressionTree}
 use Rattle.c_tree.specs.TestTrees.{TestTree, Source, SelectorTree}
-use Rattle.c_tree.specs.Trees.{Tree, Forest, Nil, Then, Sections, Evaluate, If, While, Do, For, Switch, Local, Goto, Mark, join}
+use Rattle.c_tree.specs.Trees.{Tree, Forest, Then, Sections, Evaluate, If, While, Do, Switch, Local, Goto, Mark, join}
 use Rattle.jump_meaning.specs.Step.{switch_kind}
-use Rattle.loose_core.specs.Pieces.{Aim, Stays, Becomes, Names, mark_of, third_items, with_third, assign_number, tests_among}
-use Rattle.loose_core.specs.Loose.{Arrivals, NoArrival}
-use Rattle.flat_core.specs.Parts.{Here, switch_labels, cases_among}
+use Rattle.loose_core.specs.Pieces.{Aim, mark_of, third_items, assign_number, tests_among}
+use Rattle.loose_core.specs.Loose.{Arrivals}
+use Rattle.flat_core.specs.Parts.{Here}
 use Rattle.flat_core.specs.FlatForm.{names_of}
 use Rattle.lowered_core.specs.Straight.{jump_if}
-use Rattle.lowered_core.specs.Lowered.{Layout, past, inside, jump_of, lowered, lowered_if, lowered_do, lowered_for, for_aim, continue_aim, break_aim, lowered_item, lowered_among}
-use Rattle.flat_items.specs.Pieces.{number_tests}
+use Rattle.lowered_core.specs.Lowered.{past, inside, jump_of, lowered, lowered_if, lowered_for, for_aim, continue_aim, break_aim, lowered_item, lowered_among}
 use Rattle.flat_items.proofs.Joining.{joined}
 use Rattle.flat_items.proofs.Tests.{tests_are}
 use Rattle.lowered_items.specs.declared.plans.Plan as L

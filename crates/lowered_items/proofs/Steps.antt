@@ -1,14 +1,13 @@
 -- The numbers of what comes next, and the walk over lists, step by step.
-use Rattle.std.proofs.Common.{◌≡◌, ℕ, zero, suc, ◌+◌, Bool, true, false, cond, List, [], ◌∷◌, Option, Some, None, arith, refl, sym, ap, ◌∙◌}
+use Rattle.std.proofs.Common.{◌≡◌, ℕ, ◌+◌, Bool, true, false, cond, List, [], ◌∷◌, Option, Some, None, arith, refl, sym, ap, ◌∙◌}
 use Rattle.std.proofs.lemmas.Bool.{false≢true}
-use Rattle.c_tree.specs.Changed.{one}
-use Rattle.c_tree.specs.Everywhere.{total, total_of, total_in}
+use Rattle.c_tree.specs.Everywhere.{total}
 use Rattle.c_tree.specs.declared.tree.Item.{Item}
 use Rattle.c_tree.specs.declared.tree.Section as Real
 use Rattle.c_tree.specs.ExpressionTrees.{ExpressionTree}
 use Rattle.c_tree.specs.Paths.{list_of}
 use Rattle.c_tree.specs.TestTrees.{TestTree, SelectorTree}
-use Rattle.c_tree.specs.Trees.{Tree, Forest, Nil, Then, Sections, NoSection, Section, If, While, Do, For, Switch, Block, Goto, Mark, trees_of, sections_of, expression_trees, join}
+use Rattle.c_tree.specs.Trees.{Tree, Forest, Nil, Then, Sections, If, While, Do, For, Switch, Block, Goto, Mark, trees_of, sections_of, expression_trees, join}
 use Rattle.c_tree.proofs.TreeLaws.{join-nil, trees-none, sections-none}
 use Rattle.loose_core.specs.Pieces.{Aim, Names, mark_of, case_marks}
 use Rattle.loose_core.specs.Loose.{Arrivals, Arrives}

@@ -1,7 +1,5 @@
 pub mod FreshOnes
-pub mod SourceNames
 pub mod OwnNames
-pub mod FileScopes
 pub mod LoweredForm
 pub mod LoweredBound
 pub mod SourcePrints

@@ -33,7 +33,7 @@ use Rattle.lowered_forms.specs.Lowering.{most_held, IsTopLowered, LoweredTops, l
 use Rattle.lowered_programs.proofs.Tops.{either}
 use Rattle.lowered_resolved.specs.Modest.{IsModestTop}
 use Rattle.lowered_resolved.specs.Laws.{IsTopUntangled}
-use Rattle.lowered_resolved.proofs.FileScopes.{IsFree, AreOfFile, top_file, start_file, body_bound, function_over}
+use Rattle.plain_resolved.proofs.FileScopes.{IsFree, AreOfFile, top_file, start_file, body_bound, function_over}
 use Rattle.lowered_resolved.proofs.LoweredFunctions as F
 
 -- ---- lists of tops, with facts of the source

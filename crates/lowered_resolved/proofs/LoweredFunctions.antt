@@ -52,7 +52,7 @@ use Rattle.lowered_programs.proofs.GotosStand.{OfGoto}
 use Rattle.lowered_resolved.specs.Modest.{IsModestItem}
 use Rattle.lowered_resolved.proofs.FreshOnes.{labels_length, labels_named, labels_apart}
 use Rattle.lowered_resolved.proofs.OwnNames as O
-use Rattle.lowered_resolved.proofs.FileScopes.{declares_in}
+use Rattle.plain_resolved.proofs.FileScopes.{declares_in}
 use Rattle.lowered_resolved.proofs.LoweredForm.{are_codes, codes_apart, body_flat, list_flat, list_marks, gotos_below, lowered_form}
 use Rattle.lowered_resolved.proofs.LoweredBound.{lowered_bound}
 use Rattle.lowered_resolved.proofs.LoweredSpelled.{flat_shallow, lowered_spelled}

@@ -35,8 +35,8 @@ use Rattle.named_forms.proofs.Forms.{named_length}
 use Rattle.named_forms.proofs.FreshNames.{Grows, grows_self, grows_with, own_with}
 use Rattle.named_forms.proofs.NamedOwn.{flat_names_own}
 use Rattle.named_forms.proofs.OwnNames.{slots_grow}
-use Rattle.lowered_resolved.proofs.SourceNames as S
-use Rattle.lowered_resolved.proofs.SourceNames.{slots_named}
+use Rattle.plain_resolved.proofs.SourceNames as S
+use Rattle.plain_resolved.proofs.SourceNames.{slots_named}
 use Rattle.lowered_core.specs.Lowered.{variables_of}
 use Rattle.lowered_forms.specs.Lowering.{most_held, constructs}
 use Rattle.lowered_programs.proofs.Variables.{used_behind, counted}

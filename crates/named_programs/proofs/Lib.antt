@@ -5,5 +5,4 @@ pub mod MadeLabels
 pub mod NamedFlat
 pub mod NamedTops
 pub mod NewGuards
-pub mod SourceNames
 pub mod SwitchCases

@@ -48,7 +48,7 @@ use Rattle.named_programs.specs.Flattened.{most_held}
 use Rattle.named_programs.proofs.LabelNames.{IsCode, codes_stand, labels_have_names}
 use Rattle.named_programs.proofs.MadeLabels.{constructs_named, constructs_given, constructs_used, slots_used}
 use Rattle.named_programs.proofs.NewGuards.{guard_names_new}
-use Rattle.named_programs.proofs.SourceNames.{labels_named, slots_named}
+use Rattle.plain_resolved.proofs.SourceNames.{labels_named, slots_named}
 use Rattle.named_programs.proofs.SwitchCases.{cases_counted, few_cases}
 
 -- ---- the names of a part are names of the whole

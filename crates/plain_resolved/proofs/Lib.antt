@@ -22,6 +22,7 @@ pub mod ScopeLists
 pub mod SourceBound
 pub mod PlainBound
 pub mod UnmovedBound
+pub mod FileScopes
 pub mod FileBound
 pub mod PrintsOver
 pub mod PlainSpelled
@@ -40,3 +41,4 @@ pub mod PlainDepths
 pub mod GuardWords
 pub mod GuardsOwn
 pub mod NamedForm
+pub mod SourceNames

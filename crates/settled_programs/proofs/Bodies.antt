@@ -8,7 +8,6 @@ use Rattle.c_tree.proofs.WellMoved.{everywhere_map, everywhere_both}
 use Rattle.c_resolved.specs.Form.{ends_with_break, IsKept, AreSections, HasSourceForm}
 use Rattle.struct_meaning.specs.Structured.{IsStructured}
 use Rattle.flat_core.specs.Parts.{has_jumps}
-use Rattle.flat_core.specs.Unlabelled.{unlabelled, unlabelled_among}
 use Rattle.plain_core.specs.Tidied.{last_break, without_last, give, put_section, tidy, tidy_item, tidy_sections}
 use Rattle.whole_core.proofs.Unlabelled.{IsPlainItem}
 use Rattle.plain_resolved.proofs.PlainLengths.{no_jumps}
@@ -59,25 +58,6 @@ module _ (f : Function) where
     tidy_same_in (Section cases default a ends c) s h = (λ i. put_section cases default (tidy_same a h.0 i) ends (tidy_same_in c s.4 h.1 i)) ∙ put_same cases default a ends c s.1 s.2
 
 -- ---- a body without jumps
-
-mutual
-  pub unlabelled_same : (a : Forest) → Everywhere IsStructured a → unlabelled a ≡ a
-  unlabelled_same Nil h = refl
-  unlabelled_same (Then x a) h = unlabelled_first x a h.0 (unlabelled_same a h.1)
-
-  unlabelled_first : (x : Tree) (a : Forest) → EverywhereOf IsStructured x → unlabelled a ≡ a → unlabelled (Then x a) ≡ Then x a
-  unlabelled_first (If t b d) a h e = λ i. Then (If t (unlabelled_same b h.1 i) (unlabelled_same d h.2 i)) (e i)
-  unlabelled_first (While t b) a h e = λ i. Then (While t (unlabelled_same b h.1 i)) (e i)
-  unlabelled_first (Do b t) a h e = λ i. Then (Do (unlabelled_same b h.1 i) t) (e i)
-  unlabelled_first (For first t u b) a h e = λ i. Then (For (unlabelled_same first h.1 i) t u (unlabelled_same b h.2 i)) (e i)
-  unlabelled_first (Switch s c) a h e = λ i. Then (Switch s (unlabelled_same_in c h.1 i)) (e i)
-  unlabelled_first (Block b) a h e = λ i. Then (Block (unlabelled_same b h.1 i)) (e i)
-  unlabelled_first (Mark l) a h e = absurd h
-  unlabelled_first x a h e = ap (Then x) e
-
-  unlabelled_same_in : (c : Sections) → EverywhereIn IsStructured c → unlabelled_among c ≡ c
-  unlabelled_same_in NoSection h = refl
-  unlabelled_same_in (Section cases default a ends c) h = λ i. Section cases default (unlabelled_same a h.0 i) ends (unlabelled_same_in c h.1 i)
 
 plain_of : (f : Function) (x : Tree) → IsStructured x × HasSourceForm f x → IsPlainItem x
 plain_of f (Goto l) h = absurd h.0

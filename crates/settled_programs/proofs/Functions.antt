@@ -16,7 +16,8 @@ use Rattle.plain_core.proofs.TidyTrees.{tidied_trees}
 use Rattle.plain_resolved.proofs.PlainTops.{no_body}
 use Rattle.plain_resolved.proofs.TidyForm.{unmarked}
 use Rattle.one_rewriting.proofs.Items.{same_items}
-use Rattle.settled_programs.proofs.Bodies.{tidy_same, unlabelled_same, plain_items, jumpless}
+use Rattle.whole_core.proofs.Unlabelled.{unlabelled_same}
+use Rattle.settled_programs.proofs.Bodies.{tidy_same, plain_items, jumpless}
 
 -- ---- the plain form
 

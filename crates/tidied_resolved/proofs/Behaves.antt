@@ -32,7 +32,8 @@ use Rattle.tidied_resolved.proofs.Loose.{IsLoose, TopIsLoose, IsLooseFile}
 use Rattle.tidied_resolved.proofs.Files.{Over, o_none, o_function, o_other}
 use Rattle.tidied_resolved.proofs.ChangedFiles.{IsStep, first_over, loose_step}
 use Rattle.tidied_resolved.proofs.Kinded.{loose_kinds}
-use Rattle.tidied_resolved.proofs.Sections.{IsSectioned, unlabelled_same}
+use Rattle.whole_core.proofs.Unlabelled.{unlabelled_same}
+use Rattle.tidied_resolved.proofs.Sections.{IsSectioned}
 
 abbrev file : List Top → Program
 file ts = record { tops = ts }

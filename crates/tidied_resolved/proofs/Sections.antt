@@ -8,18 +8,18 @@ use Rattle.c_tree.specs.declared.tree.Item.{Item}
 use Rattle.c_tree.specs.declared.tree.Top.{Top}
 use Rattle.c_tree.specs.declared.tree.Top.TheVariants as T
 use Rattle.c_tree.specs.ExpressionTrees.{ExpressionTree}
-use Rattle.c_tree.specs.Trees.{Tree, Forest, Nil, Then, Sections, NoSection, Section, Return, If, While, Do, For, Switch, Block, Mark, trees_of}
-use Rattle.c_tree.specs.Everywhere.{Everywhere, EverywhereOf, EverywhereIn}
+use Rattle.c_tree.specs.Trees.{Tree, Forest, Nil, Sections, Return, For, Switch, trees_of}
+use Rattle.c_tree.specs.Everywhere.{Everywhere}
 use Rattle.c_tree.specs.InRange.{body_of}
 use Rattle.c_tree.proofs.WellMoved.{everywhere_map, everywhere_both}
 use Rattle.struct_meaning.specs.Structured.{IsStructured}
 use Rattle.flat_core.specs.Parts.{has_jumps}
-use Rattle.flat_core.specs.Unlabelled.{unlabelled, unlabelled_among}
+use Rattle.flat_core.specs.Unlabelled.{unlabelled}
 use Rattle.plain_core.specs.Plain.{tidied, with_guard_variables, plain_body, plain_function, plain_top}
 use Rattle.plain_core.specs.Tidied.{tidy, tidy_item, tidy_sections}
 use Rattle.plain_core.proofs.PlainRange.{tidy_everywhere}
 use Rattle.whole_core.specs.Rewritten.{IsNoFunction}
-use Rattle.whole_core.proofs.Unlabelled.{IsPlainItem}
+use Rattle.whole_core.proofs.Unlabelled.{IsPlainItem, unlabelled_same}
 use Rattle.c_resolved.specs.Form.{gathered, marked_label, numbers_from, HasForm, HasNoLoose, HasSourceForm}
 use Rattle.c_resolved.specs.Kinds.{KindsAgree, ItemAgrees, ReturnFits, WritesNoConst, KeepsConsts}
 use Rattle.c_resolved.specs.Names.{Names}
@@ -45,27 +45,6 @@ use Rattle.changed_bodies.proofs.KeptFacts.{HasEntries}
 use Rattle.changed_bodies.proofs.TrimLists.{HasFirst}
 use Rattle.tidied_resolved.proofs.Loose.{IsLoose, TopIsLoose, loose_plain}
 use Rattle.tidied_resolved.proofs.Files.{Over, o_none, o_function, o_other, KeepsBound, KeepsSpelling, loose_over, other_over}
-
--- ---- without labels nothing goes
-
-mutual
-  pub unlabelled_same : (a : Forest) → Everywhere IsStructured a → unlabelled a ≡ a
-  unlabelled_same Nil h = refl
-  unlabelled_same (Then x a) h = unlabelled_first x a h.0 (unlabelled_same a h.1)
-
-  unlabelled_first : (x : Tree) (a : Forest) → EverywhereOf IsStructured x → unlabelled a ≡ a → unlabelled (Then x a) ≡ Then x a
-  unlabelled_first (If t b d) a h e = λ i. Then (If t (unlabelled_same b h.1 i) (unlabelled_same d h.2 i)) (e i)
-  unlabelled_first (While t b) a h e = λ i. Then (While t (unlabelled_same b h.1 i)) (e i)
-  unlabelled_first (Do b t) a h e = λ i. Then (Do (unlabelled_same b h.1 i) t) (e i)
-  unlabelled_first (For first t u b) a h e = λ i. Then (For (unlabelled_same first h.1 i) t u (unlabelled_same b h.2 i)) (e i)
-  unlabelled_first (Switch s c) a h e = λ i. Then (Switch s (unlabelled_same_in c h.1 i)) (e i)
-  unlabelled_first (Block b) a h e = λ i. Then (Block (unlabelled_same b h.1 i)) (e i)
-  unlabelled_first (Mark l) a h e = absurd h
-  unlabelled_first x a h e = ap (Then x) e
-
-  unlabelled_same_in : (c : Sections) → EverywhereIn IsStructured c → unlabelled_among c ≡ c
-  unlabelled_same_in NoSection h = refl
-  unlabelled_same_in (Section cases default a ends c) h = λ i. Section cases default (unlabelled_same a h.0 i) ends (unlabelled_same_in c h.1 i)
 
 -- ---- a function and the same with its sections
 

@@ -32,7 +32,7 @@ use Rattle.whole_core.proofs.Free.{IsFree, free_body, plain_body}
 -- ---- no Leap
 
 mutual
-  no_leap : (a : Forest) → leaps a ≡ 0 → Everywhere IsNoLeap a
+  pub no_leap : (a : Forest) → leaps a ≡ 0 → Everywhere IsNoLeap a
   no_leap Nil h = tt
   no_leap (Then x a) h = (no_leap_of x (omega (arith, h)), no_leap a (omega (arith, h)))
 
@@ -60,7 +60,7 @@ mutual
   no_leap_in NoSection h = tt
   no_leap_in (Section cases default a ends c) h = (no_leap a (omega (arith, h)), no_leap_in c (omega (arith, h)))
 
-leapless_stable : IsStable IsNoLeap
+pub leapless_stable : IsStable IsNoLeap
 leapless_stable = record {
   ifs = λ t a b a' b' e h. tt;
   whiles = λ t a a' n h. tt;
@@ -75,7 +75,7 @@ leapless_stable = record {
   nests = λ t u a o h j. tt;
 }
 
-leapless_become : (d : ℕ → Bool) → Becomes d IsNoLeap IsNoLeap
+pub leapless_become : (d : ℕ → Bool) → Becomes d IsNoLeap IsNoLeap
 leapless_become d = record {
   arm = λ l e i h. h;
   arm_if = λ l e i h. tt;
@@ -89,7 +89,7 @@ leapless_become d = record {
   others = λ x o h. h;
 }
 
-free_item : (x : Tree) → IsConverted x × IsNoLeap x → IsFree x
+pub free_item : (x : Tree) → IsConverted x × IsNoLeap x → IsFree x
 free_item (Goto l) h = h.0
 free_item (Mark l) h = h.0
 free_item (Leap l) h = h.1
@@ -125,10 +125,10 @@ abbrev pub IsPlainTop : Top → Type 0
 IsPlainTop (T.Function f) = f.flat ≡ false → is_plain_function f ≡ true
 IsPlainTop _ = Unit {0}
 
-flat_free : (f : Function) → f.flat ≡ true → body_holds is_jump_free f.body ≡ true → is_jump_free_function f ≡ true
+pub flat_free : (f : Function) → f.flat ≡ true → body_holds is_jump_free f.body ≡ true → is_jump_free_function f ≡ true
 flat_free f e h = subst (λ b. body_holds (if b then is_jump_free else is_plain) f.body ≡ true) (sym e) h
 
-unflat_free : (f : Function) → f.flat ≡ false → is_plain_function f ≡ true → is_jump_free_function f ≡ true
+pub unflat_free : (f : Function) → f.flat ≡ false → is_plain_function f ≡ true → is_jump_free_function f ≡ true
 unflat_free f e h = subst (λ b. body_holds (if b then is_jump_free else is_plain) f.body ≡ true) (sym e) h
 
 moved_ended : (f g : Function) (ms : List Move) → f.flat ≡ true → IsConvertible (T.Function f) → IsMoved f g ms → IsEndedFunction g

@@ -1,5 +1,5 @@
 -- What the items of a function have without its labels.
-use Rattle.std.proofs.Common.{true≢false, List, Option, sym}
+use Rattle.std.proofs.Common.{◌≡◌, true≢false, List, Option, sym, refl, ap}
 use Rattle.c_tree.specs.ExpressionTrees.{ExpressionTree}
 use Rattle.c_tree.specs.TestTrees.{TestTree, Source, On, Off, AndOff, OrOn, SelectorTree, Selects, Pick}
 use Rattle.c_tree.specs.Trees.{Tree, Forest, Nil, Then, Sections, NoSection, Section, Evaluate, Return, If, While, Do, For, Switch, Block, Local, Break, Continue, Goto, Mark, Arm, Leap, Land, Arrival, Note}
@@ -8,6 +8,7 @@ use Rattle.c_tree.specs.InRange.{IsUnguarded}
 use Rattle.c_tree.proofs.KeptLemmas.{everywhere_join}
 use Rattle.jump_meaning.specs.Code.{Code}
 use Rattle.c_tree.specs.declared.tree.Slot.{Slot}
+use Rattle.struct_meaning.specs.Structured.{IsStructured}
 use Rattle.loose_core.specs.Loose.{Setting}
 use Rattle.flat_core.specs.Unlabelled.{unlabelled, unlabelled_item, unlabelled_among, IsCalmItem}
 use Rattle.plain_core.specs.Kinded.{KindedItem}
@@ -163,3 +164,24 @@ plain_unguarded (Arm l e) h = absurd h
 plain_unguarded (Leap l) h = absurd h
 plain_unguarded (Land l) h = absurd h
 plain_unguarded (Note bs) h = tt
+
+-- ---- a list without labels
+
+mutual
+  pub unlabelled_same : (a : Forest) → Everywhere IsStructured a → unlabelled a ≡ a
+  unlabelled_same Nil h = refl
+  unlabelled_same (Then x a) h = unlabelled_first x a h.0 (unlabelled_same a h.1)
+
+  unlabelled_first : (x : Tree) (a : Forest) → EverywhereOf IsStructured x → unlabelled a ≡ a → unlabelled (Then x a) ≡ Then x a
+  unlabelled_first (If t b d) a h e = λ i. Then (If t (unlabelled_same b h.1 i) (unlabelled_same d h.2 i)) (e i)
+  unlabelled_first (While t b) a h e = λ i. Then (While t (unlabelled_same b h.1 i)) (e i)
+  unlabelled_first (Do b t) a h e = λ i. Then (Do (unlabelled_same b h.1 i) t) (e i)
+  unlabelled_first (For first t u b) a h e = λ i. Then (For (unlabelled_same first h.1 i) t u (unlabelled_same b h.2 i)) (e i)
+  unlabelled_first (Switch s c) a h e = λ i. Then (Switch s (unlabelled_same_in c h.1 i)) (e i)
+  unlabelled_first (Block b) a h e = λ i. Then (Block (unlabelled_same b h.1 i)) (e i)
+  unlabelled_first (Mark l) a h e = absurd h
+  unlabelled_first x a h e = ap (Then x) e
+
+  unlabelled_same_in : (c : Sections) → EverywhereIn IsStructured c → unlabelled_among c ≡ c
+  unlabelled_same_in NoSection h = refl
+  unlabelled_same_in (Section cases default a ends c) h = λ i. Section cases default (unlabelled_same a h.0 i) ends (unlabelled_same_in c h.1 i)

@@ -58,7 +58,7 @@ ended p q ms s w =
     let f = flat_program p w.flat s w.flattened in
     ended_tops f.convertible (plain_tops (recursion_from_All IsSourceTop p.tops s.tops) w.flattened) w.moved
 
-free_tops : (ts : List Top) → AllByRecursion IsEnded ts → all_true (map (top_holds is_jump_free_function) ts) ≡ true
+pub free_tops : (ts : List Top) → AllByRecursion IsEnded ts → all_true (map (top_holds is_jump_free_function) ts) ≡ true
 free_tops [] h = refl
 free_tops (T.Function f ∷ ts) h = both (is_jump_free_function f) (all_true (map (top_holds is_jump_free_function) ts)) h.0.free (free_tops ts h.1)
 free_tops (T.Include b ∷ ts) h = free_tops ts h.1
@@ -71,7 +71,7 @@ jump_free p q ms s w = free_tops q.tops (ended p q ms s w)
 
 -- ---- the plain form
 
-finished_tops : (c : Code) (names : Function → List (List ℕ)) (ts : List Top) → AllByRecursion IsEnded ts → AllByRecursion (IsKindedTop c) ts → AllByRecursion (IsTopNamed names) ts → AllByRecursion (IsTopFinished c names) ts
+pub finished_tops : (c : Code) (names : Function → List (List ℕ)) (ts : List Top) → AllByRecursion IsEnded ts → AllByRecursion (IsKindedTop c) ts → AllByRecursion (IsTopNamed names) ts → AllByRecursion (IsTopFinished c names) ts
 finished_tops c names [] e k n = tt
 finished_tops c names (T.Function f ∷ ts) e k n = (record { kinded = k.0; made = e.0.made; leapless = e.0.leapless; named = n.0 }, finished_tops c names ts e.1 k.1 n.1)
 finished_tops c names (T.Include b ∷ ts) e k n = (tt, finished_tops c names ts e.1 k.1 n.1)
@@ -79,7 +79,7 @@ finished_tops c names (T.Enum es ∷ ts) e k n = (tt, finished_tops c names ts e
 finished_tops c names (T.Global g ∷ ts) e k n = (tt, finished_tops c names ts e.1 k.1 n.1)
 finished_tops c names (T.Note b ∷ ts) e k n = (tt, finished_tops c names ts e.1 k.1 n.1)
 
-both_runs : (p q r : Program) → BehaveTheSame p q → BehavesAsStructured q r → BehavesAsStructured p r
+pub both_runs : (p q r : Program) → BehaveTheSame p q → BehavesAsStructured q r → BehavesAsStructured p r
 both_runs p q r h k = record {
   runs = λ m arguments e input answers.
       same_runs_trans (jump_run (code_of p) m arguments input answers) (jump_run (code_of q) m arguments input answers) (structural_run (code_of r) m arguments input answers)

@@ -1,6 +1,6 @@
 -- A whole program rewritten, on trees: each function gets its flat form, its gotos are converted and moved until
 -- no Leap is left, and what that made is simplified. Names of labels, slots and guards aside.
-use Rattle.std.specs.Prelude.{ℕ, ◌+◌, ◌≡◌, true, false, List, [], ◌∷◌, ◌++◌, map, length, take, drop, Option, Some, None, cond}
+use Rattle.std.specs.Prelude.{◌+◌, ◌≡◌, true, false, List, [], ◌∷◌, length, take, drop, Some, None, cond}
 use Rattle.std.specs.List.{AllByRecursion}
 use Rattle.c_tree.specs.declared.tree.Item.{Item}
 use Rattle.c_tree.specs.declared.tree.Slot.{Slot}

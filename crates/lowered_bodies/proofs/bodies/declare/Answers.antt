@@ -1,4 +1,4 @@
-use Rattle.std.proofs.Common.{◌≡◌, ◌+◌, ◌++◌, ◌∷◌, [], None, sym, ap, ◌∙◌}
+use Rattle.std.proofs.Common.{◌+◌, None, ap, ◌∙◌}
 use Rattle.c_tree.specs.Changed.{one}
 use Rattle.c_tree.specs.declared.tree.Item as I
 use Rattle.c_tree.specs.Trees.{trees_of, join}

@@ -1,16 +1,14 @@
-use Rattle.std.proofs.Common.{◌≡◌, ℕ, ◌+◌, ◌-◌, length, arith, refl, sym, ap, ◌∙◌}
+use Rattle.std.proofs.Common.{◌≡◌, ℕ, ◌+◌, ◌-◌, length, arith, ap, ◌∙◌}
 use Rattle.std.proofs.Math.Path.{fun_ext}
 use Rattle.c_tree.specs.Everywhere.{total}
 use Rattle.c_tree.specs.Numerals.{constant}
-use Rattle.c_tree.specs.Trees.{Forest, Nil, trees_of, join}
+use Rattle.c_tree.specs.Trees.{trees_of, join}
 use Rattle.c_tree.proofs.TreeLaws.{trees-none}
 use Rattle.loose_core.specs.Loose.{NoArrival}
 use Rattle.loose_core.specs.Pieces.{Stays}
 use Rattle.flat_core.specs.FlatForm.{first_here, marks, place_in}
 use Rattle.lowered_core.specs.Lowered.{Layout, coded, placed, lowered, declarations, variables_of}
-use Rattle.lowered_items.specs.Plans.{layout_of}
 use Rattle.lowered_bodies.specs.Codes.{codes_of}
-use Rattle.lowered_bodies.specs.Places.{number_at}
 use Rattle.lowered_bodies.specs.Renumbered.{renumbered}
 use Rattle.lowered_bodies.proofs.Layouts.{layout_is}
 use Rattle.lowered_bodies.proofs.NumberLaws.{placed_is}

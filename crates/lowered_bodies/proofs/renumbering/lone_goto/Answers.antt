@@ -1,4 +1,4 @@
-use Rattle.std.proofs.Common.{◌≡◌, length, arith, sym, ◌∙◌}
+use Rattle.std.proofs.Common.{arith, sym, ◌∙◌}
 use Rattle.lowered_bodies.proofs.Layouts.{lone, not_lone}
 use Rattle.lowered_bodies.proofs.renumbering.lone_goto.Goals as goal
 

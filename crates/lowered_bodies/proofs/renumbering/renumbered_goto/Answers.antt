@@ -1,4 +1,4 @@
-use Rattle.std.proofs.Common.{◌≡◌, sym, ap, ◌∙◌}
+use Rattle.std.proofs.Common.{sym, ap, ◌∙◌}
 use Rattle.c_tree.specs.Trees.{trees_of}
 use Rattle.lowered_bodies.specs.Places.{number_at}
 use Rattle.lowered_bodies.specs.Renumbered.{lone_goto}

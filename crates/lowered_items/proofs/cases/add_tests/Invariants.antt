@@ -1,5 +1,5 @@
-use Rattle.std.proofs.Common.{◌≡◌, ◌+◌, ◌-◌, ◌≤◌, length, drop}
-use Rattle.c_tree.specs.Trees.{trees_of, sections_of, expression_trees, join}
+use Rattle.std.proofs.Common.{◌≡◌, drop}
+use Rattle.c_tree.specs.Trees.{trees_of, join}
 use Rattle.flat_items.specs.Pieces.{number_tests}
 use Rattle.lowered_items.specs.Plans.{number_label}
 use Rattle.lowered_items.proofs.cases.add_tests.Given as goal

@@ -1,5 +1,4 @@
-use Rattle.std.proofs.Common.{◌≡◌, ◌+◌, ◌*◌, refl, ap, ◌∙◌}
-use Rattle.c_tree.specs.Trees.{sections_of}
+use Rattle.std.proofs.Common.{◌+◌, ◌*◌, refl, ap, ◌∙◌}
 use Rattle.flat_core.specs.FlatForm.{place_of}
 use Rattle.lowered_items.proofs.cases.chosen.Goals as goal
 

@@ -1,4 +1,4 @@
-use Rattle.std.proofs.Common.{◌≡◌, ◌+◌, cond, None, sym, ap, ◌∙◌}
+use Rattle.std.proofs.Common.{cond, None, sym, ap, ◌∙◌}
 use Rattle.flat_parts.specs.Reading.{is_flagged}
 use Rattle.tree_views.specs.Views.{tree_at}
 use Rattle.lowered_items.specs.Jumps.{goto_of}

@@ -1,5 +1,5 @@
-use Rattle.std.proofs.Common.{◌≡◌, ◌+◌, ◌-◌, ◌≤◌, length, drop}
-use Rattle.c_tree.specs.Trees.{trees_of, sections_of, expression_trees, join}
+use Rattle.std.proofs.Common.{◌≡◌, drop}
+use Rattle.c_tree.specs.Trees.{trees_of}
 use Rattle.flat_parts.specs.Reading.{is_flagged}
 use Rattle.lowered_core.specs.Lowered.{only_goto}
 use Rattle.lowered_items.proofs.jumps.only_goto.Given as goal

@@ -1,4 +1,4 @@
-use Rattle.std.proofs.Common.{◌≡◌, sym, ap, ◌∙◌}
+use Rattle.std.proofs.Common.{sym, ap, ◌∙◌}
 use Rattle.std.specs.Vec.Iter.{into_iter_items}
 use Rattle.c_tree.specs.Trees.{trees_of, join}
 use Rattle.lowered_items.proofs.Moving.{emptied, all_step, all_end}

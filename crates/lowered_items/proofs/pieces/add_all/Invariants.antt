@@ -1,6 +1,6 @@
-use Rattle.std.proofs.Common.{◌≡◌, ◌+◌, ◌-◌, ◌≤◌, length, drop}
+use Rattle.std.proofs.Common.{◌≡◌}
 use Rattle.std.specs.Vec.Iter.{into_iter_items}
-use Rattle.c_tree.specs.Trees.{trees_of, sections_of, expression_trees, join}
+use Rattle.c_tree.specs.Trees.{trees_of, join}
 use Rattle.lowered_items.proofs.pieces.add_all.Given as goal
 
 abbrev pub invariant-loop-item : goal.invariant-loop-item

@@ -1,4 +1,4 @@
-use Rattle.std.proofs.Common.{◌≡◌, ◌+◌, ◌-◌, length, arith, sym, ap, ◌∙◌}
+use Rattle.std.proofs.Common.{◌-◌, length, arith, sym, ap, ◌∙◌}
 use Rattle.std.specs.Vec.Iter.{into_iter_items}
 use Rattle.c_tree.specs.Changed.{one}
 use Rattle.c_tree.specs.Trees.{trees_of, expression_trees, join}

@@ -1,6 +1,6 @@
-use Rattle.std.proofs.Common.{◌≡◌, ◌+◌, ◌-◌, ◌≤◌, length, drop}
+use Rattle.std.proofs.Common.{◌≡◌, ◌+◌, ◌-◌, length}
 use Rattle.std.specs.Vec.Iter.{into_iter_items}
-use Rattle.c_tree.specs.Trees.{trees_of, sections_of, expression_trees, join}
+use Rattle.c_tree.specs.Trees.{trees_of, expression_trees, join}
 use Rattle.loose_core.specs.Pieces.{assigned_cells}
 use Rattle.lowered_items.proofs.pieces.add_cells.Given as goal
 

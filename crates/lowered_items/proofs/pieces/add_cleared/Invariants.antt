@@ -1,5 +1,5 @@
-use Rattle.std.proofs.Common.{◌≡◌, ◌+◌, ◌-◌, ◌≤◌, length, drop}
-use Rattle.c_tree.specs.Trees.{trees_of, sections_of, expression_trees, join}
+use Rattle.std.proofs.Common.{◌≡◌, ◌-◌}
+use Rattle.c_tree.specs.Trees.{trees_of, join}
 use Rattle.std.proofs.Common.{[]}
 use Rattle.loose_core.specs.Pieces.{assigned_cells}
 use Rattle.lowered_items.proofs.pieces.add_cleared.Given as goal

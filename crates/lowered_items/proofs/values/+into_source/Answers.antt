@@ -1,4 +1,4 @@
-use Rattle.std.proofs.Common.{◌≡◌, sym, ap, ◌∙◌}
+use Rattle.std.proofs.Common.{sym, ap, ◌∙◌}
 use Rattle.c_tree.specs.Cases.{selector_source}
 use Rattle.c_tree.specs.TestTrees.{selector_tree}
 use Rattle.c_tree.proofs.ExpressionLaws.{selector-Source, selector-Pick}

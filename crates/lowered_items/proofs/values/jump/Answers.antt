@@ -1,4 +1,4 @@
-use Rattle.std.proofs.Common.{◌≡◌, ◌++◌, ◌∷◌, [], sym, ap, ◌∙◌}
+use Rattle.std.proofs.Common.{◌++◌, ◌∷◌, [], ap, ◌∙◌}
 use Rattle.c_tree.specs.Changed.{one}
 use Rattle.c_tree.specs.TestTrees.{test_tree}
 use Rattle.c_tree.specs.Trees as Plain

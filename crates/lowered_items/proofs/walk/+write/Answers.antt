@@ -1,31 +1,29 @@
-use Rattle.std.proofs.Common.{◌≡◌, ℕ, suc, ◌+◌, ◌*◌, List, [], ◌∷◌, length, cond, true, false, Option, Some, None, option_map, refl, sym, ap, ◌∙◌, subst}
+use Rattle.std.proofs.Common.{length, option_map, sym, ap, ◌∙◌, subst}
 use Rattle.std.proofs.lemmas.Result.{on_ok_weaker, IfOk-weaker}
 use Rattle.std.specs.Vec.Iter.{into_iter_items}
 use Rattle.c_tree.specs.Changed.{one}
-use Rattle.c_tree.specs.ExpressionTrees.{ExpressionTree, expression_tree}
-use Rattle.c_tree.specs.Paths.{list_of}
-use Rattle.c_tree.specs.TestTrees.{TestTree, SelectorTree, test_tree, selector_tree}
+use Rattle.c_tree.specs.ExpressionTrees.{expression_tree}
+use Rattle.c_tree.specs.TestTrees.{test_tree, selector_tree}
 use Rattle.c_tree.specs.Trees as Plain
-use Rattle.c_tree.specs.Trees.{Tree, Forest, Nil, Then, Sections, trees_of, sections_of, expression_trees, join}
+use Rattle.c_tree.specs.Trees.{Then, trees_of, sections_of, expression_trees, join}
 use Rattle.c_tree.specs.declared.tree.Section.{out-Section}
-use Rattle.c_tree.proofs.TreeLaws.{trees-none, join-nil}
-use Rattle.loose_core.specs.Pieces.{Aim, Stays, Becomes, Absent, mark_of, case_marks}
+use Rattle.c_tree.proofs.TreeLaws.{trees-none}
+use Rattle.loose_core.specs.Pieces.{Stays, case_marks}
 use Rattle.loose_core.specs.Loose.{NoArrival, Arrives}
-use Rattle.flat_core.specs.Parts.{Here, switch_labels, cases_among}
+use Rattle.flat_core.specs.Parts.{switch_labels, cases_among}
 use Rattle.flat_core.specs.FlatForm.{end_goto}
 use Rattle.jump_meaning.specs.Step.{switch_kind}
 use Rattle.flat_parts.specs.Reading.{is_flagged}
-use Rattle.lowered_items.specs.declared.plans.Cases as C
 use Rattle.lowered_items.specs.declared.plans.Labels as N
-use Rattle.lowered_core.specs.Lowered.{Layout, jump_of, past, past_item, inside, lowered, lowered_item, lowered_among, lowered_for, for_aim, continue_aim}
+use Rattle.lowered_core.specs.Lowered.{jump_of, past, past_item, inside, lowered, lowered_item, lowered_among, lowered_for, for_aim, continue_aim}
 use Rattle.tree_views.specs.Views.{tree_at}
 use Rattle.tree_views.proofs.Views.{at-Evaluate, at-If, at-While, at-Do, at-For, at-Switch, at-Block, at-Goto, at-Mark, at-Break, at-Continue, at-Return, at-Local, at-Arm, at-Leap, at-Land, at-Note, at-Arrival}
 use Rattle.flat_items.proofs.Joining.{joined}
-use Rattle.lowered_items.specs.Plans.{layout_of, here_of, entered_at, aim_of, arrivals_of, arrivals_if, case_names, labels_at}
-use Rattle.lowered_items.specs.Loops.{Frame, frame_of, framed, while_frame, do_frame, for_frame}
+use Rattle.lowered_items.specs.Plans.{layout_of, here_of, entered_at, aim_of, arrivals_of, arrivals_if, case_names}
+use Rattle.lowered_items.specs.Loops.{Frame, frame_of, framed, for_frame}
 use Rattle.lowered_items.specs.Choices.{AreCases, breaks_of, choice_form}
-use Rattle.lowered_items.specs.Forms.{past_among, then_part, part_form, local_form}
-use Rattle.lowered_items.proofs.Steps.{same_here, still, past_If, past_While, past_Do, past_For, past_Block, past_Switch, place_step, place_end, walk_step, walk_end, place_step_in, place_end_in, parts_step, parts_end, past_jump}
+use Rattle.lowered_items.specs.Forms.{past_among, then_part}
+use Rattle.lowered_items.proofs.Steps.{still, past_If, past_While, past_Do, past_For, past_Block, past_Switch, place_step, place_end, walk_step, walk_end, place_step_in, place_end_in, parts_step, parts_end, past_jump}
 use Rattle.lowered_items.proofs.Shapes.{framed_is, parts_joined, while_is, do_is, for_is, for_breaks_are, if_is, jump_is, switch_is, local_is}
 use Rattle.lowered_items.proofs.Moving.{emptied}
 use Rattle.lowered_items.proofs.walk.+write.Goals as goal

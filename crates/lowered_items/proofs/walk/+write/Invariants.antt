@@ -1,6 +1,6 @@
-use Rattle.std.proofs.Common.{◌≡◌, ◌+◌, ◌-◌, ◌≤◌, length, drop}
+use Rattle.std.proofs.Common.{◌≡◌}
 use Rattle.std.specs.Vec.Iter.{into_iter_items}
-use Rattle.c_tree.specs.Trees.{trees_of, sections_of, expression_trees, join}
+use Rattle.c_tree.specs.Trees.{trees_of, sections_of, join}
 use Rattle.lowered_core.specs.Lowered.{past, lowered, lowered_among}
 use Rattle.lowered_items.specs.Forms.{past_among}
 use Rattle.lowered_items.specs.Plans.{layout_of, here_of, aim_of, arrivals_of, case_names}

@@ -1,4 +1,4 @@
-use Rattle.std.proofs.Common.{◌≡◌, option_map, sym, ap, ◌∙◌}
+use Rattle.std.proofs.Common.{option_map, sym, ap, ◌∙◌}
 use Rattle.c_tree.specs.Trees.{trees_of, expression_trees, join}
 use Rattle.c_tree.proofs.TreeLaws.{join-nil}
 use Rattle.lowered_items.specs.Forms.{local_form}
