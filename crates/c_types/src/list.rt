@@ -187,6 +187,10 @@ impl<T: Drop> List<T> {
         if self.items.len() >= MOST {
             return Err(Memory);
         }
+        // Most lists of a tree have one entry, where a first push makes room for four.
+        if self.items.is_empty() {
+            self.items.reserve_exact(1)?;
+        }
         self.items.push(item)?;
         Ok(())
     }
