@@ -13,7 +13,7 @@ use Rattle.c_tree.specs.ExpressionTrees.{expression_tree}
 use Rattle.c_tree.specs.TestTrees.{test_tree, selector_tree}
 use Rattle.c_tree.specs.Trees as P
 use Rattle.c_tree.specs.declared.tree.Section as Real
-use Rattle.c_tree.specs.Trees.{Tree, Forest, Then, Sections, NoSection, Section, trees_of, sections_of, expression_trees, join}
+use Rattle.c_tree.specs.Trees.{Tree, Forest, Then, Sections, Section, trees_of, sections_of, expression_trees, join}
 use Rattle.c_tree.specs.Changed.{one}
 use Rattle.c_tree.proofs.TreeLaws.{trees-none, sections-none}
 use Rattle.jump_meaning.specs.Code.{FunctionTree}
@@ -36,9 +36,6 @@ put_put F G H h (Some c) = ap (λ z. Some (c.0, z)) (h c.1)
 
 pub some_none : {A : Type 0} (x : A) → Some x ≡ None → ⊥
 some_none x e = cc
-
-pub some_no : {A P : Type 0} {x : A} → Some x ≡ None → P
-some_no {x = x} e = absurd (some_none x e)
 
 -- nothing was found
 nothing : {A B : Type 0} (F : A → B) (r : Option (ℕ × B)) (o : Option (ℕ × A)) → r ≡ put F o → r ≡ None → o ≡ None
@@ -85,18 +82,10 @@ module _ (f : FunctionTree) (n : ℕ) (xs : List Item) where
 
 -- ---- sections
 
-behind_behind : (a b c : Sections) → behind_sections (behind_sections a b) c ≡ behind_sections a (behind_sections b c)
-behind_behind NoSection b c = refl
-behind_behind (Section cases default a ends s) b c = ap (Section cases default a ends) (behind_behind s b c)
-
 pub one_section : (cs : List Real.Section) (c : Real.Section) (d : Sections) → behind_sections (sections_of (cs ++ c ∷ [])) d ≡ behind_sections (sections_of cs) (before c d)
 one_section [] c d = ap (λ z. behind_sections z d) (section-first c [] ∙ ap (before c) sections-none) ∙ sym (ap (λ z. behind_sections z (before c d)) sections-none)
 one_section (x ∷ xs) c d =
     ap (λ z. behind_sections z d) (section-first x (xs ++ c ∷ [])) ∙ ap (before x) (one_section xs c d) ∙ sym (ap (λ z. behind_sections z (before c d)) (section-first x xs))
-
-pub sections_append : (cs ds : List Real.Section) → sections_of (cs ++ ds) ≡ behind_sections (sections_of cs) (sections_of ds)
-sections_append [] ds = sym (ap (λ z. behind_sections z (sections_of ds)) sections-none)
-sections_append (c ∷ cs) ds = section-first c (cs ++ ds) ∙ ap (before c) (sections_append cs ds) ∙ sym (ap (λ z. behind_sections z (sections_of ds)) (section-first c cs))
 
 module _ (f : FunctionTree) (n : ℕ) (cs : List Real.Section) where
   abbrev pub SectionsGo : ℕ → Type 0

@@ -18,7 +18,7 @@ use Rattle.c_lexer.specs.Numbers.{integer_of}
 use Rattle.c_lexer.specs.Marks.{mark_at, longer, is_slash, is_dot}
 use Rattle.c_lexer.specs.Pieces.{is_include}
 use Rattle.c_lexer.proofs.Lines.{continued_within}
-use Rattle.c_lexer.specs.Machine.{of_mark, begin, after_mark, in_mark, escape_step, char_held, char_escape, in_text, text_escape, continued_at, end_directive, end_line, in_comment, step, finish, least, KeepsOrder}
+use Rattle.c_lexer.specs.Machine.{of_mark, begin, after_mark, in_mark, escape_step, char_held, char_escape, in_text, text_escape, continued_at, end_directive, end_line, in_comment, step, least, KeepsOrder}
 
 either : (c : Bool) (x y : Taken) (at : ℕ) → KeepsOrder at x → KeepsOrder at y → KeepsOrder at (cond c x y)
 either true x y at h k = h
@@ -99,7 +99,3 @@ step_keeps t (TextEscape s e) b at h = text_escape_keeps s (escape_step e b) b a
 step_keeps t (InDirective s end) b at h = either (b == 10) _ _ at (directive_keeps s end at (slice_range t (s + 1) at) (continued_at (slice_range t (s + 1) at)) (λ n k. let x = slice_within t (s + 1) at n k h in (let y : s + 1 + n ≤ at = omega arith in y)) h) (omega arith)
 step_keeps t (InComment s c) b at h = comment_keeps s c b at h
 step_keeps t (InLine s end) b at h = either (b == 10) _ _ at (line_keeps s end at (continued_at (slice_range t s at)) (λ n k. let x = slice_within t s at n k h in (let y : s + n ≤ at = omega arith in y)) h) (omega arith)
-
-pub finish_keeps : (t : List ℕ) (s : State) (at : ℕ) → least s ≤ at → KeepsOrder at (finish t s at)
-finish_keeps t (InComment s star) at h = h
-finish_keeps t s at h = step_keeps t s 10 at h

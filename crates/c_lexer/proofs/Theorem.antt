@@ -13,7 +13,7 @@ use Rattle.c_lexer.specs.declared.state.Ended.{Ended}
 use Rattle.c_lexer.specs.declared.state.Ended.TheVariants as ended
 use Rattle.c_lexer.specs.declared.state.Taken.{Taken}
 use Rattle.c_lexer.specs.declared.state.Taken.TheVariants.{Go, Fault}
-use Rattle.c_lexer.specs.Pieces.{Piece, Space, Word, Number, Char, Text, Sign, Directive, Line, Block, spelled, text, Good, Spells, first_behind_all, behind, behind_all, word_kind, token, span, token_of, comment_of, all_of, tokens_of, comments_of, scanned_of}
+use Rattle.c_lexer.specs.Pieces.{Piece, Space, Word, Number, Char, Text, Sign, Directive, Line, Block, spelled, text, Good, Spells, first_behind_all, behind, behind_all, word_kind, token, span, token_of, comment_of, all_of, scanned_of}
 use Rattle.c_lexer.specs.Faults.{refusal_of, reason_of, HasNoPiece, IsFirstFault}
 use Rattle.c_lexer.specs.Machine.{Lexed, Read, Faulty, go_on, run, step, finish, add_token, add_comment, add_ended}
 use Rattle.c_lexer.specs.Answers.{answer, nothing, scanning, part, read_tokens, read_comments, IsReading}
@@ -225,24 +225,8 @@ scan_reading t =
 
 -- ---- a part of it
 
-part_reading : {X Y : Type 0} (f : X → Y) (g : List Piece → X) (t : List ℕ) (r : Result X Refusal) → IsReading g t r → IsReading (λ ps. f (g ps)) t (part f r)
-part_reading f g t (Ok x) (ps, s, e) = (ps, s, ap f e)
-part_reading f g t (Err fault) h = h
-
-pub tokens_reading : (t : List ℕ) → IsReading tokens_of t (read_tokens t)
-tokens_reading t = part_reading (λ (s : Scanned). s.tokens) scanned_of t (scanning t) (scan_reading t)
-
-pub comments_reading : (t : List ℕ) → IsReading comments_of t (read_comments t)
-comments_reading t = part_reading (λ (s : Scanned). s.comments) scanned_of t (scanning t) (scan_reading t)
-
 pub tokens_fault_back : (t : List ℕ) (fault : Refusal) → IsFirstFault t fault → read_tokens t ≡ Err fault
 tokens_fault_back t fault f = ap (part (λ (s : Scanned). s.tokens)) (scan_fault_back t fault f)
 
 pub comments_fault_back : (t : List ℕ) (fault : Refusal) → IsFirstFault t fault → read_comments t ≡ Err fault
 comments_fault_back t fault f = ap (part (λ (s : Scanned). s.comments)) (scan_fault_back t fault f)
-
-pub tokens_read_back : (t : List ℕ) (ps : List Piece) → Spells ps t → read_tokens t ≡ Ok (tokens_of ps)
-tokens_read_back t ps s = ap (part (λ (s : Scanned). s.tokens)) (scan_read_back t ps s)
-
-pub comments_read_back : (t : List ℕ) (ps : List Piece) → Spells ps t → read_comments t ≡ Ok (comments_of ps)
-comments_read_back t ps s = ap (part (λ (s : Scanned). s.comments)) (scan_read_back t ps s)

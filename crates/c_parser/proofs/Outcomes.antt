@@ -133,7 +133,3 @@ outcome_of ts o e = subst (λ (x : Ran). Outcome start 0 [] (λ r. r) ts x) e (o
 -- tokens that frames have taken are the front of a list that derives
 pub taken_viable : (ts : List Class) (z : Frames) → Ready z (λ r. ts ++ r) → Viable ts
 taken_viable ts z i = let k = closes z (λ r. ts ++ r) i in record { file = k.0; more = k.1; formed = k.2; begins = k.3 }
-
--- what the machine takes is viable
-pub fronts_viable : (tokens : List Class) (z : Frames) → run start 0 0 tokens ≡ Left z → Viable tokens
-fronts_viable tokens z e = taken_viable tokens z (outcome_of tokens (Left z) e).ready

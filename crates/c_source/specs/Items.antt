@@ -81,15 +81,6 @@ abbrev pub items_in : Body → Items
 items_in (Braces first after xs) = xs
 items_in (Lone first after x) = Then x NoItem
 
--- the first token of a list, which no other list begins with
-abbrev pub body_first : Body → ℕ
-body_first (Braces first after xs) = first
-body_first (Lone first after x) = first
-
-abbrev pub body_after : Body → ℕ
-body_after (Braces first after xs) = after
-body_after (Lone first after x) = after
-
 -- ---- first tokens
 
 abbrev pub label_first : Label → ℕ

@@ -62,10 +62,6 @@ abbrev pub is_local : Production → Bool
 is_local p.Local = true
 is_local _ = false
 
-abbrev pub is_initialiser : Production → Bool
-is_initialiser p.Initialiser = true
-is_initialiser _ = false
-
 -- part i is a token
 abbrev pub token_at : List Part → ℕ → Bool
 token_at ps i = is_token (at ps i).rule

@@ -75,9 +75,6 @@ section_holds_throughout p c = fold-Section Bool Bool (throughout_step p) sectio
 abbrev pub all_hold_throughout : (Item-F Bool Bool → Bool) → List Item → Bool
 all_hold_throughout p xs = all_true (map (holds_throughout p) xs)
 
-abbrev pub all_sections_hold_throughout : (Item-F Bool Bool → Bool) → List Section → Bool
-all_sections_hold_throughout p cs = all_true (map (section_holds_throughout p) cs)
-
 -- whether no Goto, Mark, Leap or Arrival stands in a body
 abbrev pub is_jump_free : List Item → Bool
 is_jump_free xs = all_hold_throughout is_jump_free_layer xs

@@ -88,7 +88,7 @@ not_zero (pos n) h = ne_eqb n 0 h
 not_zero (negsuc n) h = ne_eqb (suc n) 0 (λ e. omega (arith, e))
 
 -- a number of the kind, brought nearer to zero, is one
-nearer_pos : (k : IntKind) (a n : ℕ) → n ≤ a → IsInRange k (pos a) → IsInRange k (pos n)
+pub nearer_pos : (k : IntKind) (a n : ℕ) → n ≤ a → IsInRange k (pos a) → IsInRange k (pos n)
 nearer_pos Char a n l h = record { from_least = grind (arith, ints); to_greatest = grind (arith, ints) }
 nearer_pos UChar a n l h = record { from_least = grind (arith, ints); to_greatest = grind (arith, ints) }
 nearer_pos Int a n l h = record { from_least = grind (arith, ints); to_greatest = grind (arith, ints) }
@@ -110,7 +110,7 @@ nearer_neg Long a (suc n) l h = record { from_least = grind (arith, ints); to_gr
 nearer_neg ULong a zero l h = record { from_least = grind (arith, ints); to_greatest = grind (arith, ints) }
 nearer_neg ULong a (suc n) l h = record { from_least = grind (arith, ints); to_greatest = grind (arith, ints) }
 
-rem_in_range : (k : IntKind) (a b : ℤ) → IsInRange k a → IsInRange k (int_rem a b)
+pub rem_in_range : (k : IntKind) (a b : ℤ) → IsInRange k a → IsInRange k (int_rem a b)
 rem_in_range k (pos a) b h = nearer_pos k a (a % unsigned_abs b) (mod-le a (unsigned_abs b)) h
 rem_in_range k (negsuc a) b h = nearer_neg k a (suc a % unsigned_abs b) (mod-le (suc a) (unsigned_abs b)) h
 

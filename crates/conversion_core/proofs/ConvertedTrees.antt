@@ -12,7 +12,7 @@ use Rattle.c_tree.specs.declared.tree.Test.{Test, Test-F, roll-Test, ind-Test, m
 use Rattle.c_tree.specs.declared.tree.Test as T
 use Rattle.c_tree.specs.declared.tree.Test.TheOpen as OpenTest
 use Rattle.c_tree.specs.declared.tree.Test.TheVariants.{rolls-Source, rolls-On, rolls-Off, rolls-AndOff, rolls-OrOn}
-use Rattle.c_tree.specs.ExpressionTrees.{ExpressionTree, expression_tree}
+use Rattle.c_tree.specs.ExpressionTrees.{expression_tree}
 use Rattle.c_tree.specs.TestTrees.{TestTree, test_tree, selector_tree}
 use Rattle.c_tree.specs.TestTrees as PlainTest
 use Rattle.c_tree.specs.Trees as Plain
@@ -107,9 +107,6 @@ lone (e ∷ []) = lone_one (converted_item e.0) (tree_of e.0) e.1 ∙ ap lone_go
 lone (e ∷ d ∷ a) =
     lone_two (converted_item e.0) (converted_item d.0) (become a) ∙ sym (two_lone (tree_of e.0) (tree_of d.0) (trees_of (map item a)))
     ∙ ap lone_goto (sym (trees-more e.0 (map item (d ∷ a)) ∙ ap (Then (tree_of e.0)) (trees-more d.0 (map item a))))
-
-no_else : (e : ExpressionTree) (a : Forest) (x : Tree) (b : Forest) → conditional_goto (PlainTest.Source e) a (Then x b) ≡ None
-no_else e a x b = refl
 
 -- what holds of each form of a test holds of each test
 each_test : (R : Test → Type 0) → ((c : Expression) → R (T.Source c)) → ((l : ℕ) → R (T.On l)) → ((l : ℕ) → R (T.Off l)) → ((l : ℕ) (t : Test) → R (T.AndOff l t)) → ((l : ℕ) (t : Test) → R (T.OrOn l t)) → (t : Test) → R t

@@ -1,10 +1,10 @@
 -- Names given one after another.
-use Rattle.std.proofs.Common.{◌≡◌, ℕ, suc, ◌+◌, ◌-◌, ◌<◌, ◌≤◌, Bool, List, [], ◌∷◌, ◌++◌, length, drop, get_or, nat_lt, append_assoc, arith, refl, sym, ap, ◌∙◌}
+use Rattle.std.proofs.Common.{◌≡◌, ℕ, suc, ◌+◌, ◌-◌, ◌<◌, ◌≤◌, List, [], ◌∷◌, ◌++◌, length, drop, get_or, append_assoc, arith, refl, sym, ap, ◌∙◌}
 use Rattle.std.proofs.lemmas.List.{at_drop_more, at_drop_all, append-nil}
 use Rattle.c_tree.specs.declared.tree.Slot.{Slot}
 use Rattle.flat_names.specs.declared.constructs.Construct.{Construct}
 use Rattle.flat_names.specs.declared.giving.Made.{Made}
-use Rattle.flat_names.specs.FlatNames.{Given, Named, name_case, name_cases, name_construct, name_constructs, naming, label_of, chosen, used_then, label_names, with_slot, before_named, slot_named, slot_taken, slot_used, named_slots}
+use Rattle.flat_names.specs.FlatNames.{Given, Named, name_case, name_cases, name_construct, name_constructs, naming, label_of, chosen, used_then, label_names, with_slot, before_named}
 
 pub cases_step : (k i n : ℕ) (g : Given) → i < n → name_cases k (i + 1) (n - i) g ≡ name_cases k (i + 1 + 1) (n - (i + 1)) (name_case k (i + 1) g)
 cases_step k i n g h = let e : n - i ≡ suc (n - (i + 1)) = omega arith in ap (λ m. name_cases k (i + 1) m g) e
@@ -32,17 +32,3 @@ same_named e f = cc
 
 moved : (out : List Slot) (s : Slot) (n : Named) → before_named out (with_slot s n) ≡ before_named (out ++ s ∷ []) n
 moved out s n = same_named (sym (append_assoc out (s ∷ []) n.slots)) refl
-
-pub slots_end : (params : ℕ) (taken used : List (List ℕ)) (ss : List Slot) (i : ℕ) (out : List Slot) → length ss ≤ i → before_named out (named_slots (params - i) taken used (drop i ss)) ≡ record { slots = out; used = used }
-slots_end params taken used ss i out h = ap (before_named out) (at_drop_all (named_slots (params - i) taken used) ss i h) ∙ same_named (append-nil out) refl
-
-pub slots_step : (params : ℕ) (taken used : List (List ℕ)) (ss : List Slot) (i : ℕ) (s : Slot) (p : Bool) (out : List Slot) → i < length ss → s ≡ get_or ss i s → nat_lt 0 (params - i) ≡ p
-    → before_named out (named_slots (params - i) taken used (drop i ss)) ≡ before_named (out ++ slot_named p taken used s ∷ []) (named_slots (params - (i + 1)) (slot_taken p taken used s) (slot_used p taken used s) (drop (i + 1) ss))
-slots_step params taken used ss i s p out h e q =
-    let rest = drop (i + 1) ss in
-    let f : params - i - 1 ≡ params - (i + 1) = omega arith in
-    ap (before_named out) (at_drop_more (named_slots (params - i) taken used) ss i s h
-    ∙ ap (λ z. with_slot (slot_named (nat_lt 0 (params - i)) taken used z) (named_slots (params - i - 1) (slot_taken (nat_lt 0 (params - i)) taken used z) (slot_used (nat_lt 0 (params - i)) taken used z) rest)) (sym e)
-    ∙ ap (λ b. with_slot (slot_named b taken used s) (named_slots (params - i - 1) (slot_taken b taken used s) (slot_used b taken used s) rest)) q
-    ∙ ap (λ n. with_slot (slot_named p taken used s) (named_slots n (slot_taken p taken used s) (slot_used p taken used s) rest)) f)
-    ∙ moved out (slot_named p taken used s) (named_slots (params - (i + 1)) (slot_taken p taken used s) (slot_used p taken used s) rest)

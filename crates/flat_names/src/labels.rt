@@ -1,5 +1,6 @@
 ghost use Rattle.std.specs.Prelude.{◌≡◌, ◌+◌, ◌≤◌, [], None, get_or, length, IfOk, OnOk};
-ghost use Rattle.fresh_names.specs.Fresh.{numbered as the_numbered};
+ghost use Rattle.c_copies.specs.Names.{with_name};
+ghost use Rattle.fresh_names.specs.Fresh.{numbered as the_numbered, fresh as the_fresh};
 ghost use Rattle.flat_names.specs.Gathered.{all_used};
 ghost use Rattle.flat_names.specs.FlatNames.{Gets, label_of as the_label_of, named_or, naming, chosen, used_then, label_names as the_label_names};
 
@@ -40,7 +41,8 @@ fn label_of(count: u32, code: u32) -> Label
     }
 }
 
-fn own_name(alloc: Global, names: &[Name], at: u32) -> Result<Name, Memory>
+/// The name at the place, or an empty one past the last.
+pub fn own_name(alloc: Global, names: &[Name], at: u32) -> Result<Name, Memory>
     ensures { IfOk result (λ it. it ≡ get_or names.now at []) }
 {
     let at = at as usize;
@@ -51,12 +53,13 @@ fn own_name(alloc: Global, names: &[Name], at: u32) -> Result<Name, Memory>
     }
 }
 
-fn made_name(alloc: Global, base: &str, k: u32, used: &mut UsedNames) -> Result<Name, Memory>
-    ensures name { IfOk result (λ it. it ≡ chosen (Gets (the_numbered base.now (k + 1))) (all_used used.old)) }
-    ensures used { OnOk result (all_used used.new ≡ used_then (Gets (the_numbered base.now (k + 1))) (all_used used.old)) }
+/// A name that is not used, of the base and a number. It is used then.
+pub fn made_name(alloc: Global, base: &str, k: u64, used: &mut UsedNames) -> Result<Name, Memory>
+    ensures name { IfOk result (λ it. it ≡ the_fresh (the_numbered base.now k) (all_used used.old)) }
+    ensures used { IfOk result (λ it. all_used used.new ≡ with_name (all_used used.old) it) }
     ensures file { used.new.file ≡ used.old.file }
 {
-    let base = numbered(alloc, base, k as u64 + 1)?;
+    let base = numbered(alloc, base, k)?;
     let name = used.fresh(alloc, base.as_str())?;
     used.add(alloc, name.as_str())?;
     Ok(name)
@@ -76,7 +79,7 @@ fn name_or(
 {
     match given {
         Some(name) => name.copy(alloc),
-        None => made_name(alloc, base, k, used),
+        None => made_name(alloc, base, k as u64 + 1, used),
     }
 }
 
@@ -95,7 +98,7 @@ fn optional_name(
     if at < given.len() {
         name_or(alloc, &given[at], base, k, used)
     } else {
-        made_name(alloc, base, k, used)
+        made_name(alloc, base, k as u64 + 1, used)
     }
 }
 
@@ -113,7 +116,7 @@ fn label_name(
     match label {
         Label::OfSource(l) => own_name(alloc, labels, l),
         Label::OfBreak(k) => optional_name(alloc, made.breaks.as_slice(), "break", k, used),
-        Label::OfContinue(k) => made_name(alloc, "continue", k, used),
+        Label::OfContinue(k) => made_name(alloc, "continue", k as u64 + 1, used),
         Label::OfDefault(k) => optional_name(alloc, made.defaults.as_slice(), "default", k, used),
         Label::OfCase(j) => own_name(alloc, made.cases.as_slice(), j),
     }

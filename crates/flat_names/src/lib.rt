@@ -8,4 +8,6 @@ mod numbers;
 mod variables;
 mod whole;
 
+pub use labels::{made_name, own_name};
+pub use variables::name_slots;
 pub use whole::{FlatNames, ProgramNames, name_flat};

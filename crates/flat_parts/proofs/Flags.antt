@@ -1,15 +1,9 @@
 -- Flags of labels.
-use Rattle.std.proofs.Common.{◌≡◌, ℕ, zero, suc, ◌<◌, Bool, true, false, ◌||◌, eqb, List, [], ◌∷◌, ◌++◌, length, refl, sym, ap, ◌∙◌}
+use Rattle.std.proofs.Common.{◌≡◌, ℕ, ◌<◌, Bool, true, false, ◌||◌, eqb, List, [], ◌∷◌, ◌++◌, length, refl, sym, ap, ◌∙◌}
 use Rattle.std.proofs.lemmas.Bool.{eqb-true, eqb-false}
 use Rattle.std.proofs.Math.ListN.{set}
 use Rattle.std.proofs.lemmas.List.{get_or-set_same, get_or-set_other}
 use Rattle.flat_parts.specs.Reading.{is_flagged}
-
-pub flag_more : (flags : List Bool) (l : ℕ) → is_flagged (flags ++ false ∷ []) l ≡ is_flagged flags l
-flag_more [] zero = refl
-flag_more [] (suc l) = refl
-flag_more (f ∷ fs) zero = refl
-flag_more (f ∷ fs) (suc l) = flag_more fs l
 
 or_true : (a : Bool) → true ≡ (a || true)
 or_true true = refl

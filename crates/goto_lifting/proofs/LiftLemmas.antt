@@ -6,7 +6,7 @@ use Rattle.c_tree.specs.declared.tree.Item.{Item, Do, Leap}
 use Rattle.c_tree.specs.declared.tree.Test.{On}
 use Rattle.c_tree.specs.declared.tree.Path.{Path}
 use Rattle.c_tree.specs.declared.tree.Step.{Step}
-use Rattle.c_tree.specs.Paths.{list_at, item_at}
+use Rattle.c_tree.specs.Paths.{list_at}
 use Rattle.c_tree.specs.Join.{Holds}
 use Rattle.c_tree.specs.Labels.{lands_inside}
 use Rattle.c_tree.specs.Lift.{lifted, CanLift}
@@ -26,14 +26,6 @@ pub leap_within : (l i j : ℕ) (steps : List Step) (body a : List Item) → Can
 leap_within l i j steps body a h t = slice_get_within a i (Leap l) (sym (item_of_list body steps a i (sym t)) ∙ h.leap)
 
 -- what was found in the list
-
-pub no_place : (body : List Item) (at : Path) → IsHeldBefore body at → (l : ℕ) (a : List Item) → Some l ≡ label_at body at → Some a ≡ list_at body at.steps
-    → ((k : ℕ) → k < at.item → Holds (λ x. 0 < lands_inside l (tree_of x)) (slice_get a k) → ⊥) → ⊥
-no_place body at h l a e t f =
-    let m = same_label body at h.label l h.applies.leap e in
-    f h.place h.applies.earlier
-    (subst (λ o. Holds (λ x. 0 < lands_inside l (tree_of x)) o) (item_of_list body at.steps a h.place t)
-    (subst (λ n. Holds (λ x. 0 < lands_inside n (tree_of x)) (item_at body at.steps h.place)) m h.applies.held))
 
 pub place_is : (body : List Item) (at : Path) → IsHeldBefore body at → (l : ℕ) (a : List Item) (k : ℕ) → Some l ≡ label_at body at → Some a ≡ list_at body at.steps → k < at.item
     → Holds (λ x. 0 < lands_inside l (tree_of x)) (slice_get a k) → CanLift l at.item k at.steps body

@@ -60,9 +60,6 @@ in_switch l x s c d e f = ap one (tree-Switch s d ∙ ap (P.Switch (selector_tre
 pub in_block : (l : ℕ) (x : Item) (a v : List Item) → x ≡ Block a → trees_of v ≡ dropped (eqb l) (trees_of a) → one (tree_of (Block v)) ≡ dropped_item (eqb l) (tree_of x)
 in_block l x a v e f = ap one (tree-Block v ∙ ap P.Block f) ∙ sym (ap (dropped_item (eqb l)) (ap tree_of e ∙ tree-Block a))
 
-pub in_arm : (l : ℕ) (x y : Item) (m : ℕ) (e : Option Expression) → x ≡ Arm m e → one (tree_of y) ≡ dropped_item (eqb l) (tree_of (Arm m e)) → one (tree_of y) ≡ dropped_item (eqb l) (tree_of x)
-in_arm l x y m e f h = h ∙ ap (λ z. dropped_item (eqb l) (tree_of z)) (sym f)
-
 kept_layer : (l : ℕ) (x : Item) (y : Item-F Item Section) → x ≡ roll-Item y
     → ((t : Test) (a b : List Item) → x ≡ If t a b → ⊥) → ((t : Test) (a : List Item) → x ≡ While t a → ⊥) → ((a : List Item) (t : Test) → x ≡ Do a t → ⊥)
     → ((f : List Item) (t u : Option Expression) (a : List Item) → x ≡ For f t u a → ⊥) → ((s : Selector) (c : List Section) → x ≡ Switch s c → ⊥)
@@ -247,9 +244,6 @@ item_within l i old new x e d = let n = item_and_rest new i x e in omega (arith,
 pub record AreDroppedTo (l k : ℕ) (old new : List Section) : Type 0 where
   pub dropped : sections_from (eqb l) k (sections_of new) ≡ dropped_sections (eqb l) (sections_of old)
   pub left : items_in (sections_of (drop k new)) ≤ items_in (sections_of old)
-
-pub sections_start : (l : ℕ) (cs : List Section) → AreDroppedTo l 0 cs cs
-sections_start l cs = record { dropped = refl; left = omega arith }
 
 pub section_gone : (l k : ℕ) (old new : List Section) (s t : Section) → slice_get new k ≡ Some s → IsWithoutGuard l s t → AreDroppedTo l k old new → AreDroppedTo l (suc k) old (slice_set new k t)
 section_gone l k old new s t e h d =

@@ -21,10 +21,6 @@ use Rattle.guard_edits.proofs.Nests.{out_if}
 pub length-If : (x : Item) (t : Test) (a b : List Item) → x ≡ If t a b → first_length x ≡ length a
 length-If x t a b e = ap first_length e ∙ ap first_length_F (out_if t a b)
 
--- the lists fit where the items' lengths do
-pub lists_fit : (x y : Item) (t u : Test) (a b c d : List Item) (most : ℕ) → x ≡ If t a b → y ≡ If u c d → first_length x + first_length y ≤ most → length a + length c ≤ most
-lists_fit x y t u a b c d most e f h = omega (arith, h, length-If x t a b e, length-If y u c d f)
-
 pub join_is : (x y : Item) (t u : Test) (a b c d all : List Item) → x ≡ If t a b → y ≡ If u c d → all ≡ a ++ c → IsJoined x y (If t all b)
 join_is x y t u a b c d all e f g rest =
     ap (λ z. Then z rest) (tree-If t all b ∙ ap (λ z. P.If (test_tree t) (trees_of z) (trees_of b)) g ∙ ap (λ z. P.If (test_tree t) z (trees_of b)) (trees-append a c))

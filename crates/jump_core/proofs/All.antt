@@ -40,14 +40,6 @@ pub plain_items : (a : Forest) (k : List Task) → Plain k → Plain (items a k)
 plain_items Nil k h = h
 plain_items (Then x a) k h = plain_items a k h
 
-pub plain_end : (ends : Bool) (k : List Task) → Plain k → Plain (end_of ends k)
-plain_end true k h = h
-plain_end false k h = h
-
-pub plain_tail : (c : Sections) (k : List Task) → Plain k → Plain (tail_tasks c k)
-plain_tail NoSection k h = h
-plain_tail (Section cases default a ends c) k h = plain_items a (end_of ends (tail_tasks c k)) (plain_end ends (tail_tasks c k) (plain_tail c k h))
-
 -- ---- the core of such tasks drops no value
 
 pub undropped_items : (a : Forest) (k : List Task) → is_dropped k ≡ false → is_dropped (items a k) ≡ false

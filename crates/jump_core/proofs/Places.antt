@@ -139,9 +139,6 @@ module _ (f g : Tree → ℕ) (le : (x : Tree) → f x ≤ g x) where
 lands_spots : (l : ℕ) (a : Forest) → lands l a ≤ spots l a
 lands_spots l a = total_le (land_of l) (spot_of l) (land_spot l) a
 
-lands_spots_of : (l : ℕ) (x : Tree) → total_of (land_of l) x ≤ total_of (spot_of l) x
-lands_spots_of l x = total_le_of (land_of l) (spot_of l) (land_spot l) x
-
 lands_spots_in : (l : ℕ) (c : Sections) → total_in (land_of l) c ≤ total_in (spot_of l) c
 lands_spots_in l c = total_le_in (land_of l) (spot_of l) (land_spot l) c
 

@@ -2,7 +2,7 @@
 use mathlib.Core.Path.{fun_ext}
 use Rattle.std.proofs.Common.{ℕ, Bool, true, false, List, [], ◌∷◌, ◌≡◌, refl, ap, sym, ◌∙◌}
 use Rattle.c_tree.specs.Trees.{Forest, Nil, Then, Sections, NoSection, Section, While}
-use Rattle.jump_meaning.specs.Tasks.{Loop, WhileLoop, DoLoop, ForLoop, Task, Runs, Works, Asks, Branches, Turns, Loops, Heads, Arms, AsksSelector, Enters, EndsSection, Out, items, end_of, tail_tasks, cut}
+use Rattle.jump_meaning.specs.Tasks.{Loop, WhileLoop, DoLoop, ForLoop, Task, Runs, Loops, EndsSection, Out, items, end_of, tail_tasks}
 use Rattle.jump_core.specs.Ways.{Way, Lands, Past, Lost, ◌▷◌, end_way, walks, walk, tail_way, do_end_way, Follow, before, after_section}
 
 -- from the end of the body of a loop on
@@ -36,21 +36,6 @@ way_assoc Lost b c = refl
 pub items_way : (l : ℕ) (a : Forest) (k : List Task) → task_way (items a k) l ≡ walks l a ▷ task_way k l
 items_way l Nil k = refl
 items_way l (Then x a) k = ap (λ r. walk l x ▷ r) (items_way l a k) ∙ sym (way_assoc (walk l x) (walks l a) (task_way k l))
-
-pub exit_cut : (l : ℕ) (k : List Task) → exit_way k l ≡ task_way (cut k) l
-exit_cut l [] = refl
-exit_cut l (Runs x ∷ k) = exit_cut l k
-exit_cut l (Works o ∷ k) = exit_cut l k
-exit_cut l (Asks t ∷ k) = exit_cut l k
-exit_cut l (Branches a b ∷ k) = exit_cut l k
-exit_cut l (Turns x ∷ k) = exit_cut l k
-exit_cut l (Loops x ∷ k) = refl
-exit_cut l (Heads t u a ∷ k) = exit_cut l k
-exit_cut l (Arms m ∷ k) = exit_cut l k
-exit_cut l (AsksSelector s ∷ k) = exit_cut l k
-exit_cut l (Enters kind c ∷ k) = exit_cut l k
-exit_cut l (EndsSection ∷ k) = exit_cut l k
-exit_cut l (Out ∷ k) = refl
 
 pub exit_items : (l : ℕ) (a : Forest) (k : List Task) → exit_way (items a k) l ≡ exit_way k l
 exit_items l Nil k = refl

@@ -1,8 +1,7 @@
 -- How tasks of lists, the cuts of `break` and `continue`, and searches go together with the tasks behind them.
 use Rattle.std.proofs.Common.{Bool, true, false, cond, List, [], ◌∷◌, ◌++◌, Option, Some, None, option_map, ◌≡◌, refl, ◌∙◌, ap}
 use Rattle.c_tree.specs.Trees.{Tree, Forest, Nil, Then, Sections, NoSection, Section, If, While, Do, For, Switch, Block, join}
-use Rattle.jump_meaning.specs.Effects.{Op}
-use Rattle.jump_meaning.specs.Tasks.{Task, Runs, Works, Loops, WhileLoop, DoLoop, ForLoop, items, works, end_of, tail_tasks, cut, cut_to}
+use Rattle.jump_meaning.specs.Tasks.{Task, Runs, Loops, WhileLoop, DoLoop, ForLoop, items, end_of, tail_tasks, cut, cut_to}
 use Rattle.jump_meaning.specs.Search.{Goal, is_goal, is_section_goal, enters_switches, or_else, seek, seek_in, seek_sections}
 
 -- one list after another
@@ -15,10 +14,6 @@ items_join (Then x a) b k = ap (λ j. Runs x ∷ j) (items_join a b k)
 pub cut_items : (a : Forest) (k : List Task) → cut (items a k) ≡ cut k
 cut_items Nil k = refl
 cut_items (Then x a) k = cut_items a k
-
-pub cut_works : (os : List Op) (k : List Task) → cut (works os k) ≡ cut k
-cut_works [] k = refl
-cut_works (o ∷ os) k = cut_works os k
 
 pub cut_end : (ends : Bool) (k : List Task) → cut (end_of ends k) ≡ cut k
 cut_end true k = refl
@@ -34,10 +29,6 @@ pub cut_to_items : (a : Forest) (k : List Task) → cut_to (items a k) ≡ cut_t
 cut_to_items Nil k = refl
 cut_to_items (Then x a) k = cut_to_items a k
 
-pub cut_to_works : (os : List Op) (k : List Task) → cut_to (works os k) ≡ cut_to k
-cut_to_works [] k = refl
-cut_to_works (o ∷ os) k = cut_to_works os k
-
 pub cut_to_end : (ends : Bool) (k : List Task) → cut_to (end_of ends k) ≡ cut_to k
 cut_to_end true k = refl
 cut_to_end false k = refl
@@ -51,10 +42,6 @@ cut_to_tail (Section cases default a ends c) k = cut_to_items a (end_of ends (ta
 pub items_append : (a : Forest) (k j : List Task) → items a (k ++ j) ≡ items a k ++ j
 items_append Nil k j = refl
 items_append (Then x a) k j = ap (λ i. Runs x ∷ i) (items_append a k j)
-
-pub works_append : (os : List Op) (k j : List Task) → works os (k ++ j) ≡ works os k ++ j
-works_append [] k j = refl
-works_append (o ∷ os) k j = ap (λ i. Works o ∷ i) (works_append os k j)
 
 end_append : (ends : Bool) (k j : List Task) → end_of ends (k ++ j) ≡ end_of ends k ++ j
 end_append true k j = refl

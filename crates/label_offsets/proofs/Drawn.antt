@@ -83,9 +83,6 @@ run_set f (z ∷ zs) (suc i) x y e h = alike_follow (f z) (run (map f zs)) (run 
 
 -- one layer
 
-inside_is : (a b o : Outline) (x w : List Item) → a ≡ outline x → b ≡ outline w → nests [] (outline x) ≡ nests [] (outline w) → Alike (Inside a o) (Inside b o)
-inside_is a b o x w p q h = alike_inside a b o (ap (nests []) p ∙ h ∙ sym (ap (nests []) q))
-
 section_alike : (c : Section) (w a : List Item) → list_of c ≡ a → nests [] (outline a) ≡ nests [] (outline w) → Alike (drawn_section c) (drawn_section (with_list w c))
 section_alike c w a e h ks r =
     ap (λ o. nests ks (join o r)) (section_is c)

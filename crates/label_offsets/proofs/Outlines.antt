@@ -63,15 +63,6 @@ is_still (Inside a o) = is_still a && is_still o
 abbrev pub Alike : Outline → Outline → Type 0
 Alike o p = (ks : List ℕ) (r : Outline) → nests ks (join o r) ≡ nests ks (join p r)
 
-pub still_nests : (o r : Outline) → is_still o ≡ true → nests [] (join o r) ≡ nests [] r
-still_nests End r h = refl
-still_nests (Jump l o) r h = cc
-still_nests (Label l o) r h = still_nests o r h
-still_nests (Inside a o) r h =
-    let p = and_parts (is_still a) (is_still o) h in
-    let inner : nests [] a ≡ true = ap (nests []) (sym (join-End a)) ∙ still_nests a End p.0 in
-    (λ i. inner i && still_nests o r p.1 i)
-
 -- what follows may be changed for what nests alike
 pub follow : (p o q : Outline) → ((ks : List ℕ) → nests ks o ≡ nests ks q) → (ks : List ℕ) → nests ks (join p o) ≡ nests ks (join p q)
 follow End o q h ks = h ks

@@ -76,12 +76,6 @@ list_lands l xs (s ∷ ss) a e =
     let t = stepped xs s ss a e in
     omega (arith, list_lands l t.inner ss a t.rest, child_lands l s.branch t.item t.inner t.inner_is, item_lands l xs s.item t.item t.item_is)
 
--- the Land at a path
-pub land_counts : (l : ℕ) (xs : List Item) (ss : List Step) (i : ℕ) → item_at xs ss i ≡ Some (Land l) → 0 < lands l (trees_of xs)
-land_counts l xs ss i e =
-    let p = and_then_some (λ a. slice_get a i) (list_at xs ss) (Land l) e in
-    omega (arith, list_lands l xs ss p.0 p.1, item_lands l p.0 i (Land l) p.2, counted-Land l)
-
 -- the Land at a path that goes into an item
 pub record Held (l : ℕ) (xs : List Item) (s : Step) : Type 0 where
   pub item : Item

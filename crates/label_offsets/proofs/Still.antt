@@ -1,12 +1,12 @@
 -- A list without Leaps has a still outline.
-use Rattle.std.proofs.Common.{◌≡◌, ℕ, true, List, [], ◌∷◌, map, refl, sym, ap, subst, ◌∙◌, arith}
+use Rattle.std.proofs.Common.{◌≡◌, ℕ, true, List, [], ◌∷◌, map, refl, ◌∙◌, arith}
 use Rattle.std.proofs.lemmas.Bool.{and_parts, and_from}
 use Rattle.c_tree.specs.declared.tree.Item.{Item, Item-F, roll-Item, fold-roll-Item, ind-Item, map-Item}
 use Rattle.c_tree.specs.declared.tree.Item.TheOpen.{Section-F, If, While, Do, For, Switch, Block, Leap}
 use Rattle.c_tree.specs.declared.tree.Section.{Section, fold-roll-Section, roll-Section}
-use Rattle.label_offsets.proofs.LeapCounts.{total, leap_layer, leap_section_layer, leaps_in, leaps_in_section, leaps_in_list}
+use Rattle.label_offsets.proofs.LeapCounts.{total, leap_layer, leaps_in, leaps_in_section}
 use Rattle.label_offsets.proofs.Outlines.{Outline, End, Jump, Label, Inside, join, is_still}
-use Rattle.label_offsets.proofs.Drawn.{run, draw, draw_section, drawn, drawn_section, outline}
+use Rattle.label_offsets.proofs.Drawn.{run, draw, drawn, drawn_section, outline}
 
 still_join : (p q : Outline) → is_still p ≡ true → is_still q ≡ true → is_still (join p q) ≡ true
 still_join End q h k = k
@@ -64,18 +64,3 @@ layer (For f t u a) h = still_inside (run (map drawn (map item_of a))) End (stil
 layer (Block a) h = still_inside (run (map drawn (map item_of a))) End (still_among a h) refl
 layer (Switch s cs) h = still_sections cs h
 layer _ h = refl
-
-still_item : (x : Item) → P x
-still_item = ind-Item P Q
-    (λ x y e. subst (λ (z : Item-F Item Section). P (roll-Item z)) e (λ h.
-    ap is_still (fold-roll-Item Outline Outline draw draw_section _) ∙ layer y (sym (fold-roll-Item ℕ ℕ leap_layer leap_section_layer _) ∙ h)))
-    (λ x y e. subst (λ (z : Section-F Item Section). Q (roll-Section z)) e (λ h.
-    ap is_still (fold-roll-Section Outline Outline draw draw_section _)
-    ∙ still_inside (run (map drawn (map item_of y.list))) End (still_among y.list (sym (fold-roll-Section ℕ ℕ leap_layer leap_section_layer _) ∙ h)) refl))
-
-pub still_outline : (xs : List Item) → leaps_in_list xs ≡ 0 → is_still (outline xs) ≡ true
-still_outline [] h = refl
-still_outline (x ∷ xs) h =
-    let one : leaps_in x ≡ 0 = omega (arith, h) in
-    let others : leaps_in_list xs ≡ 0 = omega (arith, h) in
-    still_join (drawn x) (outline xs) (still_item x one) (still_outline xs others)

@@ -6,31 +6,9 @@ ghost use Rattle.lowered_forms.specs.Lowering.{label_names as the_label_names};
 ghost use Rattle.lowered_names.specs.Steps.{chosen, next_then, used_then};
 
 use c_types::{List, Memory, Name};
-use fresh_names::{UsedNames, numbered};
+use flat_names::{made_name, own_name};
+use fresh_names::UsedNames;
 use std::alloc::Global;
-
-fn own_name(alloc: Global, names: &[Name], at: u32) -> Result<Name, Memory>
-    ensures { IfOk result (λ it. it ≡ get_or names.now at []) }
-{
-    let at = at as usize;
-    if at < names.len() {
-        names[at].copy(alloc)
-    } else {
-        Ok(Name::from_string(String::new(alloc)))
-    }
-}
-
-/// A name that is not used, of the base and a number. It is used then.
-pub fn made_name(alloc: Global, base: &str, k: u64, used: &mut UsedNames) -> Result<Name, Memory>
-    ensures name { IfOk result (λ it. it ≡ the_fresh (the_numbered base.now k) (all_used used.old)) }
-    ensures used { IfOk result (λ it. all_used used.new ≡ with_name (all_used used.old) it) }
-    ensures file { used.new.file ≡ used.old.file }
-{
-    let base = numbered(alloc, base, k)?;
-    let name = used.fresh(alloc, base.as_str())?;
-    used.add(alloc, name.as_str())?;
-    Ok(name)
-}
 
 /// Whether a label with this code is one of the source.
 fn is_own(code: u32) -> bool

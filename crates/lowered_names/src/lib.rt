@@ -3,8 +3,6 @@
 
 mod labels;
 mod listing;
-mod numbers;
-mod variables;
 mod whole;
 
 pub use listing::constructs;

@@ -3,11 +3,10 @@ ghost use Rattle.flat_names.specs.Gathered.{named_of};
 ghost use Rattle.flat_names.specs.FlatNames.{named_slots};
 ghost use Rattle.lowered_forms.specs.Lowering.{with_variable, with_variables, label_names as the_label_names};
 
-use crate::labels::{label_names, made_name};
-use crate::variables::name_slots;
+use crate::labels::label_names;
 use c_tree::Slot;
 use c_types::{IntKind, List, Memory, Name};
-use flat_names::{FlatNames, ProgramNames};
+use flat_names::{FlatNames, ProgramNames, made_name, name_slots};
 use fresh_names::UsedNames;
 use std::alloc::Global;
 

@@ -107,22 +107,7 @@ module _ (counts : FlatCounts) (ts : List Top) (f : Function) (r : IsResolvedFun
   from_source (Local x None) g = (g.0, tt)
   from_source (Local x (Some es)) g = (g.0, local_has x es g.1.0 g.1.1.0 g.0)
   from_source (Switch s c) g = (g.0, selects s g.0.0)
-  from_source (Evaluate e) g = (g.0, tt)
-  from_source (Return e) g = (g.0, tt)
-  from_source (If t x y) g = (g.0, tt)
-  from_source (While t x) g = (g.0, tt)
-  from_source (Do x t) g = (g.0, tt)
-  from_source (For first t u x) g = (g.0, tt)
-  from_source (Block x) g = (g.0, tt)
-  from_source Break g = (g.0, tt)
-  from_source Continue g = (g.0, tt)
-  from_source (Goto l) g = (g.0, tt)
-  from_source (Mark l) g = (g.0, tt)
-  from_source (Arm l e) g = (g.0, tt)
-  from_source (Leap l) g = (g.0, tt)
-  from_source (Land l) g = (g.0, tt)
-  from_source (Arrival e) g = (g.0, tt)
-  from_source (Note bs) g = (g.0, tt)
+  from_source x g = (g.0, tt)
 
   from_body : Everywhere FromSource a
   from_body =

@@ -170,22 +170,7 @@ module _ (f : Function) (params : f.params ≤ length f.slots) (used taken : Lis
       let n = slots_length f params used taken a in
       (g.0, assigned_bound _ x _ es i (omega (arith, b, n)) g.0)
   from_source (Switch s c) g = (g.0, selects s g.0.0)
-  from_source (Evaluate e) g = (g.0, tt)
-  from_source (Return e) g = (g.0, tt)
-  from_source (If t x y) g = (g.0, tt)
-  from_source (While t x) g = (g.0, tt)
-  from_source (Do x t) g = (g.0, tt)
-  from_source (For first t u x) g = (g.0, tt)
-  from_source (Block x) g = (g.0, tt)
-  from_source Break g = (g.0, tt)
-  from_source Continue g = (g.0, tt)
-  from_source (Goto l) g = (g.0, tt)
-  from_source (Mark l) g = (g.0, tt)
-  from_source (Arm l e) g = (g.0, tt)
-  from_source (Leap l) g = (g.0, tt)
-  from_source (Land l) g = (g.0, tt)
-  from_source (Arrival e) g = (g.0, tt)
-  from_source (Note bs) g = (g.0, tt)
+  from_source x g = (g.0, tt)
 
   -- ---- the body
 

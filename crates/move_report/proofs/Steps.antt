@@ -104,9 +104,6 @@ left_after rest after s item (t ∷ ts) h n good e =
     let v = front_unique is_no_dot (branch_text s.branch) (branch_text t.branch) after (steps_text ts (decimal item ++ [])) 46 46 (branch_front s.branch h.good.1) (branch_front t.branch good.1) refl refl u.2 in
     record { steps = ts; good = good.2; split = v.2 }
 
-pub so_far_none : (text : List ℕ) → SoFar text [] text
-so_far_none text = record { good = tt; split = refl; left = λ p h e. record { steps = p.steps; good = h.0; split = e } }
-
 pub so_far_more : (text : List ℕ) (steps more : List Step) (s : Step) (rest after : List ℕ) → SoFar text steps rest → IsStep rest s after → more ≡ steps ++ s ∷ [] → SoFar text more after
 so_far_more text steps more s rest after h i e = subst (λ z. SoFar text z after) (sym e) (record {
   good = good_append steps (s ∷ []) h.good i.good;
@@ -122,6 +119,3 @@ pub no_path : (text : List ℕ) (steps : List Step) (rest : List ℕ) → SoFar 
 no_path text steps rest h n m p good e =
     let l = h.left p good e in
     m p.item good.1 (last_step rest p.item l.steps n l.good l.split)
-
-pub whole_path : (text : List ℕ) (p : Path) (rest : List ℕ) → SoFar text p.steps rest → IsNumber p.item → rest ≡ decimal p.item → IsPath p × (text ≡ path_text p [])
-whole_path text p rest h n e = ((h.good, n), h.split ∙ ap (steps_text p.steps) (e ∙ sym (append-nil (decimal p.item))))

@@ -14,7 +14,7 @@ use Rattle.jump_meaning.specs.World.{no_slot}
 use Rattle.jump_meaning.specs.Step.{switch_kind}
 use Rattle.loose_core.specs.Pieces.{Aim, Stays, Becomes, Absent, mark_of, test_or_one, third_items, with_third, assigned_cells, Names, is_number, test_for, tests_for, tests, tests_in, tests_among, case_marks}
 use Rattle.loose_core.specs.Loose.{Arrivals, NoArrival, Arrives}
-use Rattle.flat_core.specs.Parts.{is_scattered, kept_breaks, holds_jump, Here, past, past_item, inside, Ending, Gone, Breaks, Jumps, Otherwise, later, gone_or, if_jumps, is_gone, ending, ending_of}
+use Rattle.flat_core.specs.Parts.{is_scattered, kept_breaks, holds_jump, Here, past, past_item, inside, Ending, Gone, Breaks, Jumps, Otherwise, later, if_jumps, is_gone, ending, ending_of}
 use Rattle.flat_core.specs.FlatForm.{Plan, names_of, scatter_aim, otherwise_label, aim, exit, end_goto, is_jumpy_switch, assigned, mark_if, arrival, dissolved, if_breaks, flat_for, flat, flat_item, flat_last, flat_last_item, flat_sections, spread, marks, coded, numbered, first_here, flat_body}
 use Rattle.flat_core.specs.Unlabelled.{unlabelled, unlabelled_item, unlabelled_among}
 use Rattle.notes_kept.specs.Notes.{notes, notes_in, notes_among}
@@ -158,10 +158,6 @@ later_first Gone f g h = cc
 later_first Breaks f g h = refl
 later_first Jumps f g h = cc
 later_first Otherwise f g h = cc
-
-mark_breaks : (b : Bool) → gone_or b ≡ Breaks → ⊥
-mark_breaks true h = cc
-mark_breaks false h = cc
 
 if_no_break : (b : Bool) (e : Ending) → cond b (if_jumps e) Otherwise ≡ Breaks → ⊥
 if_no_break true Jumps h = cc

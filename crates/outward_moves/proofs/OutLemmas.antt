@@ -78,10 +78,6 @@ found_applies body at h l outer last e s =
     subst (λ n. CanMoveOut n outer last at.item body) m
     (subst (λ o. CanMoveOut h.label o last at.item body) r.same (subst (λ s. CanMoveOut h.label h.outer s at.item body) r.step h.applies))
 
-pub has_step : (outer : List Step) (last : Step) (steps : List Step) → steps ≡ outer ++ last ∷ [] → 0 < length steps
-has_step [] last steps e = subst (λ s. 0 < length s) (sym e) (omega arith)
-has_step (o ∷ outer) last steps e = subst (λ s. 0 < length s) (sym e) (omega arith)
-
 -- the list of the Leap in the list of its construct, as it is taken out
 pub leap_in_construct : (l : ℕ) (outer : List Step) (last : Step) (i : ℕ) (body a : List Item) → CanMoveOut l outer last i body → list_at body outer ≡ Some a
     → Holds (λ x. Holds (λ b. i < length b) (child last.branch x)) (slice_get a last.item)

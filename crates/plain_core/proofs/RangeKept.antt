@@ -36,9 +36,6 @@ use Rattle.plain_core.proofs.PlainRange.{tidy_everywhere, plain_everywhere, join
 none_everywhere : (P : Tree → Type 0) → Everywhere P (trees_of [])
 none_everywhere P = subst (Everywhere P) (sym trees-none) tt
 
-more_everywhere : (P : Tree → Type 0) (x : Item) (xs : List Item) (y : Tree) → tree_of x ≡ y → ((z : Tree) → z ≡ y → P y → Everywhere P (Then z (trees_of xs))) → P y → Everywhere P (trees_of (x ∷ xs))
-more_everywhere P x xs y e f h = subst (Everywhere P) (sym (trees-more x xs)) (f (tree_of x) e h)
-
 abbrev Below : ℕ → Tree → Type 0
 Below end = ItemSlots (λ x. x < end)
 

@@ -153,10 +153,6 @@ plain_section slot c = fold-Section Item Section (item_step slot) section_step c
 abbrev pub plain_items : (ℕ → ℕ) → List Item → List Item
 plain_items slot xs = map (plain_item slot) xs
 
--- sections without guards
-abbrev pub plain_sections : (ℕ → ℕ) → List Section → List Section
-plain_sections slot cs = map (plain_section slot) cs
-
 -- ---- the sections of switches
 
 -- whether an item is `break`

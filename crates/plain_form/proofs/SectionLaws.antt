@@ -10,11 +10,6 @@ use Rattle.plain_form.specs.Made.{given_after}
 
 -- ---- the last item
 
-pub last_of : (xs : List Item) (x : Item) → last_is_break (xs ++ x ∷ []) ≡ is_break x
-last_of [] x = refl
-last_of (y ∷ []) x = refl
-last_of (y ∷ z ∷ xs) x = last_of (z ∷ xs) x
-
 pub without : (xs : List Item) (x : Item) → without_last (xs ++ x ∷ []) ≡ xs
 without [] x = refl
 without (y ∷ []) x = refl
@@ -100,11 +95,6 @@ pub added_behind : (out next before again : List Section) (c d : Section) → ou
 added_behind out next before again c d e h a p rest =
     ap (λ z. given_after z rest) p ∙ after_last again d rest ∙ ap (λ z. z ++ given (d ∷ rest)) a ∙ append_assoc before (c ∷ []) (given (d ∷ rest))
     ∙ ap (λ z. before ++ z) (sym (given_kept c d rest h)) ∙ sym (after_last before c (d ∷ rest)) ∙ sym (ap (λ z. given_after z (d ∷ rest)) e)
-
--- or is the first
-pub added_first : (out next before : List Section) (d : Section) → out ≡ [] → before ≡ [] → next ≡ before ++ d ∷ [] → (rest : List Section) → given_after next rest ≡ given_after out (d ∷ rest)
-added_first out next before d e f p rest =
-    ap (λ z. given_after z rest) (p ∙ ap (λ z. z ++ d ∷ []) f) ∙ sym (ap (λ z. given_after z (d ∷ rest)) e)
 
 -- at the end they are what is made of them
 pub given_all : (cs : List Section) → given_after cs [] ≡ cs

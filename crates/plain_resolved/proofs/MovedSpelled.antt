@@ -3,11 +3,10 @@ use Rattle.std.proofs.Common.{◌≡◌, ◌⊎◌, inl, inr, ℕ, zero, suc, �
 use Rattle.std.specs.Prelude.{IfSome, IsSomeAnd}
 use Rattle.std.specs.Option.{option_map_or}
 use Rattle.std.specs.List.{AllByRecursion}
-use Rattle.std.proofs.lemmas.Int.{ints}
 use Rattle.std.proofs.lemmas.Option.{slice_get_within}
 use Rattle.c_types.specs.declared.kinds.IntKind.{IntKind}
 use Rattle.c_types.specs.declared.kinds.IntKind.TheVariants.{Int}
-use Rattle.c_types.specs.Numbers.{promoted, converted, IsInRange}
+use Rattle.c_types.specs.Numbers.{promoted, converted}
 use Rattle.c_types.proofs.Residues.{converted-in_range}
 use Rattle.c_tree.specs.declared.tree.Slot.{Slot}
 use Rattle.c_tree.specs.declared.tree.Function.{Function}
@@ -101,9 +100,6 @@ length_prints : (c : Option ℕ) → IsLength c → LengthPrints c
 length_prints None h = tt
 length_prints (Some n) h = let b = h.1 in omega (arith, b)
 
-small_in : (i : ℕ) → i ≤ 1024 → IsInRange Int (pos i)
-small_in i h = record { from_least = grind (arith, ints); to_greatest = grind (arith, ints, h) }
-
 -- ---- a function with jumps
 
 module _ (f h : Function) (m : IsMovedForm f h) (params : f.params ≤ length f.slots) (ts : List Top) (own : HasOwnNames ts h) where
@@ -184,23 +180,7 @@ module _ (f h : Function) (m : IsMovedForm f h) (params : f.params ≤ length f.
   from_source : (x : Tree) → Given x → FromSource x
   from_source (Local x None) g = (g.0, tt)
   from_source (Local x (Some es)) g = (g.0, local_print x es g.1.0 g.1.1.0 g.0)
-  from_source (Evaluate e) g = (g.0, tt)
-  from_source (Return e) g = (g.0, tt)
-  from_source (If t a b) g = (g.0, tt)
-  from_source (While t a) g = (g.0, tt)
-  from_source (Do a t) g = (g.0, tt)
-  from_source (For first t u a) g = (g.0, tt)
-  from_source (Switch s c) g = (g.0, tt)
-  from_source (Block a) g = (g.0, tt)
-  from_source Break g = (g.0, tt)
-  from_source Continue g = (g.0, tt)
-  from_source (Goto l) g = (g.0, tt)
-  from_source (Mark l) g = (g.0, tt)
-  from_source (Arm l e) g = (g.0, tt)
-  from_source (Leap l) g = (g.0, tt)
-  from_source (Land l) g = (g.0, tt)
-  from_source (Arrival e) g = (g.0, tt)
-  from_source (Note bs) g = (g.0, tt)
+  from_source x g = (g.0, tt)
 
   guard_named : (l : ℕ) → Left f h m l → IsName (slot_name h.slots (slot_of f h m l))
   guard_named l i =

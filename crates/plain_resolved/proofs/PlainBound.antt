@@ -198,23 +198,7 @@ module _ (f h : Function) (m : IsMovedForm f h) (params : f.params ≤ length f.
       let w = m.is_flat in
       let l = longer in
       let q = w.more_slots in (g.0, assigned_bound _ x _ es (omega (arith, a, p)) (omega (arith, b, l, q)) g.0)
-  from_source (Evaluate e) g = (g.0, tt)
-  from_source (Return e) g = (g.0, tt)
-  from_source (If t a b) g = (g.0, tt)
-  from_source (While t a) g = (g.0, tt)
-  from_source (Do a t) g = (g.0, tt)
-  from_source (For first t u a) g = (g.0, tt)
-  from_source (Switch s c) g = (g.0, tt)
-  from_source (Block a) g = (g.0, tt)
-  from_source Break g = (g.0, tt)
-  from_source Continue g = (g.0, tt)
-  from_source (Goto l) g = (g.0, tt)
-  from_source (Mark l) g = (g.0, tt)
-  from_source (Arm l e) g = (g.0, tt)
-  from_source (Leap l) g = (g.0, tt)
-  from_source (Land l) g = (g.0, tt)
-  from_source (Arrival e) g = (g.0, tt)
-  from_source (Note bs) g = (g.0, tt)
+  from_source x g = (g.0, tt)
 
   guard_bound : (l : ℕ) → Left f h m l → look_up last (slot_name h.slots (slot_of f h m l)) ≡ Some (AVariable (Home.Slot (slot_of f h m l)))
   guard_bound l i =

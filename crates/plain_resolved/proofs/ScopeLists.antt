@@ -95,10 +95,6 @@ pub data FromParameters (n i : ℕ) (o q : Option Meaning) : Type 0 where
   parameter : (k : ℕ) → i ≤ k → k < i + n → q ≡ Some (AVariable (H.Slot k)) → FromParameters n i o q
   before : q ≡ o → FromParameters n i o q
 
-later_parameter : (n i : ℕ) (o q : Option Meaning) → FromParameters n (suc i) o q → FromParameters (suc n) i o q
-later_parameter n i o q (parameter k a b e) = parameter k (omega (arith, a)) (omega (arith, b)) e
-later_parameter n i o q (before e) = before e
-
 entry_found : (m k : List ℕ) (i : ℕ) (s : Scope) → (found m (parameter_entry k i s) ≡ found m s) ⊎ (found m (parameter_entry k i s) ≡ Some (AVariable (H.Slot i)))
 entry_found m [] i s = inl refl
 entry_found m (b ∷ bs) i s = by_test (bytes_eq m (b ∷ bs))

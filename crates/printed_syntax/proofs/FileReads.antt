@@ -133,10 +133,6 @@ body_reads f (Some xs) h =
     (subst (λ a. Told false false (braced (map (printed f) xs) 0) (λ r. c.OpenBlock ∷ list_tokens f.slots a (c.CloseBlock ∷ r)) (λ r n. items_notes f.slots a (c.CloseBlock ∷ r) n)) (sym (trees_are xs))
     (braced_reads f.slots false (map (printed f) xs) (forest (map tree_of xs)) (all_read f xs (subst (ItemsPrint f) (trees_are xs) h.items)) 0)) (end_line false))
 
-body_starts : (f : Function) (body : Option (List Item)) (ps : List Piece) → NotFirst is_word_byte (spelled ((body_text f body ⨾ newline) ps))
-body_starts f None ps = refl
-body_starts f (Some xs) ps = refl
-
 function_reads : (f : Function) → FunctionPrints f → Told true true (function_text f) (function_tokens (function_of f)) (body_notes f f.body)
 function_reads f h =
     let behind = along false false true (punctuator (codes ")")) (body_text f f.body ⨾ newline) _ _ (closing false) (body_reads f f.body h.body) in

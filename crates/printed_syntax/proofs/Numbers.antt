@@ -86,9 +86,6 @@ digit_runs d h power = by_test (is_digit d) h _ _ _
     by_test true h false b c = refl
     by_test false h a b c = cc
 
-no_power : (d : ℕ) → is_digit d ≡ true → is_power d ≡ false
-no_power d h = grind (arith, nat_tests)
-
 all_continue : (ds s : List ℕ) (suffix : Suffix) (power : Bool) → list_all is_digit ds ≡ true → IsSuffix s suffix → continues power (ds ++ s) ≡ true
 all_continue [] s suffix power h k = k.runs power
 all_continue (d ∷ ds) s suffix power h k =

@@ -42,9 +42,6 @@ append-nil (x ∷ xs) = ap (λ z. x ∷ z) (append-nil xs)
 pub starts : (tops : List Top) (ms : List Move) → ms ≡ [] → All IsTopMovable tops → AreMovedTo 0 tops tops ms
 starts tops ms e a = record { continues = λ us ns r. subst (λ z. MovedTops tops us (z ++ ns)) (sym e) r; movable = a }
 
-pub this_movable : (i : ℕ) (old now : List Top) (ms : List Move) (t : Top) → slice_get now i ≡ Some t → AreMovedTo i old now ms → IsTopMovable t
-this_movable i old now ms t e h = All-head IsTopMovable t (drop (suc i) now) (subst (All IsTopMovable) (dropped now i t e) h.movable)
-
 pub one_more : (i : ℕ) (old now : List Top) (ms ks all : List Move) (t u : Top) → slice_get now i ≡ Some t → MovedTop t u ks → all ≡ ms ++ ks → AreMovedTo i old now ms → AreMovedTo (suc i) old (slice_set now i u) all
 one_more i old now ms ks all t u e m f h = record {
   continues = λ us ns r.

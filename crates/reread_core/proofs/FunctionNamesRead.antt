@@ -22,7 +22,7 @@ use Rattle.c_resolved.specs.Scopes.{Meaning, AFunction, behind_top, IsFunctionNa
 use Rattle.c_resolved.specs.Scopes as resolved
 use Rattle.reread_core.specs.Bindings.{IsInScope, function_of, want_of as want_for, binding_of, IsSame, IsSameScope, AreSameScopes}
 use Rattle.reread_core.specs.Laws.{wants_in, IsWrittenAs, IsDeclared, NameReads}
-use Rattle.reread_core.proofs.Entries.{same_names, by_bool}
+use Rattle.c_kinds.proofs.Entries.{same_names, by_bool}
 use Rattle.reread_core.proofs.SameScopes.{bind_same}
 use Rattle.reread_core.proofs.ArgumentsRead.{same_kind_is, same_truth_is}
 

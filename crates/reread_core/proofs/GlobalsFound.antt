@@ -10,7 +10,7 @@ use Rattle.c_resolved.specs.Within.{Each}
 use Rattle.c_resolved.specs.Scopes.{Scope, Meaning, AConstant, AVariable, AFunction, found, bind, bind_constants, behind_top, IsNew, TopsAreBound, NamesAreBound, at_start}
 use Rattle.reread_core.specs.Bindings.{IsInScope}
 use Rattle.reread_core.specs.Laws.{IsFound}
-use Rattle.reread_core.proofs.Entries.{same_names, names_same, by_bool}
+use Rattle.c_kinds.proofs.Entries.{same_names, names_same, by_bool}
 
 -- bound in the nearest scope
 abbrev IsThere : List ℕ → List Scope → Type 0

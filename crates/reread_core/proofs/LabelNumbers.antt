@@ -11,7 +11,7 @@ use Rattle.c_kinds.specs.Scopes.{Faults, fault_if}
 use Rattle.c_statements.specs.Labels.{with_number, numbers_from, numbers, new_name, distinct_from, distinct, twice_from, twice_faults}
 use Rattle.c_resolved.specs.Form.{numbers_from as numbers_in}
 use Rattle.c_resolved.specs.Within.{Each, AllDiffer}
-use Rattle.reread_core.proofs.Entries.{same_names, names_same, by_bool, found_new}
+use Rattle.c_kinds.proofs.Entries.{same_names, names_same, by_bool, found_new}
 
 -- a new name is one more
 longer : (m : List ℕ) (b : ℕ) (es : Names ℕ) → found m es ≡ None → length (with_entry m b es) ≡ suc (length es)

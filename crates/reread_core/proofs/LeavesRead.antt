@@ -10,7 +10,6 @@ use Rattle.c_tree.specs.declared.tree.Expression.{Expression}
 use Rattle.c_tree.specs.declared.tree.Item.{Item}
 use Rattle.c_tree.specs.declared.tree.Item as item
 use Rattle.c_tree.specs.ExpressionTrees.{ExpressionTree}
-use Rattle.c_tree.specs.Trees.{Tree, Forest, Nil, Then}
 use Rattle.c_tree.specs.Trees as t
 use Rattle.c_tree.specs.TextPieces.{Piece, ◌⨾◌, space, newline, word, punctuator}
 use Rattle.c_tree.specs.TextExpressions.{Leveled, expression_text}
@@ -38,7 +37,7 @@ use Rattle.reread_core.proofs.Mirrors.{expression_in, text_in}
 use Rattle.reread_core.proofs.ExpressionWords.{word_here, mark_here}
 use Rattle.reread_core.proofs.Readings.{Reads, dropped_clear, drops_is}
 use Rattle.reread_core.proofs.FullExpressions.{open_full}
-use Rattle.reread_core.proofs.Entries.{same_names}
+use Rattle.c_kinds.proofs.Entries.{same_names}
 use Rattle.reread_core.specs.Places.{Standing}
 use Rattle.reread_core.proofs.DeclarationsRead.{place_at, value_is_in, value_clear}
 use Rattle.reread_core.proofs.ListsRead.{still, ReadsOne}

@@ -12,7 +12,6 @@ pub mod FullExpressions
 pub mod DeclarationSources
 pub mod StatementSources
 pub mod ItemMirrors
-pub mod Entries
 pub mod SameScopes
 pub mod DeclarationsRead
 pub mod ListsRead

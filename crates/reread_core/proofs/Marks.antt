@@ -1,6 +1,5 @@
 -- What the printed marks and the printed words of types are.
 use Rattle.std.proofs.Common.{◌≡◌, ℕ, Bool, true, false, List, Some, None, refl}
-use Rattle.std.specs.Prelude.{codes}
 use Rattle.c_types.specs.declared.kinds.IntKind.{IntKind}
 use Rattle.c_types.specs.declared.kinds.IntKind.TheVariants as K
 use Rattle.c_types.specs.declared.kinds.ArithOp.{ArithOp}
@@ -61,9 +60,6 @@ update_is Shr = refl
 update_is And = refl
 update_is Or = refl
 update_is Xor = refl
-
-pub equals_is : update_op (mark_of (marked (codes "="))) ≡ None
-equals_is = refl
 
 pub step_is : (up : Bool) → step_of (mark_of (marked (count_spelling up))) ≡ Some up
 step_is true = refl

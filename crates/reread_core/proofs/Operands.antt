@@ -1,16 +1,15 @@
 -- An operand where the grammar needs a level: what it writes, and where it ends, with the brackets round it.
 use Rattle.std.proofs.Common.{◌≡◌, ◌<◌, ◌≤◌, ◌+◌, ℕ, Bool, true, false, cond, nat_lt, refl, sym, ◌∙◌, arith}
 use Rattle.std.proofs.lemmas.Bool.{le-ltb, lt-ltb}
-use Rattle.c_grammar.specs.declared.class.Class.{Class}
 use Rattle.c_grammar.specs.declared.class.Class.TheVariants as c
 use Rattle.c_grammar.specs.Classes.{level}
-use Rattle.c_grammar.specs.Expressions.{Expression, One, More, To, Value, Choose, Only, Binary, Single, Both, Within, root, FitsExpression, FitsBinary}
+use Rattle.c_grammar.specs.Expressions.{Expression, One, More, To, Value, Choose, Only, Binary, Single, Both, Within, root, FitsExpression}
 use Rattle.c_grammar.specs.ExpressionSyntax.{expression_end, assignment_end, conditional_end, binary_end, unary_end}
 use Rattle.c_source.specs.Terms.{Form}
 use Rattle.c_tree.specs.ExpressionTrees.{ExpressionTree}
 use Rattle.c_resolved.specs.PrintableExpressions.{level_of}
 use Rattle.printed_syntax.specs.ExpressionDerivations.{as_assignment, as_conditional, as_binary, as_unary, derivation_of}
-use Rattle.printed_syntax.proofs.Levels.{loose}
+use Rattle.printed_syntax.proofs.Levels.{loose, level_low, root_high}
 use Rattle.printed_syntax.proofs.ExpressionFits.{fits, level_is}
 use Rattle.reread_core.specs.WrittenExpressions.{expression_form, assignment_form, conditional_form, binary_form, unary_form}
 
@@ -31,36 +30,6 @@ ending need at x = bracketed_end (nat_lt (level_of x) need) at (derivation_of x)
 -- what it is to stand where a level is needed
 abbrev Lies : ℕ → ℕ → Expression → Form → ℕ → Type 0
 Lies need at e form end = (form ≡ expression_form (past (nat_lt (loose e) need) at) e) × (end ≡ bracketed_end (nat_lt (loose e) need) at e)
-
-level_high : (m : Class) → 0 < level m → 4 ≤ level m
-level_high c.OrElse h = omega arith
-level_high c.AndThen h = omega arith
-level_high c.BitOr h = omega arith
-level_high c.BitXor h = omega arith
-level_high c.BitAnd h = omega arith
-level_high c.Equality h = omega arith
-level_high c.Order h = omega arith
-level_high c.Shift h = omega arith
-level_high c.Sign h = omega arith
-level_high c.Product h = omega arith
-level_high _ h = absurd (omega (arith, h))
-
-level_low : (m : Class) → level m < 14
-level_low c.OrElse = omega arith
-level_low c.AndThen = omega arith
-level_low c.BitOr = omega arith
-level_low c.BitXor = omega arith
-level_low c.BitAnd = omega arith
-level_low c.Equality = omega arith
-level_low c.Order = omega arith
-level_low c.Shift = omega arith
-level_low c.Sign = omega arith
-level_low c.Product = omega arith
-level_low _ = omega arith
-
-root_high : (b : Binary) → FitsBinary b → 4 ≤ root b
-root_high (Single u) f = omega arith
-root_high (Both a m b) f = level_high m f.2
 
 -- no bracket stands where the level is high enough
 bare : (need at : ℕ) (e : Expression) → need ≤ loose e → Lies need at e (expression_form at e) (expression_end at e)

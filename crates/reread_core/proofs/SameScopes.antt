@@ -7,7 +7,7 @@ use Rattle.c_resolved.specs.Names.{Names}
 use Rattle.c_resolved.specs.Scopes.{Meaning}
 use Rattle.c_resolved.specs.Scopes as resolved
 use Rattle.reread_core.specs.Bindings.{IsInScope, binding_of, IsSame, IsSameScope, AreSameScopes, ScopesAgree}
-use Rattle.reread_core.proofs.Entries.{same_names, by_bool, found_new}
+use Rattle.c_kinds.proofs.Entries.{same_names, by_bool, found_new}
 
 module _ (n : Names) where
   nearest : (m : List ℕ) (b : Meaning) (o : Option Meaning) (later : Option Meaning) (p q : Option Binding) → IsSame n m o p → (later ≡ Some b → q ≡ binding_of n m b) → option_or o later ≡ Some b → or_else p q ≡ binding_of n m b

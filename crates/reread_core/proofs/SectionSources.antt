@@ -34,10 +34,6 @@ use Rattle.c_statements.specs.Labels.{named_in, plain_labels, list_labels}
 
 -- ---- the labels of a section
 
-abbrev pub case_list : ℕ → List ExpressionTree → List s.Label
-case_list at [] = []
-case_list at (x ∷ xs) = let y = conditional_end (at + 1) (conditional_of x) + 1 in s.Case at y (At (at + 1) (conditional_form (at + 1) (conditional_of x))) ∷ case_list y xs
-
 abbrev pub default_list : ℕ → Bool → List s.Label
 default_list at false = []
 default_list at true = s.Default at (at + 1 + 1) ∷ []

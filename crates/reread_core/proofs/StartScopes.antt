@@ -16,7 +16,7 @@ use Rattle.c_resolved.specs.Scopes as resolved
 use Rattle.c_resolved.specs.Resolved.{names_in}
 use Rattle.reread_core.specs.Bindings.{function_of, binding_of, IsSame, IsSameScope, AreSameScopes}
 use Rattle.reread_core.specs.Laws.{AreOfFile, IsOfFile, ScopeIsOfFile}
-use Rattle.reread_core.proofs.Entries.{same_names, by_bool}
+use Rattle.c_kinds.proofs.Entries.{same_names, by_bool}
 
 -- ---- no function of the program is named like one of the library
 

@@ -35,7 +35,7 @@ use Rattle.reread_core.specs.Laws.{IsDeclared, IsOfFile, AreOfFile}
 use Rattle.reread_core.proofs.TheLaws.{reread_laws}
 use Rattle.reread_core.proofs.ListsRead.{past_comment}
 use Rattle.reread_core.proofs.FunctionNamesRead.{sig, bound_same}
-use Rattle.resolving_core.proofs.Bindings.{names_same}
+use Rattle.c_kinds.proofs.Entries.{names_same}
 use Rattle.reread_resolved.proofs.Chosen.{chosen}
 use Rattle.reread_resolved.proofs.Declared.{named_bodies}
 use Rattle.reread_resolved.proofs.TopsTold.{AreFormed, body_here}

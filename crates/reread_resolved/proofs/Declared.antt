@@ -11,7 +11,7 @@ use Rattle.c_resolved.specs.Names.{first_function, the_function}
 use Rattle.c_resolved.specs.Files.{SameParameters, AgreesWith, DeclarationsAgree}
 use Rattle.c_resolved.specs.Within.{Each}
 use Rattle.resolving_core.specs.Laws.{OfFunction}
-use Rattle.resolving_core.proofs.Bindings.{same_names, names_same}
+use Rattle.c_kinds.proofs.Entries.{same_names, names_same}
 use Rattle.resolving_core.proofs.Bodies.{has_with}
 use Rattle.reread_core.specs.Laws.{bodies_behind}
 

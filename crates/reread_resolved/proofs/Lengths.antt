@@ -8,8 +8,8 @@ use Rattle.c_grammar.specs.Statements as s
 use Rattle.c_grammar.specs.Statements.{word_tokens, more_tokens, rest_tokens, optional_tokens, size_tokens, initialiser_tokens, value_tokens, declarator_tokens, local_tokens, label_tokens, for_start_tokens, block_tokens, items_tokens, statement_tokens, plain_tokens}
 use Rattle.c_grammar.specs.StatementSyntax.{word_end, more_end, rest_end, optional_end, size_end, initialiser_end, value_end, declarator_end, local_end, label_end, for_start_end, block_end, items_end, statement_end, plain_end}
 use Rattle.c_grammar.specs.Files as f
-use Rattle.c_grammar.specs.Files.{parameter_tokens, parameters_tokens, constant_tokens, enumerator_tokens, enumeration_tokens, declaration_tokens, result_tokens, body_tokens, function_tokens, top_tokens, file_tokens}
-use Rattle.c_grammar.specs.FileSyntax.{parameter_end, parameters_end, enumerator_end, enumeration_end, declaration_end, result_end, body_end, function_end, top_end, file_end}
+use Rattle.c_grammar.specs.Files.{parameter_tokens, parameters_tokens, constant_tokens, enumerator_tokens, enumeration_tokens, declaration_tokens, result_tokens, body_tokens, function_tokens, top_tokens}
+use Rattle.c_grammar.specs.FileSyntax.{parameter_end, parameters_end, enumerator_end, enumeration_end, declaration_end, result_end, body_end, function_end, top_end}
 
 -- the tokens of a derivation that begins with this number, in front of these
 abbrev pub Reaches : ℕ → ℕ → (List Class → List Class) → Type 0
@@ -282,13 +282,6 @@ top_reaches at f.Line r = omega arith
 top_reaches at (f.OfEnum x) r = enumeration_reaches at x r
 top_reaches at (f.OfDeclaration x) r = declaration_reaches at x r
 top_reaches at (f.OfFunction x) r = function_reaches at x r
-
-pub file_reaches : (at : ℕ) (xs : List f.Top) → Reaches at (file_end at xs) (file_tokens xs)
-file_reaches at [] r = refl
-file_reaches at (x ∷ xs) r =
-    let y = top_reaches at x (file_tokens xs r) in
-    let z = file_reaches (top_end at x) xs r in
-    omega (arith, y, z)
 
 -- ---- a declaration and a statement have a token
 

@@ -16,7 +16,7 @@ use Rattle.c_statements.specs.Measures.{longest_declared, longest_label, start_l
 use Rattle.c_statements.specs.Statements.{behind_start, behind_item, behind_plain, behind_statement, behind_body, behind_items}
 use Rattle.c_resolved.specs.Limits.{IsShort}
 use Rattle.c_resolved.specs.Within.{Each}
-use Rattle.reread_core.proofs.Entries.{found_entry, same_names}
+use Rattle.c_kinds.proofs.Entries.{found_entry, same_names}
 use Rattle.resolving_core.proofs.FunctionTrees.{inside_slots, drop_all}
 
 each_both : (P : Slot → Type 0) (xs ys : List Slot) → Each P (xs ++ ys) → Each P xs × Each P ys

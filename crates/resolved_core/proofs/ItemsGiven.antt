@@ -29,33 +29,33 @@ use Rattle.resolved_core.proofs.Ranged.{the_some, each_map, unguarded, function_
 use Rattle.resolved_core.proofs.KindsGiven.{names, kinded, unknown_named}
 
 module _ (p : Program) (ss : List Slot) (unknown : (m : List ℕ) → IfSome (the_function m p.tops) (λ f. gives_int m ≡ false)) where
-  abbrev Agrees : ExpressionTree → Type 0
+  abbrev pub Agrees : ExpressionTree → Type 0
   Agrees x = KindsAgree (names p ss unknown) x
 
-  test_kinded : (t : TestTree) → TestExpression Agrees t → TestExpression HasValue t → KindedTest (code_of p) ss t
+  pub test_kinded : (t : TestTree) → TestExpression Agrees t → TestExpression HasValue t → KindedTest (code_of p) ss t
   test_kinded (Source e) h v = (kinded p ss unknown e v.operand h, v.kind)
   test_kinded (On l) h v = tt
   test_kinded (Off l) h v = tt
   test_kinded (AndOff l t) h v = test_kinded t h v
   test_kinded (OrOn l t) h v = test_kinded t h v
 
-  selector_kinded : (s : SelectorTree) → Agrees (selector_source s) → HasValue (selector_source s) → KindedSelector (code_of p) ss s
+  pub selector_kinded : (s : SelectorTree) → Agrees (selector_source s) → HasValue (selector_source s) → KindedSelector (code_of p) ss s
   selector_kinded (Selects e) h v = kinded p ss unknown e v.operand h
   selector_kinded (Pick l k s) h v = selector_kinded s h v
 
-  value_kinded : (o : Option ExpressionTree) → IfSome o Agrees → IfSome o HasValue → IfSome o (Kinded (code_of p) ss)
+  pub value_kinded : (o : Option ExpressionTree) → IfSome o Agrees → IfSome o HasValue → IfSome o (Kinded (code_of p) ss)
   value_kinded None h v = tt
   value_kinded (Some e) h v = kinded p ss unknown e v.operand h
 
-  operand_kinded : (o : Option ExpressionTree) → IfSome o Agrees → IfSome o IsOperand → IfSome o (Kinded (code_of p) ss)
+  pub operand_kinded : (o : Option ExpressionTree) → IfSome o Agrees → IfSome o IsOperand → IfSome o (Kinded (code_of p) ss)
   operand_kinded None h v = tt
   operand_kinded (Some e) h v = kinded p ss unknown e v h
 
-  all_kinded : (es : List ExpressionTree) → Each Agrees es → Each HasValue es → AreKinded (code_of p) ss es
+  pub all_kinded : (es : List ExpressionTree) → Each Agrees es → Each HasValue es → AreKinded (code_of p) ss es
   all_kinded [] h v = tt
   all_kinded (e ∷ es) h v = (kinded p ss unknown e v.0.operand h.0, all_kinded es h.1 v.1)
 
-  given_kinded : (o : Option (List ExpressionTree)) → IfSome o (Each Agrees) → IfSome o (Each HasValue) → IfSome o (AreKinded (code_of p) ss)
+  pub given_kinded : (o : Option (List ExpressionTree)) → IfSome o (Each Agrees) → IfSome o (Each HasValue) → IfSome o (AreKinded (code_of p) ss)
   given_kinded None h v = tt
   given_kinded (Some es) h v = all_kinded es h v
 

@@ -174,7 +174,7 @@ mapped_some : (k : IntKind) (o : Option ℤ) → IsSome o → IsSome (option_map
 mapped_some k None h = h
 mapped_some k (Some z) h = refl
 
-different : (k : IntKind) (es : List ExpressionTree) → Each IsConstantValue es → AllDiffer (map (case_number k) es) → AreDifferent (map (case_number k) es)
+pub different : (k : IntKind) (es : List ExpressionTree) → Each IsConstantValue es → AllDiffer (map (case_number k) es) → AreDifferent (map (case_number k) es)
 different k [] c h = tt
 different k (e ∷ es) c h =
     (same_self (case_number k e) (mapped_some k (constant_value e) c.0.untrapped), others (case_number k e) (map (case_number k) es) h.0, different k es c.1 h.1)
@@ -200,22 +200,7 @@ kind_there s Q h = promoted_there (kind_of (selector_source s)) h
 own_cases : (f : Function) (x : Tree) → HasCases x × HasSourceForm f x → HasOwnCases x
 own_cases f (Switch s c) h = always (P.is_scattered c) _ (own_labels (switch_kind s) c (kind_there s (λ k. AreLabels k (switch_labels c)) h.0))
 own_cases f (Land l) h = absurd h.1
-own_cases f (Evaluate e) h = tt
-own_cases f (Return e) h = tt
-own_cases f (If t a b) h = tt
-own_cases f (While t a) h = tt
-own_cases f (Do a t) h = tt
-own_cases f (For first t u a) h = tt
-own_cases f (Block a) h = tt
-own_cases f (Local k given) h = tt
-own_cases f Break h = tt
-own_cases f Continue h = tt
-own_cases f (Goto l) h = tt
-own_cases f (Mark l) h = tt
-own_cases f (Arm l e) h = tt
-own_cases f (Leap l) h = tt
-own_cases f (Arrival e) h = tt
-own_cases f (Note bs) h = tt
+own_cases f x h = tt
 
 -- ---- functions
 

@@ -11,7 +11,7 @@ use Rattle.c_tree.specs.declared.tree.Function as tree
 use Rattle.c_tree.specs.declared.tree.Top.{Top}
 use Rattle.c_tree.specs.declared.tree.Top.TheVariants as T
 use Rattle.c_source.specs.Items.{Declarator, Body}
-use Rattle.c_source.specs.Tops.{Enumerator, Function, Form, Line, Enum, Globals, Defines, Unread}
+use Rattle.c_source.specs.Tops.{Function, Form, Line, Enum, Globals, Defines, Unread}
 use Rattle.c_source.specs.Tops as tops
 use Rattle.c_kinds.specs.Scopes.{Env, Scope}
 use Rattle.c_scopes.specs.Files.{File, State, env_of, function_declared, notes_tops, form_tops, behind_form, tops_of}
@@ -24,7 +24,7 @@ use Rattle.c_statements.specs.Declarations.{kinded}
 use Rattle.c_statements.specs.Functions.{function_of}
 use Rattle.resolving_core.proofs.Defined.{defined}
 use Rattle.c_resolved.specs.Names.{first_function}
-use Rattle.resolving_core.proofs.Bindings.{same_names, names_same}
+use Rattle.c_kinds.proofs.Entries.{same_names, names_same}
 use Rattle.resolving_core.proofs.FileNames.{function_append, NoF, NoG, Unnamed, first_named}
 use Rattle.resolving_core.proofs.FunctionTrees.{function_name}
 

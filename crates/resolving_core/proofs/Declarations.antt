@@ -24,7 +24,7 @@ use Rattle.c_statements.specs.Declarations.{kinded}
 use Rattle.c_statements.specs.Functions.{function_of}
 use Rattle.c_resolved.specs.Files.{SameParameter, SameParameters, Agree, AgreesWith, DeclarationsAgree}
 use Rattle.c_resolved.specs.Within.{Each}
-use Rattle.resolving_core.proofs.Bindings.{same_names, names_same}
+use Rattle.c_kinds.proofs.Entries.{same_names, names_same}
 use Rattle.resolving_core.proofs.Bodies.{has_with_body, body_there, has_body_in, body_append, notes_bodiless, form_body, form_bodies, no_body}
 use Rattle.resolving_core.proofs.FileNames.{Named, NoF, NoG, unnamed_all, named_map, FunctionAgrees, FileGood}
 use Rattle.resolving_core.proofs.FileParts.{function_parts, file_parts}

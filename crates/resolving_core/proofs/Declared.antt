@@ -22,7 +22,8 @@ use Rattle.c_resolved.specs.Within.{Each}
 use Rattle.resolving_core.proofs.Lists.{is_some_and}
 use Rattle.resolving_core.proofs.Known.{HasShape, IsKnown, Knows}
 use Rattle.resolving_core.specs.Read.{IsReadTerm, IsReadInitialiser}
-use Rattle.resolving_core.proofs.Bindings.{names_same, knows_bound, look_up_tree}
+use Rattle.c_kinds.proofs.Entries.{names_same}
+use Rattle.resolving_core.proofs.Bindings.{knows_bound, look_up_tree}
 use Rattle.resolving_core.proofs.Parts.{parted, local_parts}
 use Rattle.resolving_core.proofs.Empty.{Empties, each_empty}
 use Rattle.resolving_core.proofs.Walk.{Begins}

@@ -1,5 +1,5 @@
 -- Each `break` and `continue` has its construct, and each nested case label stands in a switch.
-use Rattle.std.proofs.Common.{ℕ, ◌+◌, Bool, true, false, ◌||◌, List, [], ◌∷◌, ◌≡◌, refl, sym, ◌∙◌, true≢false, arith}
+use Rattle.std.proofs.Common.{ℕ, ◌+◌, false, ◌||◌, List, [], ◌∷◌, ◌≡◌, refl, sym, ◌∙◌, true≢false, arith}
 use Rattle.c_tree.specs.Trees.{Tree, Forest, Nil, Then, SectionTree, Evaluate, Return, Local, Goto, Mark, Note, join, sections}
 use Rattle.c_tree.specs.Exits.{breaks, breaks_of, continues, continues_of, continues_in}
 use Rattle.c_statements.specs.Context.{Around, in_switch}
@@ -66,10 +66,6 @@ sections_continue a (s ∷ ss) h e = none_sum (continues s.list) (continues_in (
 
 no_more : (n : ℕ) → n ≡ 0 → n + 0 ≡ 0
 no_more n e = omega arith
-
-either_or : (a b : Bool) → (a || b) ≡ false → a ≡ false
-either_or true b e = e
-either_or false b e = refl
 
 pub exits_surrounded : Surrounded Exits
 exits_surrounded = record {

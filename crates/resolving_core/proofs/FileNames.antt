@@ -22,7 +22,7 @@ use Rattle.c_resolved.specs.Names.{first_function, the_function, the_global, dec
 use Rattle.c_resolved.specs.Scopes as Scopes
 use Rattle.c_resolved.specs.Scopes.{Meaning, AConstant, AVariable, AFunction}
 use Rattle.c_resolved.specs.Within.{Each}
-use Rattle.resolving_core.proofs.Bindings.{same_names}
+use Rattle.c_kinds.proofs.Entries.{same_names}
 use Rattle.resolving_core.proofs.Known.{HasShape, WantsAgree, CalleeAgrees, IsKnown, Knows}
 use Rattle.resolving_core.proofs.Lists.{each_map, and_left, and_right}
 

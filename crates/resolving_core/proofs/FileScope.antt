@@ -17,8 +17,8 @@ use Rattle.c_kinds.specs.Scopes.{Scope, found, with_entry, with_name}
 use Rattle.c_scopes.specs.FunctionNames.{same_result, same_want, same_wants, same_signature}
 use Rattle.c_resolved.specs.Names.{first_function}
 use Rattle.c_resolved.specs.Scopes as Scopes
-use Rattle.c_resolved.specs.Scopes.{Meaning, AFunction}
-use Rattle.resolving_core.proofs.Bindings.{same_names, names_same, found_new}
+use Rattle.c_resolved.specs.Scopes.{AFunction}
+use Rattle.c_kinds.proofs.Entries.{same_names, names_same, found_new}
 use Rattle.resolving_core.proofs.Calls.{same_kind_is, same_truth_is}
 use Rattle.resolving_core.proofs.FileNames.{NoF, NoG, Unnamed, unnamed_all, global_stays, function_append, first_named, FunctionAgrees, FileGood, meaning_of, Same}
 use Rattle.resolving_core.proofs.Known.{HasShape, WantAgrees, WantsAgree}

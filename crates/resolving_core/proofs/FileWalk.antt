@@ -26,7 +26,7 @@ use Rattle.c_statements.specs.Declarations.{shape_of}
 use Rattle.c_resolved.specs.Names.{first_function, the_global}
 use Rattle.c_resolved.specs.Scopes as Scopes
 use Rattle.c_resolved.specs.Scopes.{AConstant, AVariable, AFunction, behind_top, bind_constants}
-use Rattle.resolving_core.proofs.Bindings.{names_same, same_names}
+use Rattle.c_kinds.proofs.Entries.{names_same, same_names}
 use Rattle.resolving_core.proofs.Declared.{slot_shape}
 use Rattle.resolving_core.proofs.FileNames.{NoF, NoG, Unnamed, unnamed_all, no_global, function_append, global_append, FunctionAgrees, FileGood, library_scope}
 use Rattle.resolving_core.proofs.FileParts.{enum_parts, global_parts, globals_parts}

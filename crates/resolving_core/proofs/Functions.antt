@@ -38,7 +38,8 @@ use Rattle.c_types.specs.Words.{is_word}
 use Rattle.c_resolved.specs.Switches.{HasCases}
 use Rattle.c_resolved.specs.Within.{Each, AllDiffer}
 use Rattle.resolving_core.proofs.Arrays.{array_fine}
-use Rattle.resolving_core.proofs.Bindings.{names_same, knows_bound, knows_inside, look_up_tree}
+use Rattle.c_kinds.proofs.Entries.{names_same}
+use Rattle.resolving_core.proofs.Bindings.{knows_bound, knows_inside, look_up_tree}
 use Rattle.resolving_core.proofs.BoundTerms.{Nearest, nearest_new, nearest_bound, At, binds_both}
 use Rattle.resolving_core.proofs.Bound.{place_binds, item_binds, list_binds}
 use Rattle.resolving_core.proofs.Declared.{slot_there}

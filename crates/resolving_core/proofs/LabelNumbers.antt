@@ -7,7 +7,7 @@ use Rattle.std.proofs.lemmas.Map.Text.{is_eq-slice_cmp}
 use Rattle.c_types.specs.Words.{name_cmp}
 use Rattle.c_tree.specs.Trees.{trees_of}
 use Rattle.c_tree.proofs.TreeLaws.{tree-Local, trees-none, trees-more}
-use Rattle.c_source.specs.Items.{Declarator, Declaration, Label, Named, Case, Default, Start, NoStart, StartValue, StartNames, Item, Declares, States, Plain, From, Statement, Null, Evaluate, If, IfElse, While, DoWhile, For, Switch, Block, Goto, Break, Continue, Return, Unread, Body, Braces, Lone, Items, NoItem}
+use Rattle.c_source.specs.Items.{Declarator, Label, Named, Case, Default, Start, NoStart, StartValue, StartNames, Item, Declares, States, Plain, From, Statement, Null, Evaluate, If, IfElse, While, DoWhile, For, Switch, Block, Goto, Break, Continue, Return, Unread, Body, Braces, Lone, Items, NoItem}
 use Rattle.c_source.specs.Items as items
 use Rattle.c_kinds.specs.Scopes.{Names, found, with_entry}
 use Rattle.c_statements.specs.declared.extents.Kinded.{Kinded}
@@ -18,7 +18,7 @@ use Rattle.c_statements.specs.Statements.{behind_start, behind_item, behind_body
 use Rattle.c_resolved.specs.Form.{gathered, gathered_of, marked_label}
 use Rattle.c_resolved.specs.Form as Form
 use Rattle.c_resolved.specs.Within.{Each, AllDiffer}
-use Rattle.resolving_core.proofs.Bindings.{same_names, names_same, found_entry}
+use Rattle.c_kinds.proofs.Entries.{same_names, names_same, found_entry}
 use Rattle.resolving_core.proofs.FileParts.{twice_parts}
 use Rattle.resolving_core.proofs.Gathered.{Gathers, of_labels, of_start, of_item, of_plain, of_statement, of_body, of_list}
 use Rattle.resolving_core.proofs.Lists.{each_map}

@@ -1,6 +1,6 @@
 -- Lists of violations that are empty, and choices that were made.
 use Rattle.std.proofs.Common.{ℕ, Bool, true, false, not, ◌&&◌, ◌||◌, List, [], ◌∷◌, ◌++◌, Option, Some, None, ◌≡◌, refl, sym, ap, subst, true≢false}
-use Rattle.std.specs.Prelude.{IfSome, IsSomeAnd}
+use Rattle.std.specs.Prelude.{IsSomeAnd}
 use Rattle.c_kinds.specs.Scopes.{Faults, fault_if}
 use Rattle.c_resolved.specs.Within.{Each}
 
@@ -50,9 +50,6 @@ the_some P (Some a) h = (a, refl, h)
 
 pub is_some_and : {A : Type 0} (P : A → Type 0) (o : Option A) (a : A) → o ≡ Some a → P a → IsSomeAnd o P
 is_some_and P o a e h = subst (λ o. IsSomeAnd o P) (sym e) h
-
-pub if_some_given : {A : Type 0} (P : A → Type 0) (o : Option A) (a : A) → IfSome o P → o ≡ Some a → P a
-if_some_given P o a h e = subst (λ o. IfSome o P) e h
 
 pub each_map : {A : Type 0} (P Q : A → Type 0) → ((a : A) → P a → Q a) → (xs : List A) → Each P xs → Each Q xs
 each_map P Q f [] h = tt

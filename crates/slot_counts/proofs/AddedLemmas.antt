@@ -1,7 +1,6 @@
 -- Counts added one after another.
 use Rattle.std.proofs.Common.{ℕ, ◌+◌, ◌<◌, ◌≤◌, Bool, true, false, eqb, List, map, length, get_or, drop, slice_set, Result, Ok, Err, OnOk, ◌≡◌, ◌≢◌, refl, sym, ap, ◌∙◌, subst, arith}
 use Rattle.std.proofs.Common.{eqb-true, eq-eqb, true≢false}
-use Rattle.std.proofs.lemmas.Bool.{ne_eqb}
 use Rattle.std.proofs.lemmas.List.{get_or-set_same, get_or-set_other, length-set}
 use Rattle.std.proofs.lemmas.List.{at_drop_more, at_drop_all}
 use Rattle.c_tree.specs.declared.tree.Expression.{Expression, out-Expression}
@@ -80,19 +79,6 @@ counted_at a s n g true e h k =
     let q : s ≡ g = eqb-true s g e in
     ap (λ z. get_or (slice_set a s n) z 0) (sym q) ∙ get_or-set_same a s n 0 h ∙ k ∙ ap (λ z. get_or a z 0 + 1) q
 counted_at a s n g false e h k = get_or-set_other a s g n 0 (λ q. true≢false (sym (eq-eqb s g (sym q)) ∙ e)) ∙ omega arith
-
-pub one_added : (a : List ℕ) (s n : ℕ) → s < length a → n ≡ get_or a s 0 + 1 → Adds a (λ g. one_if (eqb s g)) (slice_set a s n)
-one_added a s n h k = record { as_long = length-set a s n; counted = λ g l. counted_at a s n g (eqb s g) refl h k }
-
-one_past : (a : List ℕ) (s g : ℕ) → length a ≤ s → g < length a → get_or a g 0 ≡ get_or a g 0 + one_if (eqb s g)
-one_past a s g h l =
-    let q : s ≢ g = omega (arith, h, l) in
-    let e = ne_eqb s g q in
-    omega (arith, ap one_if e)
-
--- a slot that has no count
-pub past_added : (a : List ℕ) (s : ℕ) → length a ≤ s → Adds a (λ g. one_if (eqb s g)) a
-past_added a s h = record { as_long = refl; counted = λ g l. one_past a s g h l }
 
 -- ---- over a list
 

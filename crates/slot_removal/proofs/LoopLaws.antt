@@ -17,9 +17,6 @@ refilled_same old lent w e h =
 abbrev pub DoneTo : {A : Type 0} → (A → A → Type 0) → ℕ → List A → List A → Type 0
 DoneTo {A} R i old new = (length new ≡ length old) × ((k : ℕ) (d : A) → k < i → R (get_or old k d) (get_or new k d))
 
-pub none_done : {A : Type 0} (R : A → A → Type 0) (xs : List A) → DoneTo R 0 xs xs
-none_done R xs = (refl, λ k d h. absurd (omega (arith, h)))
-
 same_entry : {A : Type 0} (xs : List A) (i : ℕ) (d e : A) → i < length xs → get_or xs i d ≡ get_or xs i e
 same_entry [] i d e h = absurd (omega (arith, h))
 same_entry (x ∷ xs) zero d e h = refl

@@ -149,10 +149,6 @@ added tops left names file g room e k h = record {
   places i j (inr a) (inl b) q = absurd (other_name j b (sym q ∙ ap (entry_or [] (names ++ m ∷ [])) a ∙ last_is))
   places i j (inr a) (inr b) q = a ∙ sym b
 
--- a declaration of no variable
-pub other_top : (tops left : List Top) (names : List (List ℕ)) (file : List Room) (t : Top) → ((m : List ℕ) → global_named m (t ∷ left) ≡ global_named m left) → HasFile tops (t ∷ left) names file → HasFile tops left names file
-other_top tops left names file t e h = record { count = h.count; rooms = h.rooms; apart = h.apart; others = λ m n. h.others m n ∙ e m }
-
 -- ---- places
 
 pub no_places : (names : List (Bor (List ℕ))) (places : BTreeMap (Bor (List ℕ)) ℕ) → names ≡ [] → IsEmpty places → HasPlaces (map (λ n. n.now) names) places

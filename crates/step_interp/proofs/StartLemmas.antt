@@ -97,12 +97,6 @@ start_as : (p : Program) (m : List ℕ) (f : FunctionTree) (xs : List ℤ) (give
     → start (code_of p) m xs given [] ≡ begin_call m (items_of f) (push f (map Integer xs) (world_at_start (code_of p) given [])) [] (world_at_start (code_of p) given [])
 start_as p m f xs given e = ap (λ h. begin_call m (items_of h) (push h (map Integer xs) (world_at_start (code_of p) given [])) [] (world_at_start (code_of p) given [])) e
 
-pub too_many : (p : Program) (m : List ℕ) (f : FunctionTree) (xs : List ℤ) (given : List ℕ) → (code_of p).functions m ≡ f
-    → nat_lt most_cells (global_cells p.tops + cells_of f.slots) ≡ true → start (code_of p) m xs given [] ≡ HasTrapped Trap.Cells []
-too_many p m f xs given e h =
-    start_as p m f xs given e
-    ∙ ap (λ b. begin_call m (items_of f) (cond b (Err Trap.Cells) (Ok (enter_call f (map Integer xs) (world_at_start (code_of p) given [])))) [] (world_at_start (code_of p) given [])) h
-
 pub begins : (p : Program) (t : Functions) (m : List ℕ) (f : Function) (ls : Labels) (xs : List ℤ) (cells : ℕ) (machine : Machine) (given : List ℕ) → (code_of p).functions m ≡ function_tree f → f.name ≡ m
     → cells ≡ global_cells p.tops + cells_of f.slots → nat_lt most_cells cells ≡ false → AreFunctionsOf p t → AreLabelsOf f ls → BeginsIn p t f ls xs cells machine → StandsFor (start (code_of p) m xs given []) machine given []
 begins p t m f ls xs cells machine given e k c h fs a b =

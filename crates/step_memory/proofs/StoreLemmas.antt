@@ -151,20 +151,6 @@ enters s c rs cs n (there, beside) f vs a w h = record { rooms = rooms; apart = 
         (inr (m, h.rooms (Call d y) r (sym (ap (option_and_then (λ xs. slice_get xs y)) (beside d m)) ∙ e)))
   ]
 
--- put in the place of one, or behind the last
-pub set_slots : (cs : List (List Room)) (c : ℕ) (rs : List Room) → c < length cs → HasSlots c rs cs (slice_set cs c rs)
-set_slots cs c rs h = (there cs c rs h, λ d n. get_set-other cs c d rs (λ e. n (sym e))) where
-  there : {A : Type 0} (xs : List A) (c : ℕ) (x : A) → c < length xs → slice_get (slice_set xs c x) c ≡ Some x
-  there [] c x h = absurd (omega arith)
-  there (y ∷ ys) zero x h = refl
-  there (y ∷ ys) (suc c) x h = there ys c x (omega arith)
-
-pub push_slots : (cs : List (List Room)) (c : ℕ) (rs : List Room) → c ≡ length cs → HasSlots c rs cs (cs ++ rs ∷ [])
-push_slots cs c rs h = (ap (slice_get (cs ++ rs ∷ [])) h ∙ last cs rs, λ d n. other cs rs d (λ e. n (e ∙ sym h))) where
-  last : {A : Type 0} (xs : List A) (x : A) → slice_get (xs ++ x ∷ []) (length xs) ≡ Some x
-  last [] x = refl
-  last (y ∷ ys) x = last ys x
-
   other : {A : Type 0} (xs : List A) (x : A) (d : ℕ) → d ≢ length xs → slice_get (xs ++ x ∷ []) d ≡ slice_get xs d
   other [] x zero n = absurd (n refl)
   other [] x (suc d) n = refl

@@ -22,10 +22,6 @@ goes t c ts e s P f cs w h a = ap (λ v. move P v f (guards_of c.guards) (values
 pub jumps : (t : T.Task) (c : Call) (ts : List Work) → (HasLabels c → view (body_of c.function.now) (guards_of c.guards) (t ∷ tasks_of c.tasks) ≡ Goes (tasks_of ts)) → MovesAlways t c (record c { tasks = ts })
 jumps t c ts e s P f cs w h a = goes t c ts (e a) s P f cs w h a
 
--- the tasks are replaced, whatever the guards are
-pub goes_to : (t : T.Task) (c : Call) (ts : List Work) → GoesTo t c.tasks ts → MovesAlways t c (record c { tasks = ts })
-goes_to t c ts g = goes t c ts (g (body_of c.function.now) (guards_of c.guards))
-
 pub yields : (t : T.Task) (c : Call) (vs : List Value) (n : ℤ) → view (body_of c.function.now) (guards_of c.guards) (t ∷ tasks_of c.tasks) ≡ Yields n (tasks_of c.tasks)
     → ((ns : List (List ℕ)) → values_of ns vs ≡ Meant.Integer n ∷ values_of ns c.values) → MovesAlways t c (record c { values = vs })
 yields t c vs n e v s P f cs w h a =

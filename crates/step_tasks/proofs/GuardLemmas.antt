@@ -7,10 +7,6 @@ use Rattle.jump_meaning.specs.Step.{with_guard}
 use Rattle.jump_meaning.proofs.Memory.{chosen}
 use Rattle.step_tasks.specs.Controls.{guards_of}
 
--- the label at a place, and those after it
-pub any_at : (l : ℕ) (xs : List ℕ) (i d : ℕ) → i < length xs → list_any (eqb l) (drop i xs) ≡ eqb l (get_or xs i d) || list_any (eqb l) (drop (i + 1) xs)
-any_at l xs i d h = rw (add-one, drop-cons xs i d) refl
-
 pub either : (b : Bool) → (b ≡ true) ⊎ (b ≡ false)
 either true = inl refl
 either false = inr refl

@@ -76,10 +76,6 @@ check_if g _ a b = refl
 pub value_when : (g : ℕ) (p : PlaceTree) (e : ExpressionTree) (a b c : Bool) → is_it g (place_slot p) ≡ a → is_narrow_expression e ≡ b → lacks g e ≡ c → value_for g p e ≡ cond (a && (b && c)) (Some e) None
 value_when g p e a b c h i j = ap (λ z. cond (z && (is_narrow_expression e && lacks g e)) (Some e) None) h ∙ ap (λ z. cond (a && (z && lacks g e)) (Some e) None) i ∙ ap (λ z. cond (a && (b && z)) (Some e) None) j
 
-pub lacks_when : (n l : Bool) → n ≡ not l → not n ≡ true → l ≡ true
-lacks_when n true e h = refl
-lacks_when n false e h = sym (ap not e) ∙ h
-
 pub lacks_by : (n l b : Bool) → n ≡ not l → n ≡ not b → l ≡ b
 lacks_by n true true e h = refl
 lacks_by n true false e h = sym h ∙ e

@@ -1,7 +1,6 @@
 -- A body in which the slot is 0 wherever it is tested, and the same without the slot, come to the same.
 use Rattle.std.proofs.Common.{ℕ, suc, ◌<◌, Bool, true, false, cond, not, eqb, List, [], ◌∷◌, map, length, Option, Some, None, ◌≡◌, refl, sym, ap, ◌∙◌, subst, arith}
 use Rattle.std.specs.Prelude.{IfSome}
-use Rattle.c_types.specs.declared.kinds.IntKind.TheVariants.{Int}
 use Rattle.c_tree.specs.Constants.{kind_of}
 use Rattle.c_tree.specs.declared.tree.Slot.{Slot}
 use Rattle.c_tree.specs.declared.tree.Home.TheVariants as H
@@ -20,7 +19,7 @@ use Rattle.plain_core.proofs.Sorts.{Spot, HasSort}
 use Rattle.tidy_changes.specs.Mentions.{lacks, all_lack, option_lacks, home_lacks, item_lacks}
 use Rattle.tidy_changes.specs.Renumbered.{new_number, renumbered, renumbered_option, renumbered_item}
 use Rattle.tidy_settles.proofs.Evaluations.{Alike}
-use Rattle.tidy_settles.proofs.Apart.{Apart, IsFlag, new_owner, new_variable, zeros_keep, home_reached, home_same, put_apart}
+use Rattle.tidy_settles.proofs.Apart.{Apart, new_owner, new_variable, zeros_keep, home_reached, home_same, put_apart}
 use Rattle.tidy_settles.proofs.Operations.{store_apart}
 use Rattle.tidy_settles.proofs.Expressions.{CallsAlike, then_number, no_kind, value_alike, both}
 use Rattle.tidy_settles.proofs.Completions.{breaking, normally, Done, Ends, ends_nothing, chosen_ends, body_ends, decide_ends}
@@ -38,10 +37,6 @@ array_stays : (holes : ℕ → ℕ) (v : Variable) → is_array (new_variable ho
 array_stays holes (Holds k None cells) = refl
 array_stays holes (Holds k (Some n) cells) = refl
 array_stays holes (Lent o) = refl
-
-flag_single : (on : Bool) (v : Variable) → IsFlag on v → is_array v ≡ false
-flag_single on (Holds Int None cells) h = refl
-flag_single on v h = absurd h
 
 -- the cells of a slot from n on become 0, or nothing does
 abbrev clearing : Bool → ℕ → ℕ → World → Evaluation Completion

@@ -145,26 +145,6 @@ module _ (s : Setting) where
 
 -- ---- from plain items
 
-pub plain_unguarded : (x : Tree) → IsPlainItem x → IsUnguarded x
-plain_unguarded (Goto l) h = tt
-plain_unguarded (Mark l) h = tt
-plain_unguarded (Arrival e) h = tt
-plain_unguarded (Evaluate e) h = tt
-plain_unguarded (Return e) h = tt
-plain_unguarded (If t a b) h = h
-plain_unguarded (While t a) h = h
-plain_unguarded (Do a t) h = h
-plain_unguarded (For first t u a) h = tt
-plain_unguarded (Switch s c) h = h
-plain_unguarded (Block a) h = tt
-plain_unguarded (Local x e) h = tt
-plain_unguarded Break h = tt
-plain_unguarded Continue h = tt
-plain_unguarded (Arm l e) h = absurd h
-plain_unguarded (Leap l) h = absurd h
-plain_unguarded (Land l) h = absurd h
-plain_unguarded (Note bs) h = tt
-
 -- ---- a list without labels
 
 mutual
