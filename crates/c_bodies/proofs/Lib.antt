@@ -1,5 +1,6 @@
 pub mod Endings
 pub mod FirstTokens
+pub mod Insides
 pub mod PassedOn
 pub mod Scopes
 pub mod SwitchSteps

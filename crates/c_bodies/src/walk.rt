@@ -5,7 +5,7 @@ ghost use Rattle.c_bodies.specs.Steps as steps;
 ghost use Rattle.c_bodies.specs.Views as views;
 ghost use Rattle.c_kinds.specs.Typing.{typed};
 ghost use Rattle.c_kinds.specs.Values.{value_of};
-ghost use Rattle.c_source.specs.ItemViews.{body_of, item_of, labels_of, plain_of, start_form};
+ghost use Rattle.c_source.specs.ItemViews.{body_of, item_of, labels_of, plain_of, start_form, statement_form};
 ghost use Rattle.c_source.specs.Items as items;
 ghost use Rattle.c_source.specs.Parts.{term_of};
 ghost use Rattle.c_source.specs.Views.{words_of};
@@ -87,7 +87,27 @@ fn add_plain<'n, 'a>(
 {
     let first = x.first;
     add_notes(alloc, ctx, Anchor::Before(first), out)?;
-    match statement_layer(&ctx.words, x) {
+    let layer = statement_layer(&ctx.words, x);
+    add_statement(alloc, ctx, around, state, first, layer, out)
+}
+
+/// Puts a statement without its labels behind others, by its first token and its layer.
+#[cycle(walk)]
+fn add_statement<'n, 'a>(
+    alloc: Global,
+    ctx: &FunctionContext<'n, 'a>,
+    around: Around,
+    state: &mut State<'a>,
+    first: u32,
+    layer: StatementLayer,
+    out: &mut List<Item>,
+) -> Result<(), Memory>
+    ensures walk { OnOk result (views.walk_of state.new ≡ spec.behind_statement (views.context_of ctx.now) (statement_form (words_of ctx.now.words) layer.entry) (views.walk_of state.old)) }
+    ensures out { OnOk result (out.new ≡ out.old ++ spec.statement_items (views.context_of ctx.now) (statement_form (words_of ctx.now.words) layer.entry) (views.walk_of state.old)) }
+    ensures cases { OnOk result (state.new.cases ≡ cases.statement_entries (views.context_of ctx.now) (statement_form (words_of ctx.now.words) layer.entry) (views.walk_of state.old) state.old.cases) }
+    ensures faults { OnOk result (state.new.faults ≡ violations.statement_faults (views.context_of ctx.now) (views.around_of around) first (statement_form (words_of ctx.now.words) layer.entry) (views.walk_of state.old) state.old.faults) }
+{
+    match layer {
         StatementLayer::Null => Ok(()),
         StatementLayer::Evaluate(x) => add_evaluation(alloc, ctx, state, x, out),
         StatementLayer::If(t, b) => add_if(alloc, ctx, around, state, t, b, out),

@@ -1,9 +1,8 @@
 //! Texts that the tool makes for itself, restructures and runs.
 
-use crate::ports::{Failing, SOUND, run};
-use regoto::Status;
+use crate::ports::{Failing, Given, Left, SOUND, leaves, on, unchanged};
+use c_types::Memory;
 use std::alloc::Global;
-use std::test::Fail;
 
 /// What the function with the number k gives for 3, by the rule of its text.
 fn value_of(k: u32) -> u32 {
@@ -43,40 +42,60 @@ fn output_of(n: u32) -> u32 {
 }
 
 /// Whether the demonstration writes this line, says nothing, and changes no file.
-fn is_shown(alloc: Global, count: &str, line: &str, failing: &Failing) -> Result<bool, Fail> {
-    let ran = run(alloc, &["demo", count], "int x;", failing)?;
-    Ok(
-        ran.status == Status::Done
-            && ran.out.bytes() == line.as_bytes()
-            && ran.err.bytes().is_empty()
-            && ran.shelf.held("a.c") == Some(b"int x;".as_slice())
-            && ran.shelf.held("b.c").is_none(),
-    )
+fn is_shown(alloc: Global, count: &str, line: &str, failing: Failing) -> bool {
+    let given = Given {
+        failing,
+        ..on("int x;")
+    };
+    let left = Left {
+        out: line,
+        ..unchanged("int x;")
+    };
+    leaves(alloc, &["demo", count], &given, &left)
 }
 
+const ONE: &str = "demo 1: 3 jumps, 5 moves, 3 guards, 3 bytes of output, ended with 0\n";
+
+const TWO: &str = "demo 2: 6 jumps, 10 moves, 6 guards, 4 bytes of output, ended with 0\n";
+
 #[test]
-fn shows_itself(rt: HostRuntime) -> Result<(), Fail> {
-    let alloc = rt.alloc();
-    let one = "demo 1: 3 jumps, 5 moves, 3 guards, 3 bytes of output, ended with 0\n";
-    assert!(rt; is_shown(alloc, "1", one, &SOUND)?);
-    let two = "demo 2: 6 jumps, 10 moves, 6 guards, 4 bytes of output, ended with 0\n";
-    assert!(rt; is_shown(alloc, "2", two, &SOUND)?);
-    assert!(rt; is_shown(alloc, "02", two, &SOUND)?);
+fn shows_itself(rt: HostRuntime) {
+    for (count, line) in [("1", ONE), ("2", TWO), ("02", TWO)] {
+        let shown = is_shown(rt.alloc(), count, line, SOUND);
+        assert!(rt; shown, "{count}");
+    }
     // nothing is said, so a fault there is not met
     let deaf = Failing { err: &[0], ..SOUND };
-    assert!(rt; is_shown(alloc, "2", two, &deaf)?);
-    Ok(())
+    let shown = is_shown(rt.alloc(), "2", TWO, deaf);
+    assert!(rt; shown);
+}
+
+/// What is shown of 2,000 functions.
+fn line_of_2000(alloc: Global) -> Result<String, Memory> {
+    let mut line = String::new(alloc);
+    let bytes = output_of(2000);
+    write!(
+        line,
+        "demo 2000: 6000 jumps, 10000 moves, 6000 guards, {bytes} bytes of output, ended with 0\n"
+    )?;
+    Ok(line)
+}
+
+fn shows_2000(alloc: Global) -> bool {
+    match line_of_2000(alloc) {
+        Ok(line) => {
+            let shown = is_shown(alloc, "2000", line.as_str(), SOUND);
+            drop(line);
+            shown
+        }
+        Err(_) => false,
+    }
 }
 
 #[test]
-fn shows_2000_functions(rt: HostRuntime) -> Result<(), Fail> {
-    let alloc = rt.alloc();
+fn shows_2000_functions(rt: HostRuntime) {
     assert_eq!(rt; value_of(0), 71);
     assert_eq!(rt; value_of(1), 66);
-    let line = format!(in alloc;
-        "demo 2000: 6000 jumps, 10000 moves, 6000 guards, {} bytes of output, ended with 0\n",
-        output_of(2000)
-    )?;
-    assert!(rt; is_shown(alloc, "2000", line.as_str(), &SOUND)?);
-    Ok(())
+    let shown = shows_2000(rt.alloc());
+    assert!(rt; shown);
 }

@@ -1,17 +1,12 @@
 //! Devices that fail: each call that a command makes of its ports fails in turn.
 
-use crate::ports::{Failing, Outcome, SOUND, run_with};
-use crate::worked::{Case, case_of};
-use crate::worked_texts::WORKED;
+use crate::ports::{Failing, Given, Outcome, SOUND, on, run, run_with};
+use c_types::Memory;
 use std::alloc::Global;
-use std::test::Fail;
+use worked_texts::{LOOP_BY_HAND, ONE_LABEL_TWO_JUMPS, SECTION_TO_SECTION, Worked};
 
 /// The worked texts with which each command is tried.
-static TEXTS: [&str; 3] = [
-    "a loop by hand",
-    "one label, two jumps",
-    "from section to section",
-];
+static TEXTS: [Worked; 3] = [LOOP_BY_HAND, ONE_LABEL_TWO_JUMPS, SECTION_TO_SECTION];
 
 const INPUT: &str = "abq";
 
@@ -100,7 +95,7 @@ static CALLS: [[u64; 1]; 16] = [
 #[derive(Clone, Copy)]
 struct Try<'a> {
     command: &'a Command,
-    case: &'a Case<'a>,
+    case: &'a Worked,
 }
 
 fn source_of<'a>(it: &Try<'a>) -> &'a str {
@@ -111,13 +106,13 @@ fn source_of<'a>(it: &Try<'a>) -> &'a str {
     }
 }
 
-fn ran(alloc: Global, it: &Try, failing: &Failing) -> Result<Outcome, Fail> {
+fn ran(alloc: Global, it: &Try, failing: &Failing) -> Result<Outcome, Memory> {
     let files = [
         ("a.c", source_of(it)),
         ("r.txt", "kept"),
         ("m.txt", it.case.report),
     ];
-    Ok(run_with(alloc, it.command.words, &files, INPUT, failing)?)
+    run_with(alloc, it.command.words, &files, INPUT, failing)
 }
 
 /// Whether the files that a command doesn't write are as they were.
@@ -174,134 +169,216 @@ fn are_in_turn(it: &Try, found: &Outcome, sound: &Outcome, at: usize) -> bool {
     }
 }
 
-fn shelf_fails_in_turn(alloc: Global, it: &Try, sound: &Outcome) -> Result<bool, Fail> {
-    for (at, call) in CALLS.iter().enumerate() {
-        let failing = Failing {
+/// The port of which a call fails.
+#[derive(Clone, Copy)]
+enum Port {
+    Shelf,
+    Input,
+    Out,
+    Err,
+}
+
+static PORTS: [Port; 4] = [Port::Shelf, Port::Input, Port::Out, Port::Err];
+
+/// This call of the port fails.
+fn failing_at(port: Port, call: &'static [u64]) -> Failing {
+    match port {
+        Port::Shelf => Failing {
             shelf: call,
             ..SOUND
-        };
-        let found = ran(alloc, it, &failing)?;
-        match it.command.shelf.get(at) {
-            None => return Ok(found.shelf.faults() == 0 && is_same(it, &found, sound)),
-            Some(code) => {
-                let fails = tells_fault(&found, *code)
-                    && found.shelf.faults() == 1
-                    && found.out.bytes().is_empty()
-                    && found.input.rest() == INPUT.as_bytes()
-                    && are_in_turn(it, &found, sound, at);
-                if !fails {
-                    return Ok(false);
-                }
-            }
-        }
-    }
-    Ok(false)
-}
-
-/// Whether each write to the standard output that fails ends the command with a longer front written than the one before.
-fn output_fails_in_turn(alloc: Global, it: &Try, sound: &Outcome) -> Result<bool, Fail> {
-    let mut least = 0;
-    for call in &CALLS {
-        let failing = Failing { out: call, ..SOUND };
-        let found = ran(alloc, it, &failing)?;
-        if found.out.faults() == 0 {
-            return Ok(is_same(it, &found, sound));
-        }
-        let fails = tells_fault(&found, 5)
-            && keeps_all(it, &found)
-            && found.out.bytes().len() >= least
-            && is_front(found.out.bytes(), sound.out.bytes());
-        if !fails {
-            return Ok(false);
-        }
-        least = found.out.bytes().len().saturating_add(1);
-    }
-    Ok(false)
-}
-
-fn input_fails_in_turn(alloc: Global, it: &Try, sound: &Outcome) -> Result<bool, Fail> {
-    for call in &CALLS {
-        let failing = Failing {
+        },
+        Port::Input => Failing {
             input: call,
             ..SOUND
-        };
-        let found = ran(alloc, it, &failing)?;
-        if found.input.faults() == 0 {
-            return Ok(is_same(it, &found, sound));
-        }
-        let fails = tells_fault(&found, 4)
-            && keeps_all(it, &found)
-            && sound.out.bytes().starts_with(found.out.bytes());
-        if !fails {
-            return Ok(false);
+        },
+        Port::Out => Failing { out: call, ..SOUND },
+        Port::Err => Failing { err: call, ..SOUND },
+    }
+}
+
+fn faults_of(port: Port, found: &Outcome) -> u64 {
+    match port {
+        Port::Shelf => found.shelf.faults(),
+        Port::Input => found.input.faults(),
+        Port::Out => found.out.faults(),
+        Port::Err => found.err.faults(),
+    }
+}
+
+/// Whether the command may end before this call of the port. Of the shelf alone it is known how often it is called.
+fn may_end(it: &Try, call: Call) -> bool {
+    match call.port {
+        Port::Shelf => call.at == it.command.shelf.len(),
+        _ => true,
+    }
+}
+
+fn shelf_fails(it: &Try, at: usize, found: &Outcome, sound: &Outcome) -> bool {
+    match it.command.shelf.get(at) {
+        None => false,
+        Some(code) => {
+            tells_fault(found, *code)
+                && found.shelf.faults() == 1
+                && found.out.bytes().is_empty()
+                && found.input.rest() == INPUT.as_bytes()
+                && are_in_turn(it, found, sound, at)
         }
     }
-    Ok(false)
+}
+
+fn input_fails(it: &Try, found: &Outcome, sound: &Outcome) -> bool {
+    tells_fault(found, 4)
+        && keeps_all(it, found)
+        && sound.out.bytes().starts_with(found.out.bytes())
+}
+
+/// Whether a write that fails ends the command with a longer front written than the one before.
+fn output_fails(it: &Try, least: usize, found: &Outcome, sound: &Outcome) -> bool {
+    tells_fault(found, 5)
+        && keeps_all(it, found)
+        && found.out.bytes().len() >= least
+        && is_front(found.out.bytes(), sound.out.bytes())
 }
 
 /// Whether a fault of the standard error changes nothing but what is told.
-fn error_output_fails_in_turn(alloc: Global, it: &Try, sound: &Outcome) -> Result<bool, Fail> {
-    for call in &CALLS {
-        let failing = Failing { err: call, ..SOUND };
-        let found = ran(alloc, it, &failing)?;
-        if found.err.faults() == 0 {
-            return Ok(is_same(it, &found, sound));
+fn error_output_fails(it: &Try, found: &Outcome, sound: &Outcome) -> bool {
+    is_alike(it, found, sound) && is_front(found.err.bytes(), sound.err.bytes())
+}
+
+/// A call of a port: its number, also alone in a list, and the least number of bytes that are written before it, if it is
+/// one of the output.
+#[derive(Clone, Copy)]
+struct Call {
+    port: Port,
+    at: usize,
+    number: &'static [u64],
+    least: usize,
+}
+
+/// Whether the call fails as it is to.
+fn is_failed(it: &Try, call: Call, found: &Outcome, sound: &Outcome) -> bool {
+    match call.port {
+        Port::Shelf => shelf_fails(it, call.at, found, sound),
+        Port::Input => input_fails(it, found, sound),
+        Port::Out => output_fails(it, call.least, found, sound),
+        Port::Err => error_output_fails(it, found, sound),
+    }
+}
+
+/// What a call that was to fail shows.
+#[derive(Clone, Copy)]
+enum Found {
+    /// It failed as it is to, with so many bytes written before.
+    Failed(usize),
+    /// The command makes no such call, and does all that it is to.
+    NotMade,
+    Wrong,
+}
+
+/// Whether the command made no such call, and did all that it is to.
+fn is_not_made(it: &Try, call: Call, found: &Outcome, sound: &Outcome) -> bool {
+    may_end(it, call) && is_same(it, found, sound)
+}
+
+fn found_of(it: &Try, call: Call, found: &Outcome, sound: &Outcome) -> Found {
+    if faults_of(call.port, found) == 0 {
+        if is_not_made(it, call, found, sound) {
+            return Found::NotMade;
         }
-        let fails = is_alike(it, &found, sound) && is_front(found.err.bytes(), sound.err.bytes());
-        if !fails {
-            return Ok(false);
+        return Found::Wrong;
+    }
+    if is_failed(it, call, found, sound) {
+        return Found::Failed(found.out.bytes().len());
+    }
+    Found::Wrong
+}
+
+fn tried(alloc: Global, it: &Try, call: Call, sound: &Outcome) -> Found {
+    match ran(alloc, it, &failing_at(call.port, call.number)) {
+        Ok(found) => {
+            let what = found_of(it, call, &found, sound);
+            drop(found);
+            what
+        }
+        Err(_) => Found::Wrong,
+    }
+}
+
+/// Whether every call of the port fails as it is to, one after another.
+fn port_fails_in_turn(alloc: Global, it: &Try, port: Port, sound: &Outcome) -> bool {
+    let mut least = 0;
+    for (at, number) in CALLS.iter().enumerate() {
+        let call = Call {
+            port,
+            at,
+            number,
+            least,
+        };
+        match tried(alloc, it, call, sound) {
+            Found::Failed(written) => least = written.saturating_add(1),
+            Found::NotMade => return true,
+            Found::Wrong => return false,
         }
     }
-    Ok(false)
+    false
+}
+
+fn ports_fail_in_turn(alloc: Global, it: &Try, sound: &Outcome) -> bool {
+    for port in PORTS {
+        if !port_fails_in_turn(alloc, it, port, sound) {
+            return false;
+        }
+    }
+    true
 }
 
 /// Whether every call of every port fails as it is to.
-fn fail_in_turn(alloc: Global, it: &Try) -> Result<bool, Fail> {
-    let sound = ran(alloc, it, &SOUND)?;
-    Ok(
-        shelf_fails_in_turn(alloc, it, &sound)?
-            && output_fails_in_turn(alloc, it, &sound)?
-            && input_fails_in_turn(alloc, it, &sound)?
-            && error_output_fails_in_turn(alloc, it, &sound)?,
-    )
-}
-
-/// The worked text of this name.
-fn worked(name: &str) -> Option<Case<'static>> {
-    for block in WORKED.split("==== ") {
-        if block.lines().next() == Some(name) {
-            return case_of(block);
+fn fail_in_turn(alloc: Global, it: &Try) -> bool {
+    match ran(alloc, it, &SOUND) {
+        Ok(sound) => {
+            let met = ports_fail_in_turn(alloc, it, &sound);
+            drop(sound);
+            met
         }
+        Err(_) => false,
     }
-    None
 }
 
 #[test]
-fn fail_in_turn_on_worked_texts(rt: HostRuntime) -> Result<(), Fail> {
-    for name in TEXTS {
-        let case = worked(name).ok_or("the text is there")?;
+fn fail_in_turn_on_worked_texts(rt: HostRuntime) {
+    for case in &TEXTS {
         for command in &COMMANDS {
-            let it = Try {
-                command,
-                case: &case,
-            };
-            let met = fail_in_turn(rt.alloc(), &it)?;
-            assert!(rt; met, "{} on {name}", command.words.len());
+            let met = fail_in_turn(rt.alloc(), &Try { command, case });
+            assert!(rt; met, "{} on {}", command.words.len(), case.source);
         }
     }
-    Ok(())
+}
+
+/// Whether a write failed behind these bytes.
+fn is_cut(found: &Outcome, written: &str) -> bool {
+    tells_fault(found, 5) && found.out.bytes() == written.as_bytes()
+}
+
+fn writes_before(alloc: Global, call: &'static [u64], written: &str) -> bool {
+    let given = Given {
+        failing: failing_at(Port::Out, call),
+        ..on(LOOP_BY_HAND.source)
+    };
+    match run(alloc, &["run", "a.c"], &given) {
+        Ok(found) => {
+            let met = is_cut(&found, written);
+            drop(found);
+            met
+        }
+        Err(_) => false,
+    }
 }
 
 /// A run that writes a byte in each step of its loop, and what it wrote before the write with each number failed.
 #[test]
-fn writes_byte_by_byte(rt: HostRuntime) -> Result<(), Fail> {
-    let case = worked("a loop by hand").ok_or("the text is there")?;
-    let files = [("a.c", case.source)];
+fn writes_byte_by_byte(rt: HostRuntime) {
     for (call, written) in CALLS.iter().zip(["", "a", "ab"]) {
-        let failing = Failing { out: call, ..SOUND };
-        let found = run_with(rt.alloc(), &["run", "a.c"], &files, "", &failing)?;
-        assert!(rt; tells_fault(&found, 5), "{written}");
-        assert_eq!(rt; found.out.bytes(), written.as_bytes());
+        let met = writes_before(rt.alloc(), call, written);
+        assert!(rt; met, "{written}");
     }
-    Ok(())
 }

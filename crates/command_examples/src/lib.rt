@@ -13,6 +13,8 @@ mod limits;
 #[cfg(test)]
 mod lowering;
 #[cfg(test)]
+mod more_example_texts;
+#[cfg(test)]
 mod ports;
 #[cfg(test)]
 mod replays;
@@ -24,5 +26,3 @@ mod statuses;
 mod tidying;
 #[cfg(test)]
 mod worked;
-#[cfg(test)]
-mod worked_texts;

@@ -1,10 +1,8 @@
 //! Texts that are lowered: the text that is written, and the line on the standard error.
 
-use crate::ports::{SOUND, run};
-use regoto::Status;
+use crate::ports::{Left, Outcome, leaves, on, run, unchanged};
 use std::alloc::Global;
 use std::str;
-use std::test::Fail;
 
 /// Three letters by a loop, and the same by gotos.
 const LETTERS: &str =
@@ -28,57 +26,71 @@ const LOWERED: &str = "int main(void) {
 ";
 
 /// Whether a text is lowered to this, with this line.
-fn gives(alloc: Global, source: &str, text: &str, line: &str) -> Result<bool, Fail> {
-    let ran = run(alloc, &["lower", "a.c", "b.c"], source, &SOUND)?;
-    Ok(
-        ran.status == Status::Done
-            && ran.shelf.held("b.c") == Some(text.as_bytes())
-            && ran.err.bytes() == line.as_bytes()
-            && ran.out.bytes().is_empty(),
-    )
+fn gives(alloc: Global, source: &str, text: &str, line: &str) -> bool {
+    let left = Left {
+        text: Some(text),
+        line,
+        ..unchanged(source)
+    };
+    leaves(alloc, &["lower", "a.c", "b.c"], &on(source), &left)
 }
 
 #[test]
-fn lowers(rt: HostRuntime) -> Result<(), Fail> {
-    let letters = gives(rt.alloc(), LETTERS, LOWERED, "regoto: 3 gotos\n")?;
+fn lowers(rt: HostRuntime) {
+    let letters = gives(rt.alloc(), LETTERS, LOWERED, "regoto: 3 gotos");
     assert!(rt; letters);
-    let nothing = gives(rt.alloc(), "", "", "regoto: 0 gotos\n")?;
+    let nothing = gives(rt.alloc(), "", "", "regoto: 0 gotos");
     assert!(rt; nothing);
-    Ok(())
 }
 
 #[test]
-fn refuses_what_is_outside(rt: HostRuntime) -> Result<(), Fail> {
-    let ran = run(rt.alloc(), &["lower", "a.c", "b.c"], "float x;\n", &SOUND)?;
-    assert!(rt; ran.status.code() == 1);
-    assert!(rt; ran.err.bytes() == b"a.c:1:1: error 10: unexpected token\n".as_slice());
-    assert!(rt; ran.shelf.held("b.c").is_none());
-    Ok(())
+fn refuses_what_is_outside(rt: HostRuntime) {
+    let source = "float x;\n";
+    let left = Left {
+        code: 1,
+        line: "a.c:1:1: error 10: unexpected token",
+        ..unchanged(source)
+    };
+    let refused = leaves(rt.alloc(), &["lower", "a.c", "b.c"], &on(source), &left);
+    assert!(rt; refused);
 }
 
 /// Whether a text writes the three letters when it is run.
-fn writes_letters(alloc: Global, text: &str) -> Result<bool, Fail> {
-    let ran = run(alloc, &["run", "a.c"], text, &SOUND)?;
-    Ok(ran.out.bytes() == b"abc".as_slice())
+fn writes_letters(alloc: Global, text: &str) -> bool {
+    let left = Left {
+        out: "abc",
+        line: "regoto: ended with 0",
+        ..unchanged(text)
+    };
+    leaves(alloc, &["run", "a.c"], &on(text), &left)
+}
+
+/// The text that was written, or an empty one.
+fn written<'a>(ran: &'a Outcome) -> &'a str {
+    match ran.shelf.held("b.c") {
+        Some(bytes) => str::from_utf8(bytes).unwrap_or(""),
+        None => "",
+    }
 }
 
 /// Whether what a text is restructured to writes them.
-fn restructured_writes_letters(alloc: Global, text: &str) -> Result<bool, Fail> {
-    let made = run(alloc, &["restructure", "a.c", "b.c"], text, &SOUND)?;
-    let bytes = made.shelf.held("b.c").ok_or("the text is written")?;
-    match str::from_utf8(bytes) {
-        Ok(text) => writes_letters(alloc, text),
-        Err(_) => Ok(false),
+fn restructured_writes_letters(alloc: Global, text: &str) -> bool {
+    match run(alloc, &["restructure", "a.c", "b.c"], &on(text)) {
+        Ok(made) => {
+            let met = writes_letters(alloc, written(&made));
+            drop(made);
+            met
+        }
+        Err(_) => false,
     }
 }
 
 #[test]
-fn keeps_what_is_written(rt: HostRuntime) -> Result<(), Fail> {
+fn keeps_what_is_written(rt: HostRuntime) {
     for text in [LETTERS, LOWERED] {
-        let alone = writes_letters(rt.alloc(), text)?;
+        let alone = writes_letters(rt.alloc(), text);
         assert!(rt; alone);
-        let restructured = restructured_writes_letters(rt.alloc(), text)?;
+        let restructured = restructured_writes_letters(rt.alloc(), text);
         assert!(rt; restructured);
     }
-    Ok(())
 }

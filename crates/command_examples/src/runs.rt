@@ -1,8 +1,7 @@
 //! Programs that are run.
 
-use crate::ports::{Failing, SOUND, run_on};
+use crate::ports::{Failing, Given, Left, Outcome, leaves, on, run, unchanged};
 use std::alloc::Global;
-use std::test::Fail;
 
 /// A run: its words, the text of `a.c`, the input, the exit status, the output, and the line on the standard error.
 struct Run {
@@ -21,7 +20,7 @@ static RUNS: [Run; 20] = [
         input: "",
         code: 0,
         out: "abc",
-        line: "regoto: ended with 0\n",
+        line: "regoto: ended with 0",
     },
     Run {
         words: &["run", "a.c", "--steps", "007"],
@@ -29,7 +28,7 @@ static RUNS: [Run; 20] = [
         input: "",
         code: 7,
         out: "",
-        line: "regoto: stopped after 7 steps\n",
+        line: "regoto: stopped after 7 steps",
     },
     Run {
         words: &["run", "a.c"],
@@ -37,7 +36,7 @@ static RUNS: [Run; 20] = [
         input: "abq",
         code: 0,
         out: "ab",
-        line: "regoto: ended with 0\n",
+        line: "regoto: ended with 0",
     },
     Run {
         words: &["run", "a.c"],
@@ -45,7 +44,7 @@ static RUNS: [Run; 20] = [
         input: "ab",
         code: 0,
         out: "ab",
-        line: "regoto: ended with 0\n",
+        line: "regoto: ended with 0",
     },
     Run {
         words: &["run", "a.c"],
@@ -53,7 +52,7 @@ static RUNS: [Run; 20] = [
         input: "",
         code: 6,
         out: "a",
-        line: "regoto: trap 1: signed overflow\n",
+        line: "regoto: trap 1: signed overflow",
     },
     Run {
         words: &["run", "a.c"],
@@ -61,7 +60,7 @@ static RUNS: [Run; 20] = [
         input: "",
         code: 1,
         out: "",
-        line: "a.c:1:1: error 41: no main\n",
+        line: "a.c:1:1: error 41: no main",
     },
     Run {
         words: &["run", "a.c"],
@@ -69,7 +68,7 @@ static RUNS: [Run; 20] = [
         input: "",
         code: 1,
         out: "",
-        line: "a.c:1:1: error 42: call of a function without body\n",
+        line: "a.c:1:1: error 42: call of a function without body",
     },
     Run {
         words: &["run", "a.c"],
@@ -77,7 +76,7 @@ static RUNS: [Run; 20] = [
         input: "",
         code: 1,
         out: "",
-        line: "a.c:1:1: error 42: call of a function without body\n",
+        line: "a.c:1:1: error 42: call of a function without body",
     },
     Run {
         words: &["run", "a.c"],
@@ -85,7 +84,7 @@ static RUNS: [Run; 20] = [
         input: "",
         code: 0,
         out: "",
-        line: "regoto: ended with 7\n",
+        line: "regoto: ended with 7",
     },
     Run {
         words: &["run", "a.c"],
@@ -93,7 +92,7 @@ static RUNS: [Run; 20] = [
         input: "",
         code: 0,
         out: "",
-        line: "regoto: ended with 7\n",
+        line: "regoto: ended with 7",
     },
     Run {
         words: &["run", "a.c"],
@@ -101,7 +100,7 @@ static RUNS: [Run; 20] = [
         input: "",
         code: 1,
         out: "",
-        line: "a.c:1:1: error 41: no main\n",
+        line: "a.c:1:1: error 41: no main",
     },
     Run {
         words: &["run", "a.c", "--steps", "1000"],
@@ -109,7 +108,7 @@ static RUNS: [Run; 20] = [
         input: "",
         code: 7,
         out: "",
-        line: "regoto: stopped after 1000 steps\n",
+        line: "regoto: stopped after 1000 steps",
     },
     Run {
         words: &["run", "a.c", "--steps", "0"],
@@ -117,7 +116,7 @@ static RUNS: [Run; 20] = [
         input: "",
         code: 7,
         out: "",
-        line: "regoto: stopped after 0 steps\n",
+        line: "regoto: stopped after 0 steps",
     },
     Run {
         words: &["run", "a.c", "--steps", "1"],
@@ -125,7 +124,7 @@ static RUNS: [Run; 20] = [
         input: "",
         code: 0,
         out: "",
-        line: "regoto: ended with 0\n",
+        line: "regoto: ended with 0",
     },
     Run {
         words: &["run", "a.c"],
@@ -133,7 +132,7 @@ static RUNS: [Run; 20] = [
         input: "",
         code: 0,
         out: "",
-        line: "regoto: ended with -5\n",
+        line: "regoto: ended with -5",
     },
     Run {
         words: &["run", "a.c"],
@@ -141,7 +140,7 @@ static RUNS: [Run; 20] = [
         input: "",
         code: 6,
         out: "x",
-        line: "regoto: trap 8: abort\n",
+        line: "regoto: trap 8: abort",
     },
     Run {
         words: &["run", "a.c"],
@@ -149,7 +148,7 @@ static RUNS: [Run; 20] = [
         input: "",
         code: 0,
         out: "12%A",
-        line: "regoto: ended with -2147483648\n",
+        line: "regoto: ended with -2147483648",
     },
     Run {
         words: &["run", "a.c"],
@@ -157,7 +156,7 @@ static RUNS: [Run; 20] = [
         input: "",
         code: 1,
         out: "",
-        line: "a.c:1:25: error 20: not declared\n",
+        line: "a.c:1:25: error 20: not declared",
     },
     Run {
         words: &["run", "c.c"],
@@ -165,7 +164,7 @@ static RUNS: [Run; 20] = [
         input: "",
         code: 8,
         out: "",
-        line: "regoto: no file c.c\n",
+        line: "regoto: no file c.c",
     },
     Run {
         words: &["run", "a.c", "--steps", "x"],
@@ -173,59 +172,103 @@ static RUNS: [Run; 20] = [
         input: "",
         code: 2,
         out: "",
-        line: "regoto: unknown use, try help\n",
+        line: "regoto: unknown use, try help",
     },
 ];
 
 /// Whether a command ends and tells as it is to, and changes no file.
-fn is_met(alloc: Global, case: &Run) -> Result<bool, Fail> {
-    let ran = run_on(alloc, case.words, case.source, case.input, &SOUND)?;
-    Ok(
-        ran.status.code() == case.code
-            && ran.out.bytes() == case.out.as_bytes()
-            && ran.err.bytes() == case.line.as_bytes()
-            && ran.shelf.held("a.c") == Some(case.source.as_bytes())
-            && ran.shelf.held("b.c").is_none(),
-    )
+fn is_met(alloc: Global, case: &Run) -> bool {
+    let given = Given {
+        input: case.input,
+        ..on(case.source)
+    };
+    let left = Left {
+        code: case.code,
+        out: case.out,
+        line: case.line,
+        ..unchanged(case.source)
+    };
+    leaves(alloc, case.words, &given, &left)
 }
 
 #[test]
-fn runs(rt: HostRuntime) -> Result<(), Fail> {
+fn runs(rt: HostRuntime) {
     for case in &RUNS {
-        let met = is_met(rt.alloc(), case)?;
+        let met = is_met(rt.alloc(), case);
         assert!(rt; met, "{}", case.source);
     }
-    Ok(())
 }
 
 const ECHO: &str = "int main(void) { while (1) { putchar(getchar()); } }";
 
 /// A run of ECHO on `abc` of which a call fails: the status, what was written, and what is left of the input.
-fn breaks(
-    alloc: Global,
-    failing: &Failing,
+struct Broken {
+    shelf: &'static [u64],
+    input: &'static [u64],
+    out: &'static [u64],
     code: u8,
-    written: &[u8],
-    left: &[u8],
-) -> Result<bool, Fail> {
-    let ran = run_on(alloc, &["run", "a.c"], ECHO, "abc", failing)?;
-    Ok(ran.status.code() == code && ran.out.bytes() == written && ran.input.rest() == left)
+    written: &'static str,
+    left: &'static str,
+}
+
+static BROKEN: [Broken; 3] = [
+    Broken {
+        shelf: &[],
+        input: &[1],
+        out: &[],
+        code: 4,
+        written: "a",
+        left: "bc",
+    },
+    Broken {
+        shelf: &[],
+        input: &[],
+        out: &[2],
+        code: 5,
+        written: "ab",
+        left: "",
+    },
+    Broken {
+        shelf: &[0],
+        input: &[],
+        out: &[],
+        code: 4,
+        written: "",
+        left: "abc",
+    },
+];
+
+fn is_broken(case: &Broken, ran: &Outcome) -> bool {
+    ran.status.code() == case.code
+        && ran.out.bytes() == case.written.as_bytes()
+        && ran.input.rest() == case.left.as_bytes()
+}
+
+fn breaks(alloc: Global, case: &Broken) -> bool {
+    let given = Given {
+        input: "abc",
+        failing: Failing {
+            shelf: case.shelf,
+            input: case.input,
+            out: case.out,
+            err: &[],
+        },
+        ..on(ECHO)
+    };
+    match run(alloc, &["run", "a.c"], &given) {
+        Ok(ran) => {
+            let met = is_broken(case, &ran);
+            drop(ran);
+            met
+        }
+        Err(_) => false,
+    }
 }
 
 #[test]
-fn stops_at_a_failed_call(rt: HostRuntime) -> Result<(), Fail> {
-    let alloc = rt.alloc();
-    let read = Failing {
-        input: &[1],
-        ..SOUND
-    };
-    assert!(rt; breaks(alloc, &read, 4, b"a", b"bc")?);
-    let write = Failing { out: &[2], ..SOUND };
-    assert!(rt; breaks(alloc, &write, 5, b"ab", b"")?);
-    let text = Failing {
-        shelf: &[0],
-        ..SOUND
-    };
-    assert!(rt; breaks(alloc, &text, 4, b"", b"abc")?);
-    Ok(())
+fn stops_at_a_failed_call(rt: HostRuntime) {
+    for case in &BROKEN {
+        let met = breaks(rt.alloc(), case);
+        assert!(rt; met, "{}", case.written);
+    }
 }

@@ -1,10 +1,11 @@
 //! How commands end, and what they tell.
 
-use crate::ports::{Failing, SOUND, run};
+use crate::limits::text_of;
+use crate::ports::{Failing, Given, Left, Outcome, SOUND, leaves, on, run, unchanged};
 use c_types::{Memory, Refusal};
 use regoto::{MOST_BYTES, Status};
 use std::alloc::Global;
-use std::test::Fail;
+use worked_texts::OVER_STATEMENT;
 
 const SOURCE: &str =
     "int main(void) { int a; a = 1; if (a == 1) goto end; putchar('x'); end: putchar('y'); return 0; }";
@@ -27,7 +28,7 @@ static UNDONE: [Undone; 25] = [
         shelf: &[],
         out: &[],
         code: 1,
-        line: "a.c:1:20: error 33: unknown label\n",
+        line: "a.c:1:20: error 33: unknown label",
     },
     Undone {
         words: &["restructure", "a.c", "b.c"],
@@ -35,7 +36,7 @@ static UNDONE: [Undone; 25] = [
         shelf: &[],
         out: &[],
         code: 1,
-        line: "a.c:2:15: error 10: unexpected token\n",
+        line: "a.c:2:15: error 10: unexpected token",
     },
     Undone {
         words: &["restructure", "c.c", "b.c"],
@@ -43,7 +44,7 @@ static UNDONE: [Undone; 25] = [
         shelf: &[],
         out: &[],
         code: 8,
-        line: "regoto: no file c.c\n",
+        line: "regoto: no file c.c",
     },
     Undone {
         words: &["restructure", "a.c", "b.c", "--report", "b.c"],
@@ -51,7 +52,7 @@ static UNDONE: [Undone; 25] = [
         shelf: &[],
         out: &[],
         code: 2,
-        line: "regoto: unknown use, try help\n",
+        line: "regoto: unknown use, try help",
     },
     Undone {
         words: &["restructure", "a.c", "b.c", "--report"],
@@ -59,7 +60,7 @@ static UNDONE: [Undone; 25] = [
         shelf: &[],
         out: &[],
         code: 2,
-        line: "regoto: unknown use, try help\n",
+        line: "regoto: unknown use, try help",
     },
     Undone {
         words: &["restructure", "a.c", "-b"],
@@ -67,7 +68,7 @@ static UNDONE: [Undone; 25] = [
         shelf: &[],
         out: &[],
         code: 2,
-        line: "regoto: unknown use, try help\n",
+        line: "regoto: unknown use, try help",
     },
     Undone {
         words: &["restructure", "a.c", "b.c"],
@@ -75,7 +76,7 @@ static UNDONE: [Undone; 25] = [
         shelf: &[0],
         out: &[],
         code: 4,
-        line: "regoto: read failed\n",
+        line: "regoto: read failed",
     },
     Undone {
         words: &["restructure", "a.c", "b.c"],
@@ -83,7 +84,7 @@ static UNDONE: [Undone; 25] = [
         shelf: &[1],
         out: &[],
         code: 5,
-        line: "regoto: write failed\n",
+        line: "regoto: write failed",
     },
     Undone {
         words: &["show", "a.c"],
@@ -91,7 +92,7 @@ static UNDONE: [Undone; 25] = [
         shelf: &[],
         out: &[],
         code: 1,
-        line: "a.c:1:1: error 10: unexpected token\n",
+        line: "a.c:1:1: error 10: unexpected token",
     },
     Undone {
         words: &["moves", "c.c"],
@@ -99,7 +100,7 @@ static UNDONE: [Undone; 25] = [
         shelf: &[],
         out: &[],
         code: 8,
-        line: "regoto: no file c.c\n",
+        line: "regoto: no file c.c",
     },
     Undone {
         words: &["show", "a.c"],
@@ -107,7 +108,7 @@ static UNDONE: [Undone; 25] = [
         shelf: &[0],
         out: &[],
         code: 4,
-        line: "regoto: read failed\n",
+        line: "regoto: read failed",
     },
     Undone {
         words: &["show", "a.c"],
@@ -115,7 +116,7 @@ static UNDONE: [Undone; 25] = [
         shelf: &[],
         out: &[0],
         code: 5,
-        line: "regoto: write failed\n",
+        line: "regoto: write failed",
     },
     Undone {
         words: &["moves", "a.c"],
@@ -123,7 +124,7 @@ static UNDONE: [Undone; 25] = [
         shelf: &[],
         out: &[0],
         code: 5,
-        line: "regoto: write failed\n",
+        line: "regoto: write failed",
     },
     Undone {
         words: &["replay", "a.c", "r.txt", "b.c"],
@@ -131,7 +132,7 @@ static UNDONE: [Undone; 25] = [
         shelf: &[],
         out: &[],
         code: 1,
-        line: "r.txt:1:1: error 50: bad report line\n",
+        line: "r.txt:1:1: error 50: bad report line",
     },
     Undone {
         words: &["replay", "a.c", "no.txt", "b.c"],
@@ -139,7 +140,7 @@ static UNDONE: [Undone; 25] = [
         shelf: &[],
         out: &[],
         code: 8,
-        line: "regoto: no file no.txt\n",
+        line: "regoto: no file no.txt",
     },
     Undone {
         words: &["replay", "a.c", "no.txt", "b.c"],
@@ -147,7 +148,7 @@ static UNDONE: [Undone; 25] = [
         shelf: &[],
         out: &[],
         code: 1,
-        line: "a.c:1:1: error 10: unexpected token\n",
+        line: "a.c:1:1: error 10: unexpected token",
     },
     Undone {
         words: &["replay", "a.c", "r.txt", "b.c"],
@@ -155,7 +156,7 @@ static UNDONE: [Undone; 25] = [
         shelf: &[1],
         out: &[],
         code: 4,
-        line: "regoto: read failed\n",
+        line: "regoto: read failed",
     },
     Undone {
         words: &["tidy", "a.c", "b.c"],
@@ -163,7 +164,7 @@ static UNDONE: [Undone; 25] = [
         shelf: &[],
         out: &[],
         code: 1,
-        line: "a.c:1:44: error 60: jump present\n",
+        line: "a.c:1:44: error 60: jump present",
     },
     Undone {
         words: &["tidy", "a.c", "b.c"],
@@ -171,7 +172,7 @@ static UNDONE: [Undone; 25] = [
         shelf: &[1],
         out: &[],
         code: 5,
-        line: "regoto: write failed\n",
+        line: "regoto: write failed",
     },
     Undone {
         words: &["lower", "c.c", "b.c"],
@@ -179,7 +180,7 @@ static UNDONE: [Undone; 25] = [
         shelf: &[],
         out: &[],
         code: 8,
-        line: "regoto: no file c.c\n",
+        line: "regoto: no file c.c",
     },
     Undone {
         words: &["lower", "a.c", "b.c"],
@@ -187,7 +188,7 @@ static UNDONE: [Undone; 25] = [
         shelf: &[1],
         out: &[],
         code: 5,
-        line: "regoto: write failed\n",
+        line: "regoto: write failed",
     },
     Undone {
         words: &["demo", "2"],
@@ -195,7 +196,7 @@ static UNDONE: [Undone; 25] = [
         shelf: &[],
         out: &[0],
         code: 5,
-        line: "regoto: write failed\n",
+        line: "regoto: write failed",
     },
     Undone {
         words: &["demo", "0"],
@@ -203,7 +204,7 @@ static UNDONE: [Undone; 25] = [
         shelf: &[],
         out: &[],
         code: 2,
-        line: "regoto: unknown use, try help\n",
+        line: "regoto: unknown use, try help",
     },
     Undone {
         words: &["demo", "2001"],
@@ -211,7 +212,7 @@ static UNDONE: [Undone; 25] = [
         shelf: &[],
         out: &[],
         code: 2,
-        line: "regoto: unknown use, try help\n",
+        line: "regoto: unknown use, try help",
     },
     Undone {
         words: &["help"],
@@ -219,41 +220,41 @@ static UNDONE: [Undone; 25] = [
         shelf: &[],
         out: &[0],
         code: 5,
-        line: "regoto: write failed\n",
+        line: "regoto: write failed",
     },
 ];
 
 /// Whether the command changes no file, writes nothing to the standard output, and ends and tells as it is to. Where
 /// calls of the standard error fail, nothing is told.
-fn is_undone(alloc: Global, case: &Undone, err: &'static [u64]) -> Result<bool, Fail> {
-    let failing = Failing {
-        shelf: case.shelf,
-        out: case.out,
-        err,
-        ..SOUND
+fn is_undone(alloc: Global, case: &Undone, err: &'static [u64]) -> bool {
+    let given = Given {
+        failing: Failing {
+            shelf: case.shelf,
+            input: &[],
+            out: case.out,
+            err,
+        },
+        ..on(case.source)
     };
-    let ran = run(alloc, case.words, case.source, &failing)?;
-    let line = if err.is_empty() { case.line } else { "" };
-    Ok(
-        ran.status.code() == case.code
-            && ran.err.bytes() == line.as_bytes()
-            && ran.out.bytes().is_empty()
-            && ran.shelf.held("b.c").is_none()
-            && ran.shelf.held("a.c") == Some(case.source.as_bytes())
-            && ran.shelf.held("r.txt") == Some(b"kept".as_slice()),
-    )
+    let left = Left {
+        code: case.code,
+        line: if err.is_empty() { case.line } else { "" },
+        ..unchanged(case.source)
+    };
+    leaves(alloc, case.words, &given, &left)
 }
 
 #[test]
-fn tells_what_is_wrong(rt: HostRuntime) -> Result<(), Fail> {
+fn tells_what_is_wrong(rt: HostRuntime) {
     for case in &UNDONE {
-        let told = is_undone(rt.alloc(), case, &[])?;
+        let told = is_undone(rt.alloc(), case, &[]);
         assert!(rt; told, "{}", case.line);
-        let untold = is_undone(rt.alloc(), case, &[0])?;
+        let untold = is_undone(rt.alloc(), case, &[0]);
         assert!(rt; untold, "{}", case.line);
     }
-    Ok(())
 }
+
+const WORDS: [&str; 3] = ["restructure", "a.c", "b.c"];
 
 /// The refusal at an offset of the first line.
 fn refused_at(reason: u32, at: u32) -> Status {
@@ -265,122 +266,179 @@ fn refused_at(reason: u32, at: u32) -> Status {
     })
 }
 
-#[test]
-fn refuses_what_is_nested_too_deeply(rt: HostRuntime) -> Result<(), Fail> {
-    for (count, reason) in [(400, 10), (401, 11), (65536, 11)] {
-        let mut source = String::from_str(rt.alloc(), "int x = ")?;
-        for _ in 0..count {
-            source.push('(')?;
+fn status_of(alloc: Global, source: &str) -> Status {
+    match run(alloc, &WORDS, &on(source)) {
+        Ok(ran) => {
+            let status = ran.status;
+            drop(ran);
+            status
         }
-        let words = ["restructure", "a.c", "b.c"];
-        let ran = run(rt.alloc(), &words, source.as_str(), &SOUND)?;
-        assert_eq!(rt; ran.status, refused_at(reason, 408), "{count}");
+        Err(_) => Status::Memory,
     }
-    Ok(())
+}
+
+/// The status of a text with so many opening brackets.
+fn status_of_nested(alloc: Global, count: u32) -> Status {
+    match text_of(alloc, &[("int x = ", 1), ("(", count)]) {
+        Ok(source) => {
+            let status = status_of(alloc, source.as_str());
+            drop(source);
+            status
+        }
+        Err(_) => Status::Memory,
+    }
 }
 
 #[test]
-fn refuses_a_long_text(rt: HostRuntime) -> Result<(), Fail> {
-    let spaces = vec![in rt.alloc(); b' '; MOST_BYTES + 1]?;
-    let source = String::from_utf8(spaces).ok().ok_or("spaces are text")?;
-    let ran = run(
-        rt.alloc(),
-        &["restructure", "a.c", "b.c"],
-        source.as_str(),
-        &SOUND,
-    )?;
-    assert_eq!(rt;
-        ran.err.bytes(),
-        b"a.c:1:1: error 1: text too long\n".as_slice()
-    );
-    assert_eq!(rt; ran.status.code(), 1);
-    Ok(())
+fn refuses_what_is_nested_too_deeply(rt: HostRuntime) {
+    for (count, reason) in [(400, 10), (401, 11), (65536, 11)] {
+        let status = status_of_nested(rt.alloc(), count);
+        assert!(rt; status == refused_at(reason, 408), "{count}");
+    }
+}
+
+/// So many blanks.
+fn blanks(alloc: Global, count: usize) -> Result<String, Memory> {
+    let mut text = String::new(alloc);
+    for _ in 0..count {
+        text.push(' ')?;
+    }
+    Ok(text)
+}
+
+fn is_too_long(alloc: Global, source: &str) -> bool {
+    let left = Left {
+        code: 1,
+        line: "a.c:1:1: error 1: text too long",
+        ..unchanged(source)
+    };
+    leaves(alloc, &WORDS, &on(source), &left)
+}
+
+fn are_too_many(alloc: Global, count: usize) -> bool {
+    match blanks(alloc, count) {
+        Ok(source) => {
+            let met = is_too_long(alloc, source.as_str());
+            drop(source);
+            met
+        }
+        Err(_) => false,
+    }
 }
 
 #[test]
-fn helps(rt: HostRuntime) -> Result<(), Fail> {
-    let ran = run(rt.alloc(), &["help"], SOURCE, &SOUND)?;
-    assert_eq!(rt; ran.status, Status::Done);
-    assert_eq!(rt;
-        ran.out.bytes(),
-        b"regoto restructure IN OUT [--report R]\nregoto run FILE [--steps N]\nregoto demo N\nregoto help\nregoto show IN\nregoto moves IN\nregoto replay IN REPORT OUT\nregoto tidy IN OUT\nregoto lower IN OUT\n".as_slice()
-    );
-    assert_eq!(rt; ran.err.bytes().len(), 0);
-    Ok(())
+fn refuses_a_long_text(rt: HostRuntime) {
+    assert!(rt; are_too_many(rt.alloc(), MOST_BYTES + 1));
+}
+
+const HELP: &str = "regoto restructure IN OUT [--report R]
+regoto run FILE [--steps N]
+regoto demo N
+regoto help
+regoto show IN
+regoto moves IN
+regoto replay IN REPORT OUT
+regoto tidy IN OUT
+regoto lower IN OUT
+";
+
+#[test]
+fn helps(rt: HostRuntime) {
+    let left = Left {
+        out: HELP,
+        ..unchanged(SOURCE)
+    };
+    let met = leaves(rt.alloc(), &["help"], &on(SOURCE), &left);
+    assert!(rt; met);
 }
 
 /// The shelf fails at its third call, the write of the report.
 #[test]
-fn writes_the_text_before_the_report(rt: HostRuntime) -> Result<(), Fail> {
-    let words = ["restructure", "a.c", "b.c", "--report", "r.txt"];
-    let ran = run(
-        rt.alloc(),
-        &words,
-        SOURCE,
-        &Failing {
+fn writes_the_text_before_the_report(rt: HostRuntime) {
+    let source = OVER_STATEMENT.source;
+    let given = Given {
+        failing: Failing {
             shelf: &[2],
             ..SOUND
         },
-    )?;
-    assert_eq!(rt; ran.status, Status::WriteFault);
-    assert_eq!(rt; ran.err.bytes(), b"regoto: write failed\n".as_slice());
-    assert!(rt; ran.shelf.held("b.c").is_some());
-    assert_eq!(rt; ran.shelf.held("r.txt").ok_or("kept")?, b"kept".as_slice());
-    Ok(())
+        ..on(source)
+    };
+    let left = Left {
+        code: 5,
+        text: Some(OVER_STATEMENT.text),
+        line: "regoto: write failed",
+        ..unchanged(source)
+    };
+    let words = ["restructure", "a.c", "b.c", "--report", "r.txt"];
+    let met = leaves(rt.alloc(), &words, &given, &left);
+    assert!(rt; met);
 }
 
-/// A text with this goto so many times: depth 1 and 133 jumps are 400.
-fn tangled(alloc: Global, jump: &str, count: u32) -> Result<String, Memory> {
-    let mut source = String::from_str(alloc, "int main(void) { ")?;
-    for _ in 0..count {
-        source.push_str(jump)?;
+/// A text that is shown in more than one piece.
+fn long_text(alloc: Global) -> Result<String, Memory> {
+    text_of(
+        alloc,
+        &[
+            ("int main(void) {\n", 1),
+            ("    putchar('a');\n", 400),
+            ("}\n", 1),
+        ],
+    )
+}
+
+fn is_shown(alloc: Global, source: &str) -> bool {
+    let left = Left {
+        out: source,
+        ..unchanged(source)
+    };
+    leaves(alloc, &["show", "a.c"], &on(source), &left)
+}
+
+/// Whether this is the first piece of the text.
+fn is_first_piece(source: &str, ran: &Outcome) -> bool {
+    let out = ran.out.bytes();
+    ran.status.code() == 5 && out.len() == 4096 && source.as_bytes().starts_with(out)
+}
+
+fn is_shown_in_part(alloc: Global, source: &str) -> bool {
+    let given = Given {
+        failing: Failing { out: &[1], ..SOUND },
+        ..on(source)
+    };
+    match run(alloc, &["show", "a.c"], &given) {
+        Ok(ran) => {
+            let met = is_first_piece(source, &ran);
+            drop(ran);
+            met
+        }
+        Err(_) => false,
     }
-    source.push_str("L: ; }")?;
-    Ok(source)
 }
 
-#[test]
-fn counts_many_moves(rt: HostRuntime) -> Result<(), Fail> {
-    let source = tangled(rt.alloc(), "goto L; ", 133)?;
-    let words = ["restructure", "a.c", "b.c"];
-    let ran = run(rt.alloc(), &words, source.as_str(), &SOUND)?;
-    assert_eq!(rt;
-        ran.err.bytes(),
-        b"regoto: 133 jumps, 8911 moves, 1 guards\n".as_slice()
-    );
-    Ok(())
-}
-
-/// The first piece of the text is taken, and the second isn't.
-#[test]
-fn shows_in_pieces(rt: HostRuntime) -> Result<(), Fail> {
-    let mut source = String::from_str(rt.alloc(), "int main(void) {\n")?;
-    for _ in 0..400 {
-        source.push_str("    putchar('a');\n")?;
+/// Whether the text is shown, and where its second piece isn't taken, the first.
+fn shows_pieces(alloc: Global) -> bool {
+    match long_text(alloc) {
+        Ok(source) => {
+            let met = is_shown(alloc, source.as_str()) && is_shown_in_part(alloc, source.as_str());
+            drop(source);
+            met
+        }
+        Err(_) => false,
     }
-    source.push_str("}\n")?;
-    let words = ["show", "a.c"];
-    let ran = run(rt.alloc(), &words, source.as_str(), &SOUND)?;
-    assert_eq!(rt; ran.status, Status::Done);
-    assert_eq!(rt; ran.out.bytes(), source.as_bytes());
-    let failing = Failing { out: &[1], ..SOUND };
-    let ran = run(rt.alloc(), &words, source.as_str(), &failing)?;
-    assert_eq!(rt; ran.status, Status::WriteFault);
-    assert_eq!(rt; ran.out.bytes().len(), 4096);
-    Ok(())
 }
 
 #[test]
-fn restructures_in_place(rt: HostRuntime) -> Result<(), Fail> {
-    let ran = run(
-        rt.alloc(),
-        &["restructure", "a.c", "a.c"],
-        SOURCE,
-        &Failing { err: &[0], ..SOUND },
-    )?;
-    assert_eq!(rt; ran.status, Status::Done);
-    assert_eq!(rt; ran.err.bytes().len(), 0);
-    let written = ran.shelf.held("a.c").ok_or("written")?;
-    assert!(rt; written != SOURCE.as_bytes());
-    Ok(())
+fn shows_in_pieces(rt: HostRuntime) {
+    assert!(rt; shows_pieces(rt.alloc()));
+}
+
+#[test]
+fn restructures_in_place(rt: HostRuntime) {
+    let given = Given {
+        failing: Failing { err: &[0], ..SOUND },
+        ..on(OVER_STATEMENT.source)
+    };
+    let words = ["restructure", "a.c", "a.c"];
+    let met = leaves(rt.alloc(), &words, &given, &unchanged(OVER_STATEMENT.text));
+    assert!(rt; met);
 }

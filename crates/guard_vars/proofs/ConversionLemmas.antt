@@ -1,10 +1,10 @@
--- What the conversion of an item with lists is.
-use Rattle.std.proofs.Common.{◌≡◌, ℕ, List, [], ◌∷◌, ◌++◌, map, Option, Some, None, Result, OnOk, sym, ap, ◌∙◌}
+-- What the conversion of an item is, by its form.
+use Rattle.std.proofs.Common.{◌≡◌, ℕ, List, [], ◌∷◌, ◌++◌, map, Option, Some, None, Result, OnOk, refl, sym, ap, ◌∙◌}
 use Rattle.std.specs.Option.{option_map_or}
 use Rattle.std.proofs.lemmas.Result.{on_ok_weaker}
 use Rattle.c_tree.specs.declared.tree.Expression.{Expression}
-use Rattle.c_tree.specs.declared.tree.Item.{Item, Item-F, If, While, Do, For, Switch, roll-Item, fold-roll-Item, map-Item}
-use Rattle.c_tree.specs.declared.tree.Item.TheVariants.{rolls-If, rolls-While, rolls-Do, rolls-For, rolls-Switch}
+use Rattle.c_tree.specs.declared.tree.Item.{Item, Item-F, Evaluate, Return, If, While, Do, For, Switch, Block, Local, Break, Continue, Goto, Mark, Arm, Leap, Land, Arrival, Note, roll-Item, out-Item, roll-out-Item, fold-roll-Item, map-Item}
+use Rattle.c_tree.specs.declared.tree.Item.TheVariants.{rolls-Evaluate, rolls-Return, rolls-If, rolls-While, rolls-Do, rolls-For, rolls-Switch, rolls-Block, rolls-Local, rolls-Break, rolls-Continue, rolls-Goto, rolls-Mark, rolls-Arm, rolls-Leap, rolls-Land, rolls-Arrival, rolls-Note}
 use Rattle.c_tree.specs.declared.tree.Item.TheOpen as O
 use Rattle.c_tree.specs.declared.tree.Section.{Section}
 use Rattle.c_tree.specs.declared.tree.Selector.{Selector}
@@ -85,3 +85,33 @@ pub switch_made : (x made : Item) (s : Selector) (cs ds es : List Section) → x
 switch_made x made s cs ds es e d f m =
     ap (λ y. items_of (converted_item y)) e ∙ switch_stays s cs ∙ ap (λ l. Switch s l ∷ []) (sym (f ∙ ap (λ l. map converted_section l) d))
     ∙ ap (λ y. y ∷ []) (sym m)
+
+-- an item without a list that is no jump and no label stays
+pub other_made : (x made : Item) → made ≡ x → ((l : ℕ) → x ≡ Goto l → ⊥) → ((l : ℕ) → x ≡ Mark l → ⊥)
+    → ((t : Test) (a b : List Item) → x ≡ If t a b → ⊥) → ((t : Test) (a : List Item) → x ≡ While t a → ⊥) → ((a : List Item) (t : Test) → x ≡ Do a t → ⊥)
+    → ((f : List Item) (t u : Option Expression) (a : List Item) → x ≡ For f t u a → ⊥) → ((s : Selector) (cs : List Section) → x ≡ Switch s cs → ⊥)
+    → ((a : List Item) → x ≡ Block a → ⊥) → items_of (converted_item x) ≡ made ∷ []
+other_made x made k g m i w d f s b = at (out-Item x) (sym (roll-out-Item x)) ∙ ap (λ y. y ∷ []) (sym k) where
+  stays : (y : Item-F Item Section) (z : Item) → roll-Item y ≡ z
+      → items_of (converted_layer (map-Item Item Section Converted Section converted_item converted_section y)) ≡ z ∷ [] → x ≡ roll-Item y → items_of (converted_item x) ≡ x ∷ []
+  stays y z r h e = ap (λ v. items_of (converted_item v)) e ∙ items_of_rolled y ∙ h ∙ ap (λ v. v ∷ []) (sym (e ∙ r))
+
+  at : (y : Item-F Item Section) → x ≡ roll-Item y → items_of (converted_item x) ≡ x ∷ []
+  at (O.Goto l) e = absurd (g l (e ∙ rolls-Goto l))
+  at (O.Mark l) e = absurd (m l (e ∙ rolls-Mark l))
+  at (O.If t a c) e = absurd (i t a c (e ∙ rolls-If t a c))
+  at (O.While t a) e = absurd (w t a (e ∙ rolls-While t a))
+  at (O.Do a t) e = absurd (d a t (e ∙ rolls-Do a t))
+  at (O.For h t u a) e = absurd (f h t u a (e ∙ rolls-For h t u a))
+  at (O.Switch t cs) e = absurd (s t cs (e ∙ rolls-Switch t cs))
+  at (O.Block a) e = absurd (b a (e ∙ rolls-Block a))
+  at (O.Evaluate c) e = stays (O.Evaluate c) (Evaluate c) (rolls-Evaluate c) refl e
+  at (O.Return c) e = stays (O.Return c) (Return c) (rolls-Return c) refl e
+  at (O.Local l c) e = stays (O.Local l c) (Local l c) (rolls-Local l c) refl e
+  at O.Break e = stays O.Break Break rolls-Break refl e
+  at O.Continue e = stays O.Continue Continue rolls-Continue refl e
+  at (O.Arm l c) e = stays (O.Arm l c) (Arm l c) (rolls-Arm l c) refl e
+  at (O.Leap l) e = stays (O.Leap l) (Leap l) (rolls-Leap l) refl e
+  at (O.Land l) e = stays (O.Land l) (Land l) (rolls-Land l) refl e
+  at (O.Arrival c) e = stays (O.Arrival c) (Arrival c) (rolls-Arrival c) refl e
+  at (O.Note t) e = stays (O.Note t) (Note t) (rolls-Note t) refl e

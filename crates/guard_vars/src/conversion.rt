@@ -171,15 +171,7 @@ fn convert_item(alloc: Global, item: &Item, out: &mut List<Item>) -> Result<(), 
             let a = convert_list(alloc, a)?;
             out.push(Item::Block(a))
         }
-        Item::Evaluate(_) => out.push(copy_item(alloc, item)?),
-        Item::Return(_) => out.push(copy_item(alloc, item)?),
-        Item::Local(_, _) => out.push(copy_item(alloc, item)?),
-        Item::Break => out.push(Item::Break),
-        Item::Continue => out.push(Item::Continue),
-        Item::Arm(_, _) => out.push(copy_item(alloc, item)?),
-        Item::Leap(label) => out.push(Item::Leap(*label)),
-        Item::Land(label) => out.push(Item::Land(*label)),
-        Item::Arrival(_) => out.push(copy_item(alloc, item)?),
-        Item::Note(_) => out.push(copy_item(alloc, item)?),
+        // Any other item stays as it is.
+        _ => out.push(copy_item(alloc, item)?),
     }
 }

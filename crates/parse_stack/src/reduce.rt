@@ -509,7 +509,11 @@ pub fn reduce(
             top_type(alloc, stack, first, parts, start, found, class, at)
         }
         Frame::Tops(parts) => tops(alloc, stack, parts, found, class, at),
-        // The others await no value.
-        _ => Ok(Given::Refused),
+        // The others await no value. A silent drop would be proved part by part.
+        _ => {
+            drop(frame);
+            drop(found);
+            Ok(Given::Refused)
+        }
     }
 }

@@ -1,7 +1,9 @@
 //! One token more.
 
-ghost use Rattle.std.specs.Prelude.{◌≡◌, ◌<◌, ◌∷◌, [], IfOk};
+ghost use Rattle.std.specs.Prelude.{◌≡◌, ◌<◌, ◌∷◌, [], OnOk};
+ghost use Rattle.c_grammar.specs.Nodes as nodes;
 ghost use Rattle.parse_stack.specs.Machine as spec;
+ghost use Rattle.parse_stack.specs.Starts as starts;
 ghost use Rattle.parse_stack.specs.Steps.{Steps};
 
 use crate::build::{leaf, more, node, one, postfix, target, three, two, two_more};
@@ -14,7 +16,7 @@ use crate::kind::{is_close, is_open, is_open_index, is_same, is_text};
 use crate::load::{COUNTED, Load, OUTSIDE, UNCOUNTED};
 use crate::reduce::reduce;
 use crate::resume::resume;
-use crate::want::{rest, todo, want_expression};
+use crate::want::{behind_full, rest, todo, want_expression};
 use c_grammar::{Class, Production, Syntax};
 use c_types::{List, Memory, Stack};
 use std::alloc::Global;
@@ -140,29 +142,33 @@ fn at_texts(
     give(alloc, stack, Found::Whole(whole), class, at)
 }
 
-/// Behind a name that begins a statement.
-fn at_label_or_name(
+/// The name of a label, in front of the statement that is left of this node.
+fn put_label(
     alloc: Global,
     stack: &mut Stack<Frame>,
     name: u32,
     mark: Syntax,
     mut form: Form,
-    class: Class,
     at: u32,
-) -> Result<Option<Load>, Memory>
+) -> Result<(), Memory>
     requires { at < 4294967295 }
-    ensures { Steps (spec.at_label_or_name name mark form stack.old class at) result stack.new }
+    ensures { OnOk result (stack.new ≡ starts.rest Production.Label name 0 (mark ∷ nodes.leaf at ∷ []) [] ∷ Frame.Rest (record form { todo = Want.Labelled ∷ form.todo }) ∷ stack.old) }
 {
-    if is_same(Class::Colon, class) {
-        form.todo.push(Want::Labelled)?;
-        stack.push(Frame::Rest(form))?;
-        let parts = two(alloc, mark, leaf(alloc, at))?;
-        let none = Stack::new(alloc);
-        rest(stack, Production::Label, name, 0, parts, none)?;
-        return Ok(Some(OUTSIDE));
-    }
-    let level = form.level;
+    let parts = two(alloc, mark, leaf(alloc, at))?;
+    form.todo.push(Want::Labelled)?;
     stack.push(Frame::Rest(form))?;
+    rest(stack, Production::Label, name, 0, parts, Stack::new(alloc))
+}
+
+/// The frames of an expression statement behind its first operand.
+fn behind_operand(
+    alloc: Global,
+    stack: &mut Stack<Frame>,
+    level: u32,
+    name: u32,
+) -> Result<(), Memory>
+    ensures { OnOk result (stack.new ≡ Frame.Post name ∷ starts.behind_full Full.Expression name (starts.rest Production.Plain name level [] (Want.Token Class.Semicolon ∷ []) ∷ stack.old)) }
+{
     let wants = todo(alloc, &[Want::Token(Class::Semicolon)])?;
     rest(
         stack,
@@ -172,12 +178,30 @@ fn at_label_or_name(
         List::new(alloc),
         wants,
     )?;
-    stack.push(Frame::Whole(Full::Expression, name))?;
-    stack.push(Frame::Commas(name, name, List::new(alloc)))?;
-    stack.push(Frame::Assigns(name))?;
-    stack.push(Frame::Choice(name))?;
-    stack.push(Frame::Operand(name))?;
-    stack.push(Frame::Post(name))?;
+    behind_full(alloc, stack, Full::Expression, name)?;
+    stack.push(Frame::Post(name))
+}
+
+/// Behind a name that begins a statement.
+fn at_label_or_name(
+    alloc: Global,
+    stack: &mut Stack<Frame>,
+    name: u32,
+    mark: Syntax,
+    form: Form,
+    class: Class,
+    at: u32,
+) -> Result<Option<Load>, Memory>
+    requires { at < 4294967295 }
+    ensures { Steps (spec.at_label_or_name name mark form stack.old class at) result stack.new }
+{
+    if is_same(Class::Colon, class) {
+        put_label(alloc, stack, name, mark, form, at)?;
+        return Ok(Some(OUTSIDE));
+    }
+    let level = form.level;
+    stack.push(Frame::Rest(form))?;
+    behind_operand(alloc, stack, level, name)?;
     at_named(alloc, stack, name, mark, class, at)
 }
 
@@ -268,7 +292,10 @@ pub fn step(
             alloc, stack, first, parts, start, kind, name, mark, class, at,
         ),
         Frame::Tops(parts) => at_top(alloc, stack, parts, class, at),
-        // The others await a value first, or nothing more.
-        _ => Ok(None),
+        // The others await a value first, or nothing more; dropped by name as in `reduce`.
+        _ => {
+            drop(frame);
+            Ok(None)
+        }
     }
 }

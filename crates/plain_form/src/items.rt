@@ -6,8 +6,8 @@ use crate::expressions::{armed, guard_set, number, plain_selector, plain_test};
 use crate::sections::{ended, given};
 use crate::slots::{Guards, Slots};
 use c_copies::{
-    copy_expression, copy_expressions, copy_given, copy_option, make_do as kept_do, make_for,
-    make_if as kept_if, make_switch as kept_switch, make_while as kept_while,
+    copy_expressions, copy_item, copy_option, make_do as kept_do, make_for, make_if as kept_if,
+    make_switch as kept_switch, make_while as kept_while,
 };
 use c_tree::{Expression, Item, Section, Selector, Test};
 use c_types::{IntKind, List, Memory};
@@ -163,8 +163,6 @@ fn made_item(alloc: Global, guards: &Guards, item: &Item) -> Result<Item, Memory
     ensures { IfOk result (λ it. it ≡ the_made_item guards.now item.now) }
 {
     match item {
-        Item::Evaluate(e) => Ok(Item::Evaluate(copy_expression(alloc, e)?)),
-        Item::Return(e) => Ok(Item::Return(copy_option(alloc, e)?)),
         Item::If(test, a, b) => {
             let a = made_items(alloc, guards, a)?;
             let b = made_items(alloc, guards, b)?;
@@ -188,15 +186,9 @@ fn made_item(alloc: Global, guards: &Guards, item: &Item) -> Result<Item, Memory
             make_switch(alloc, guards, selector, sections)
         }
         Item::Block(a) => Ok(Item::Block(made_items(alloc, guards, a)?)),
-        Item::Local(at, e) => Ok(Item::Local(*at, copy_given(alloc, e)?)),
-        Item::Break => Ok(Item::Break),
-        Item::Continue => Ok(Item::Continue),
-        Item::Goto(at) => Ok(Item::Goto(*at)),
-        Item::Mark(at) => Ok(Item::Mark(*at)),
         Item::Arm(at, e) => make_arm(alloc, guards, *at, e),
-        Item::Leap(at) => Ok(Item::Leap(*at)),
         Item::Land(at) => make_land(alloc, guards, *at),
-        Item::Arrival(e) => Ok(Item::Arrival(copy_option(alloc, e)?)),
-        Item::Note(bytes) => Ok(Item::Note(List::from_slice(alloc, bytes.as_slice())?)),
+        // Any other item stays as it is.
+        _ => copy_item(alloc, item),
     }
 }

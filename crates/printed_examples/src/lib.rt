@@ -10,5 +10,3 @@ mod pieces;
 mod plain_forms;
 #[cfg(test)]
 mod postfix;
-#[cfg(test)]
-mod texts;

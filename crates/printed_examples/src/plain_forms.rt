@@ -1,135 +1,90 @@
 //! Programs after their moves, and the texts of their plain forms.
 
 use crate::postfix::program_of;
-use crate::texts::{ACROSS_SECTIONS, CAPTURED_EXITS, LOOP_BY_JUMPS, SUFFIXES};
 use c_copies::names;
 use c_printer::print;
+use c_tree::Program;
+use c_types::{Bytes, Memory};
 use plain_form::plain;
+use std::alloc::Global;
 use std::test::Fail;
+use worked_texts::{
+    CAPTURED_EXITS, INTO_DEFAULT, LABELS_IN_IF, LOOP_BY_HAND, NUMBERS_AND_BRACKETS,
+    PAST_INITIALISER, SECTION_TO_SECTION, Worked,
+};
 
-/// The words of a program (postfix.rt), and the text of its plain form.
-struct PlainForm {
+/// The words of a program (postfix.rt), whose plain form is what this text is restructured to.
+struct WorkedForm {
     words: &'static str,
-    text: &'static str,
+    worked: Worked,
 }
 
-static PLAIN_FORMS: [PlainForm; 10] = [
+static WORKED_FORMS: [WorkedForm; 7] = [
     // A loop by jumps.
-    PlainForm {
+    WorkedForm {
         words: "var:i:int label:loop label:done { n:0:int =:0: ; { land:0 v:0: n:3:int b:>= \
             arm:1:given off:1 { c:97 v:0: b:+ f:putchar:1 ; ++:0::after ; arm:0 if:made on:0 \
             do:made land:1 n:0:int return flat_function:main:int:0",
-        text: LOOP_BY_JUMPS,
+        worked: LOOP_BY_HAND,
     },
     // From section to section of a switch.
-    PlainForm {
+    WorkedForm {
         words: "var:x:int label:two { { v:0: selects pick:0:3 n:1:int { f:getchar:0 c:106 b:== \
             arm:0:given off:0 { c:97 f:putchar:1 ; if:made section:1:: n:2:int { off:0 { c:98 \
             f:putchar:1 ; if:made section:1:: n:3:int { off:0 or_on:0 { off:0 { c:99 f:putchar:1 \
             ; if:made land:0 c:100 f:putchar:1 ; if:made section:1::ends { c:101 f:putchar:1 ; \
             section:0:default: switch:4:made on:0 do:made n:0:int return flat_function:f:int:1",
-        text: ACROSS_SECTIONS,
+        worked: SECTION_TO_SECTION,
     },
     // Into a section of a switch that has the default alone.
-    PlainForm {
+    WorkedForm {
         words: "var:x:int label:mid { arm:0 v:0: selects pick:0:2 n:0:int { c:48 f:putchar:1 ; \
             section:1::ends n:1:int { c:49 f:putchar:1 ; section:1::ends { off:0 { c:120 \
             f:putchar:1 ; if:made land:0 c:100 f:putchar:1 ; section:0:default: switch:3:made \
             n:0:int return flat_function:f:int:1",
-        text: "int f(int x) {
-    int goto_mid = 0;
-    goto_mid = 1;
-    switch (goto_mid ? 2 : x) {
-    case 0:
-        putchar('0');
-        break;
-    case 1:
-        putchar('1');
-        break;
-    default:
-        if (!goto_mid) {
-            putchar('x');
-        }
-        goto_mid = 0;
-        putchar('d');
-    }
-    return 0;
-}
-",
+        worked: INTO_DEFAULT,
     },
     // Jumps to the end of a loop and out of it.
-    PlainForm {
+    WorkedForm {
         words: "var:i:int label:again label:continue_1 label:break_1 { n:0:int =:0: ; v:0: n:4:int \
             b:< holds and_off:2 { { land:0 v:0: n:0:int b:== arm:1:given off:1 { v:0: n:3:int \
             b:== arm:2:given off:2 { c:48 v:0: b:+ f:putchar:1 ; f:getchar:0 c:114 b:== \
             arm:0:given if:made if:made on:0 do:made off:2 { land:1 ++:0::after ; if:made \
             while:made land:2 v:0: return flat_function:main:int:0",
-        text: CAPTURED_EXITS,
+        worked: CAPTURED_EXITS,
     },
     // Into a loop, past a variable that hides another.
-    PlainForm {
+    WorkedForm {
         words: "n:7:int var:x:int: global:1 var:n:int var:x_2:int label:mid { n:0:int =:0: ; arm:0 \
             v:0: n:2:int b:< holds or_on:0 { off:0 { n:5:int =:1: ; if:made land:0 c:48 v:1: b:+ \
             f:putchar:1 ; ++:0::after ; while:made c:48 v:x: b:+ f:putchar:1 ; n:0:int return \
             flat_function:main:int:0",
-        text: "int x = 7;
-int main(void) {
-    int n;
-    int x_2;
-    int goto_mid = 0;
-    n = 0;
-    goto_mid = 1;
-    while (goto_mid || n < 2) {
-        if (!goto_mid) {
-            x_2 = 5;
-        }
-        goto_mid = 0;
-        putchar('0' + x_2);
-        n++;
-    }
-    putchar('0' + x);
-    return 0;
-}
-",
+        worked: PAST_INITIALISER,
     },
     // A file without jumps.
-    PlainForm {
+    WorkedForm {
         words: "n:2147483648:long var:a:long: global:1 n:4294967295:uint var:b:uint: global:1 c:0 \
             var:c:int: global:1 n:1:int n:8:int var:d:int:2 global:2 var:a:int var:b:int { v:0: \
             v:1: n:1:int b:- b:- v:0: v:1: b:* b:- v:0: u:- u:- b:+ return function:f:int:2",
-        text: SUFFIXES,
+        worked: NUMBERS_AND_BRACKETS,
     },
     // Two jumps out of a loop, joined by one test.
-    PlainForm {
+    WorkedForm {
         words: "var:c:int label:p label:q { n:1:int holds and_off:0 and_off:1 { f:getchar:0 =:0: ; \
             v:0: c:97 b:< { v:0: n:0:int b:< arm:0:given off:0 { arm:1 if:made if off:0 \
             and_off:1 { v:0: f:putchar:1 ; if:made while:made off:1 { land:0 c:112 f:putchar:1 ; \
             if:made land:1 v:0: return flat_function:main:int:0",
-        text: "int main(void) {
-    int c;
-    int goto_p = 0;
-    int goto_q = 0;
-    while (!goto_q && (!goto_p && 1)) {
-        c = getchar();
-        if (c < 'a') {
-            goto_p = c < 0;
-            if (!goto_p) {
-                goto_q = 1;
-            }
-        }
-        if (!goto_q && !goto_p) {
-            putchar(c);
-        }
-    }
-    if (!goto_q) {
-        goto_p = 0;
-        putchar('p');
-    }
-    goto_q = 0;
-    return c;
-}
-",
+        worked: LABELS_IN_IF,
     },
+];
+
+/// The words of a program, and the text of its plain form.
+struct PlainForm {
+    words: &'static str,
+    text: &'static str,
+}
+
+static PLAIN_FORMS: [PlainForm; 3] = [
     // Names of guards that are taken, and a guard that is gone.
     PlainForm {
         words: "n:1:int var:goto_a:int: global:1 var:goto_c:int label:a label:a_2 label:b label:c { \
@@ -266,13 +221,42 @@ int g(int x) {
     },
 ];
 
+fn plain_of(alloc: Global, words: &str) -> Result<Program, Memory> {
+    let program = program_of(alloc, words)?;
+    match names(alloc, &program) {
+        Ok(names) => {
+            let made = plain(alloc, &names, &program);
+            drop(names);
+            drop(program);
+            made
+        }
+        Err(e) => {
+            drop(program);
+            Err(e)
+        }
+    }
+}
+
+fn printed(alloc: Global, words: &str) -> Result<Bytes, Memory> {
+    let made = plain_of(alloc, words)?;
+    let text = print(alloc, &made);
+    drop(made);
+    text
+}
+
+#[test]
+fn gives_the_worked_forms(rt: HostRuntime) -> Result<(), Fail> {
+    for form in &WORKED_FORMS {
+        let text = printed(rt.alloc(), form.words)?;
+        assert_eq!(rt; text.as_slice(), form.worked.text.as_bytes());
+    }
+    Ok(())
+}
+
 #[test]
 fn gives_the_plain_forms(rt: HostRuntime) -> Result<(), Fail> {
     for form in &PLAIN_FORMS {
-        let program = program_of(rt.alloc(), form.words)?;
-        let names = names(rt.alloc(), &program)?;
-        let made = plain(rt.alloc(), &names, &program)?;
-        let text = print(rt.alloc(), &made)?;
+        let text = printed(rt.alloc(), form.words)?;
         assert_eq!(rt; text.as_slice(), form.text.as_bytes());
     }
     Ok(())

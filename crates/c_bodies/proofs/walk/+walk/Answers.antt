@@ -1,7 +1,8 @@
-use Rattle.std.proofs.Common.{◌∙◌, ◌+◌, ◌++◌, ◌∷◌, [], None, false, append_assoc, ap, sym, drop}
+use Rattle.std.proofs.Common.{◌∙◌, ◌+◌, ◌++◌, ◌∷◌, [], None, false, append_assoc, ap, sym, drop, arith}
 use Rattle.std.proofs.lemmas.Result.{on_ok_weaker, IfOk-weaker}
 use Rattle.c_bodies.specs.Steps.{reading_of, closed_before, reading_behind, section_item_faults, section_faults}
 use Rattle.c_bodies.specs.Views.{around_of, context_of, walk_of, left}
+use Rattle.c_bodies.proofs.Insides.{inside_below}
 use Rattle.c_bodies.proofs.Scopes.{left_for}
 use Rattle.c_bodies.proofs.SwitchSteps.{whatever, after, both, all_three, states_faults, section_states, choice_items, nodes_at, token_node, item_node, sections_step, faults_step, lone_section, lone_faults}
 use Rattle.c_source.specs.ItemViews.{item_of, plain_of, body_of, labels_of, item_form, start_form}
@@ -19,6 +20,84 @@ use Rattle.c_tree.specs.declared.tree.Item as tree
 use Rattle.c_tree.specs.declared.tree.Selector as selector
 use Rattle.c_tree.specs.declared.tree.Test as test
 use Rattle.c_bodies.proofs.walk.+walk.Goals as goal
+
+pub add_plain-add_statement-requires : goal.add_plain-add_statement-requires
+add_plain-add_statement-requires t c = let e = inside_below c.args.x.now c.statement_layer-layer.result c.statement_layer-layer.ensures.smaller in omega (arith, e, c.decreases)
+
+pub add_statement-returns-in-If-clause-walk : goal.add_statement-returns-in-If-clause-walk
+add_statement-returns-in-If-clause-walk t c = rw c.in-If.is c.add_if.ensures.walk
+
+pub add_statement-returns-in-If-clause-out : goal.add_statement-returns-in-If-clause-out
+add_statement-returns-in-If-clause-out t c = rw c.in-If.is c.add_if.ensures.out
+
+pub add_statement-returns-in-If-clause-cases : goal.add_statement-returns-in-If-clause-cases
+add_statement-returns-in-If-clause-cases t c = rw c.in-If.is c.add_if.ensures.cases
+
+pub add_statement-returns-in-If-clause-faults : goal.add_statement-returns-in-If-clause-faults
+add_statement-returns-in-If-clause-faults t c = rw c.in-If.is c.add_if.ensures.faults
+
+pub add_statement-returns-in-IfElse-clause-walk : goal.add_statement-returns-in-IfElse-clause-walk
+add_statement-returns-in-IfElse-clause-walk t c = rw c.in-IfElse.is c.add_choice.ensures.walk
+
+pub add_statement-returns-in-IfElse-clause-out : goal.add_statement-returns-in-IfElse-clause-out
+add_statement-returns-in-IfElse-clause-out t c = rw c.in-IfElse.is c.add_choice.ensures.out
+
+pub add_statement-returns-in-IfElse-clause-cases : goal.add_statement-returns-in-IfElse-clause-cases
+add_statement-returns-in-IfElse-clause-cases t c = rw c.in-IfElse.is c.add_choice.ensures.cases
+
+pub add_statement-returns-in-IfElse-clause-faults : goal.add_statement-returns-in-IfElse-clause-faults
+add_statement-returns-in-IfElse-clause-faults t c = rw c.in-IfElse.is c.add_choice.ensures.faults
+
+pub add_statement-returns-in-While-clause-walk : goal.add_statement-returns-in-While-clause-walk
+add_statement-returns-in-While-clause-walk t c = rw c.in-While.is c.add_while.ensures.walk
+
+pub add_statement-returns-in-While-clause-out : goal.add_statement-returns-in-While-clause-out
+add_statement-returns-in-While-clause-out t c = rw c.in-While.is c.add_while.ensures.out
+
+pub add_statement-returns-in-While-clause-cases : goal.add_statement-returns-in-While-clause-cases
+add_statement-returns-in-While-clause-cases t c = rw c.in-While.is c.add_while.ensures.cases
+
+pub add_statement-returns-in-While-clause-faults : goal.add_statement-returns-in-While-clause-faults
+add_statement-returns-in-While-clause-faults t c = rw c.in-While.is c.add_while.ensures.faults
+
+pub add_statement-returns-in-DoWhile-clause-out : goal.add_statement-returns-in-DoWhile-clause-out
+add_statement-returns-in-DoWhile-clause-out t c = rw c.in-DoWhile.is c.add_do.ensures.out
+
+pub add_statement-returns-in-DoWhile-clause-faults : goal.add_statement-returns-in-DoWhile-clause-faults
+add_statement-returns-in-DoWhile-clause-faults t c = rw c.in-DoWhile.is c.add_do.ensures.faults
+
+pub add_statement-returns-in-For-clause-walk : goal.add_statement-returns-in-For-clause-walk
+add_statement-returns-in-For-clause-walk t c = rw c.in-For.is c.add_for.ensures.walk
+
+pub add_statement-returns-in-For-clause-out : goal.add_statement-returns-in-For-clause-out
+add_statement-returns-in-For-clause-out t c = rw c.in-For.is c.add_for.ensures.out
+
+pub add_statement-returns-in-For-clause-cases : goal.add_statement-returns-in-For-clause-cases
+add_statement-returns-in-For-clause-cases t c = rw c.in-For.is c.add_for.ensures.cases
+
+pub add_statement-returns-in-For-clause-faults : goal.add_statement-returns-in-For-clause-faults
+add_statement-returns-in-For-clause-faults t c = rw c.in-For.is c.add_for.ensures.faults
+
+pub add_statement-returns-in-Switch-clause-walk : goal.add_statement-returns-in-Switch-clause-walk
+add_statement-returns-in-Switch-clause-walk t c = rw c.in-Switch.is c.add_switch.ensures.walk
+
+pub add_statement-returns-in-Switch-clause-out : goal.add_statement-returns-in-Switch-clause-out
+add_statement-returns-in-Switch-clause-out t c = rw c.in-Switch.is c.add_switch.ensures.out
+
+pub add_statement-returns-in-Switch-clause-faults : goal.add_statement-returns-in-Switch-clause-faults
+add_statement-returns-in-Switch-clause-faults t c = rw c.in-Switch.is c.add_switch.ensures.faults
+
+pub add_statement-returns-in-Block-clause-walk : goal.add_statement-returns-in-Block-clause-walk
+add_statement-returns-in-Block-clause-walk t c = rw c.in-Block.is c.add_block.ensures.walk
+
+pub add_statement-returns-in-Block-clause-out : goal.add_statement-returns-in-Block-clause-out
+add_statement-returns-in-Block-clause-out t c = rw c.in-Block.is c.add_block.ensures.out
+
+pub add_statement-returns-in-Block-clause-cases : goal.add_statement-returns-in-Block-clause-cases
+add_statement-returns-in-Block-clause-cases t c = rw c.in-Block.is c.add_block.ensures.cases
+
+pub add_statement-returns-in-Block-clause-faults : goal.add_statement-returns-in-Block-clause-faults
+add_statement-returns-in-Block-clause-faults t c = rw c.in-Block.is c.add_block.ensures.faults
 
 pub add_if-returns-in-Ok-clause-out : goal.add_if-returns-in-Ok-clause-out
 add_if-returns-in-Ok-clause-out t c =

@@ -8,79 +8,83 @@ use Rattle.c_statements.specs.Nodes.{items_of}
 use Rattle.c_statements.specs.Statements.{behind_items, list_items, sections_from}
 use Rattle.c_statements.specs.Violations.{list_faults, outside_faults}
 use Rattle.c_statements.specs.declared.anchors.Anchor.TheVariants.{AtEnd}
+use Rattle.c_bodies.proofs.Insides.{inside}
 use Rattle.c_bodies.proofs.walk.+walk.Given as goal
 
 abbrev pub decreases-add_item : goal.decreases-add_item
-decreases-add_item l = 8 * weight l.x.now
+decreases-add_item l = 9 * weight l.x.now
 
 abbrev pub decreases-add_plain : goal.decreases-add_plain
-decreases-add_plain l = 8 * weight l.x.now
+decreases-add_plain l = 9 * weight l.x.now
+
+abbrev pub decreases-add_statement : goal.decreases-add_statement
+decreases-add_statement l = 9 * inside l.layer + 8
 
 abbrev pub decreases-add_if : goal.decreases-add_if
-decreases-add_if l = 8 * weight l.b.now + 5
+decreases-add_if l = 9 * weight l.b.now + 5
 
 abbrev pub decreases-add_choice : goal.decreases-add_choice
-decreases-add_choice l = 8 * weight l.b.now + 8 * (weight l.c.now - weight l.b.now) + 6
+decreases-add_choice l = 9 * weight l.b.now + 9 * (weight l.c.now - weight l.b.now) + 6
 
 abbrev pub decreases-bodies : goal.decreases-bodies
-decreases-bodies l = 8 * weight l.b.now + 8 * (weight l.c.now - weight l.b.now) + 5
+decreases-bodies l = 9 * weight l.b.now + 9 * (weight l.c.now - weight l.b.now) + 5
 
 abbrev pub decreases-add_while : goal.decreases-add_while
-decreases-add_while l = 8 * weight l.b.now + 5
+decreases-add_while l = 9 * weight l.b.now + 5
 
 abbrev pub decreases-add_do : goal.decreases-add_do
-decreases-add_do l = 8 * weight l.b.now + 5
+decreases-add_do l = 9 * weight l.b.now + 5
 
 abbrev pub decreases-add_for : goal.decreases-add_for
-decreases-add_for l = 8 * weight l.b.now + 5
+decreases-add_for l = 9 * weight l.b.now + 5
 
 abbrev pub decreases-add_block : goal.decreases-add_block
-decreases-add_block l = 8 * weights l.nodes.now + 4
+decreases-add_block l = 9 * weights l.nodes.now + 4
 
 abbrev pub decreases-body : goal.decreases-body
-decreases-body l = 8 * weight l.x.now + 4
+decreases-body l = 9 * weight l.x.now + 4
 
 abbrev pub decreases-braces : goal.decreases-braces
-decreases-braces l = 8 * weights l.nodes.now + 3
+decreases-braces l = 9 * weights l.nodes.now + 3
 
 abbrev pub decreases-lone : goal.decreases-lone
-decreases-lone l = 8 * weight l.x.now + 1
+decreases-lone l = 9 * weight l.x.now + 1
 
 abbrev pub decreases-add_node : goal.decreases-add_node
-decreases-add_node l = 8 * weight l.x.now + 1
+decreases-add_node l = 9 * weight l.x.now + 1
 
 abbrev pub decreases-add_list : goal.decreases-add_list
-decreases-add_list l = 8 * weights l.nodes.now + 2
+decreases-add_list l = 9 * weights l.nodes.now + 2
 
 abbrev pub decreases-add_switch : goal.decreases-add_switch
-decreases-add_switch l = 8 * weight l.b.now + 7
+decreases-add_switch l = 9 * weight l.b.now + 7
 
 abbrev pub decreases-switch_of : goal.decreases-switch_of
-decreases-switch_of l = 8 * weight l.b.now + 6
+decreases-switch_of l = 9 * weight l.b.now + 6
 
 abbrev pub decreases-switch_body : goal.decreases-switch_body
-decreases-switch_body l = 8 * weight l.x.now + 5
+decreases-switch_body l = 9 * weight l.x.now + 5
 
 abbrev pub decreases-switch_braces : goal.decreases-switch_braces
-decreases-switch_braces l = 8 * weights l.nodes.now + 5
+decreases-switch_braces l = 9 * weights l.nodes.now + 5
 
 abbrev pub decreases-switch_lone : goal.decreases-switch_lone
-decreases-switch_lone l = 8 * weight l.x.now + 3
+decreases-switch_lone l = 9 * weight l.x.now + 3
 
 abbrev pub decreases-sections_of : goal.decreases-sections_of
-decreases-sections_of l = 8 * weights l.nodes.now + 4
+decreases-sections_of l = 9 * weights l.nodes.now + 4
 
 abbrev pub decreases-section_node : goal.decreases-section_node
-decreases-section_node l = 8 * weight l.x.now + 3
+decreases-section_node l = 9 * weight l.x.now + 3
 
 abbrev pub decreases-section_item : goal.decreases-section_item
-decreases-section_item l = 8 * weight l.x.now + 2
+decreases-section_item l = 9 * weight l.x.now + 2
 
 abbrev pub decreases-section : goal.decreases-section
-decreases-section l = 8 * weight l.plain.now + 1
+decreases-section l = 9 * weight l.plain.now + 1
 
 abbrev pub decreases-extend : goal.decreases-extend
-decreases-extend l = 8 * weight l.x.now + 1
+decreases-extend l = 9 * weight l.x.now + 1
 
 abbrev pub invariant-add_list-loop-x : goal.invariant-add_list-loop-x
 invariant-add_list-loop-x l = record {

@@ -1,4 +1,4 @@
-use Rattle.guard_vars.proofs.ConversionLemmas.{pushed_as, added_as, if_jumps, if_made, while_made, do_made, for_made, switch_made}
+use Rattle.guard_vars.proofs.ConversionLemmas.{pushed_as, added_as, if_jumps, if_made, while_made, do_made, for_made, switch_made, other_made}
 use Rattle.guard_vars.proofs.conversion.+convert_list.Goals as goal
 
 pub convert_item-returns-in-Some : goal.convert_item-returns-in-Some
@@ -35,3 +35,9 @@ convert_item-returns-in_ok-make_switch-in-Switch t c =
     pushed_as c.push-in-Switch.result c.args.out.now c.push-in-Switch.new.self _ _
     (switch_made _ _ c.in-Switch.selector c.in-Switch.sections c.as_slice.result.now c.in_ok-sections-in-Switch.sections c.in-Switch.is
     c.as_slice.ensures.value c.in_ok-sections-in-Switch.ensures c.in_ok-make_switch-in-Switch.ensures) c.push-in-Switch.ensures.ok
+
+pub convert_item-returns-in_ok-copy_item-in_default : goal.convert_item-returns-in_ok-copy_item-in_default
+convert_item-returns-in_ok-copy_item-in_default t c =
+    pushed_as c.push-in_default.result c.args.out.now c.push-in_default.new.self _ _
+    (other_made c.args.item.now _ c.in_ok-copy_item-in_default.ensures c.in_default.not-Goto c.in_default.not-Mark c.in_default.not-If c.in_default.not-While
+    c.in_default.not-Do c.in_default.not-For c.in_default.not-Switch c.in_default.not-Block) c.push-in_default.ensures.ok

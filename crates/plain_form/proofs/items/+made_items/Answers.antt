@@ -1,7 +1,7 @@
-use Rattle.std.proofs.Common.{◌≡◌, ap, ◌∙◌}
+use Rattle.std.proofs.Common.{◌≡◌, ap, sym, ◌∙◌}
 use Rattle.c_tree.specs.declared.tree.Item.{If, For}
 use Rattle.plain_form.specs.Made.{made_item, test_made}
-use Rattle.plain_form.proofs.ItemLaws.{if_ok_same, made_item-If, made_item-For}
+use Rattle.plain_form.proofs.ItemLaws.{if_ok_same, made_item-If, made_item-For, made_item-other}
 use Rattle.plain_form.proofs.items.+made_items.Goals as goal
 
 pub made_item-returns-in_ok-b-in-If : goal.made_item-returns-in_ok-b-in-If
@@ -19,3 +19,9 @@ made_item-returns-in_ok-a-in-For t c =
     let s : For c.in_ok-first-in-For.first c.in-For.test c.in-For.third c.in_ok-a-in-For.a ≡ made_item g c.args.item.now =
     cc (e, c.in_ok-first-in-For.ensures, c.in_ok-a-in-For.ensures) in
     if_ok_same c.make_for.result _ _ s c.make_for.ensures
+
+pub made_item-returns-in_default : goal.made_item-returns-in_default
+made_item-returns-in_default t c =
+    if_ok_same c.copy_item.result _ _
+    (sym (made_item-other c.args.guards.now c.args.item.now c.in_default.not-If c.in_default.not-While c.in_default.not-Do c.in_default.not-For c.in_default.not-Switch
+    c.in_default.not-Block c.in_default.not-Arm c.in_default.not-Land)) c.copy_item.ensures
