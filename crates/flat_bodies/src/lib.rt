@@ -6,3 +6,5 @@ mod labels;
 mod places;
 
 pub use bodies::{FlatBody, flat_body};
+pub use labels::labels_in;
+pub use places::places_of;

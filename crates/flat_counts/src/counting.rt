@@ -71,7 +71,8 @@ fn add_sections(sections: &[Section], count: &mut u64) -> Result<(), Memory>
     Ok(())
 }
 
-fn gotos_in(list: &List<Item>) -> Result<u64, Memory>
+/// How many gotos a body has. Want of memory is the only failure: more than `u64` holds count as that.
+pub fn gotos_in(list: &List<Item>) -> Result<u64, Memory>
     ensures { IfOk result (λ it. it ≡ total goto_of (trees_of list.now)) }
 {
     let mut count = 0;

@@ -3,4 +3,4 @@
 
 mod counting;
 
-pub use counting::flat_counts;
+pub use counting::{flat_counts, gotos_in};

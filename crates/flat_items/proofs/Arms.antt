@@ -1,34 +1,36 @@
 -- Items by their kinds: what stands in their place, and the numbers of what comes behind them.
-use Rattle.std.proofs.Common.{◌≡◌, ℕ, ℤ, zero, suc, ◌+◌, ◌<◌, ◌≤◌, Bool, true, false, not, ◌&&◌, cond, List, [], length, map, drop, get_or, Option, Some, None, arith, refl, sym, ap, ◌∙◌}
+use Rattle.std.proofs.Common.{◌≡◌, ℕ, ℤ, suc, ◌+◌, ◌<◌, Bool, true, false, not, ◌&&◌, cond, List, length, map, drop, get_or, Option, Some, None, arith, refl, sym, ap, ◌∙◌}
 use Rattle.std.proofs.lemmas.List.{length-map}
 use Rattle.std.proofs.lemmas.Bool.{false≢true}
 use Rattle.std.proofs.Math.Path.{fun_ext}
 use Rattle.c_types.specs.declared.kinds.IntKind.{IntKind}
 use Rattle.c_tree.specs.Cases.{case_number, selector_source}
 use Rattle.c_tree.specs.Changed.{one}
-use Rattle.c_tree.specs.Everywhere.{total, total_of, total_in}
+use Rattle.c_tree.specs.Everywhere.{total, total_of}
 use Rattle.c_tree.specs.Numerals.{constant}
-use Rattle.c_tree.specs.declared.tree.Item.{Item, Item-F, Break, Block, out-Item, roll-Item, roll-out-Item}
-use Rattle.c_tree.specs.declared.tree.Item.TheVariants.{rolls-Break, rolls-Block}
+use Rattle.c_tree.specs.declared.tree.Item.{Item, Item-F, Block, out-Item, roll-Item, roll-out-Item}
+use Rattle.c_tree.specs.declared.tree.Item.TheVariants.{rolls-If, rolls-While, rolls-Do, rolls-For, rolls-Switch, rolls-Block, rolls-Local, rolls-Break, rolls-Continue, rolls-Goto, rolls-Mark, rolls-Arrival}
 use Rattle.c_tree.specs.declared.tree.Item.TheOpen as O
+use Rattle.c_tree.specs.declared.tree.Item as I
+use Rattle.c_tree.specs.declared.tree.Selector.{Selector}
+use Rattle.c_tree.specs.declared.tree.Test.{Test}
 use Rattle.c_tree.specs.declared.tree.Section as Real
 use Rattle.c_tree.specs.ExpressionTrees.{ExpressionTree}
 use Rattle.c_tree.specs.TestTrees.{SelectorTree}
 use Rattle.c_tree.specs.Trees as P
 use Rattle.c_tree.specs.Trees.{Tree, Forest, Nil, Then, Sections, Switch, Evaluate, Goto, trees_of, sections_of, expression_trees, join}
-use Rattle.c_tree.proofs.TreeLaws.{join-nil}
 use Rattle.jump_meaning.specs.Step.{switch_kind}
-use Rattle.loose_core.specs.Pieces.{Aim, Names, mark_of, assign_number, tests_among}
-use Rattle.loose_core.specs.Loose.{Arrivals, NoArrival, Arrives}
+use Rattle.loose_core.specs.Pieces.{Aim, mark_of, assign_number, tests_among}
+use Rattle.loose_core.specs.Loose.{Arrivals}
 use Rattle.flat_core.specs.Parts.{Here, Ending, Gone, Breaks, Jumps, Otherwise, constructs_of, cases_of, variables_of, past, past_item, inside, is_gone, later, gone_or, if_jumps, ending, ending_of, last_ending, is_scattered, leaves, switch_labels, cases_among}
-use Rattle.flat_core.specs.FlatForm.{Plan, is_jumpy_switch, flat_sections, flat, flat_item, flat_last, flat_last_item, names_of, scatter_aim, otherwise_label, dissolved, if_breaks, spread}
-use Rattle.flat_parts.proofs.EndLaws.{goes, ends_here}
+use Rattle.flat_core.specs.FlatForm.{Plan, is_jumpy_switch, flat_sections, flat_item, flat_last_item, names_of, scatter_aim, otherwise_label, if_breaks, spread}
+use Rattle.flat_parts.proofs.EndLaws.{goes}
 use Rattle.c_tree.specs.declared.tree.Expression.{Expression}
 use Rattle.tree_views.specs.Views.{layer_at, tree_at, before}
 use Rattle.tree_views.proofs.Views.{trees-at}
 use Rattle.flat_items.specs.declared.plans.Plan as L
 use Rattle.flat_items.specs.declared.plans.Cases as C
-use Rattle.flat_items.specs.Forms.{switch_breaks, entered_of, past_among, kept_form, scattered_form, local_form, section_form, is_breaks}
+use Rattle.flat_items.specs.Forms.{switch_breaks, entered_of, past_among, kept_form, scattered_form, local_form, is_breaks}
 use Rattle.flat_items.specs.Pieces.{number_tests}
 use Rattle.flat_items.specs.Plans.{plan_of, case_names, number_label}
 use Rattle.flat_items.proofs.Joining.{joined}
@@ -63,6 +65,31 @@ last_other p h b c r x other = put (out-Item x) (sym (roll-out-Item x)) where
   put : (y : Item-F Item Real.Section) → x ≡ roll-Item y → flat_last_item p h b c r (layer_at y) ≡ Nil
   put (O.Block a) e = absurd (other a (e ∙ rolls-Block a))
   put _ e = refl
+
+-- an item that stays as it is, with no number of its own
+pub record IsSame (p : Plan) (h : Here) (b c : Aim) (r : Arrivals) (x : Tree) : Type 0 where
+  pub stays : flat_item p h b c r x ≡ one x
+  pub still : past_item x h ≡ h
+
+pub same_item : (p : Plan) (h : Here) (b c : Aim) (r : Arrivals) (x : Item) → ((t : Test) (a d : List Item) → x ≡ I.If t a d → ⊥) → ((t : Test) (a : List Item) → x ≡ I.While t a → ⊥)
+    → ((a : List Item) (t : Test) → x ≡ I.Do a t → ⊥) → ((f : List Item) (t u : Option Expression) (a : List Item) → x ≡ I.For f t u a → ⊥)
+    → ((s : Selector) (d : List Real.Section) → x ≡ I.Switch s d → ⊥) → ((a : List Item) → x ≡ Block a → ⊥) → ((l : ℕ) (es : Option (List Expression)) → x ≡ I.Local l es → ⊥)
+    → (x ≡ I.Break → ⊥) → (x ≡ I.Continue → ⊥) → ((l : ℕ) → x ≡ I.Goto l → ⊥) → ((l : ℕ) → x ≡ I.Mark l → ⊥) → ((e : Option Expression) → x ≡ I.Arrival e → ⊥) → IsSame p h b c r (tree_at x)
+same_item p h b c r x i w d f s k v br co g m ar = put (out-Item x) (sym (roll-out-Item x)) where
+  put : (y : Item-F Item Real.Section) → x ≡ roll-Item y → IsSame p h b c r (layer_at y)
+  put (O.If t a z) e = absurd (i t a z (e ∙ rolls-If t a z))
+  put (O.While t a) e = absurd (w t a (e ∙ rolls-While t a))
+  put (O.Do a t) e = absurd (d a t (e ∙ rolls-Do a t))
+  put (O.For z t u a) e = absurd (f z t u a (e ∙ rolls-For z t u a))
+  put (O.Switch t z) e = absurd (s t z (e ∙ rolls-Switch t z))
+  put (O.Block a) e = absurd (k a (e ∙ rolls-Block a))
+  put (O.Local l z) e = absurd (v l z (e ∙ rolls-Local l z))
+  put O.Break e = absurd (br (e ∙ rolls-Break))
+  put O.Continue e = absurd (co (e ∙ rolls-Continue))
+  put (O.Goto l) e = absurd (g l (e ∙ rolls-Goto l))
+  put (O.Mark l) e = absurd (m l (e ∙ rolls-Mark l))
+  put (O.Arrival z) e = absurd (ar z (e ∙ rolls-Arrival z))
+  put y e = record { stays = refl; still = still h }
 
 no_break : (e : Ending) → if_jumps e ≡ Breaks → ⊥
 no_break Gone h = cc

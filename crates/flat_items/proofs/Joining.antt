@@ -1,6 +1,5 @@
 -- Lists that get more items at their end.
-use Rattle.std.proofs.Common.{◌≡◌, ℕ, zero, suc, ◌+◌, ◌-◌, ◌<◌, ◌≤◌, Bool, true, false, List, [], ◌∷◌, ◌++◌, length, drop, get_or, map, Option, Some, None, slice_get, arith, refl, sym, ap, ◌∙◌}
-use Rattle.std.proofs.lemmas.List.{at_drop_more, at_drop_all}
+use Rattle.std.proofs.Common.{◌≡◌, ℕ, zero, suc, ◌+◌, ◌-◌, ◌<◌, ◌≤◌, Bool, true, false, List, [], ◌∷◌, ◌++◌, get_or, Option, arith, refl, sym, ap, ◌∙◌}
 use Rattle.c_types.specs.declared.kinds.IntKind.{IntKind}
 use Rattle.c_tree.specs.Changed.{one}
 use Rattle.c_tree.specs.declared.tree.Slot.{Slot}
@@ -9,11 +8,11 @@ use Rattle.jump_meaning.specs.World.{no_slot}
 use Rattle.c_tree.specs.declared.tree.Expression.{Expression}
 use Rattle.c_tree.specs.declared.tree.Section as Real
 use Rattle.c_tree.specs.ExpressionTrees.{ExpressionTree, expression_tree}
-use Rattle.c_tree.specs.Trees.{Tree, Forest, Nil, Then, Sections, NoSection, Section, Evaluate, While, For, sections_of, expression_trees, join}
-use Rattle.c_tree.proofs.TreeLaws.{join-nil, sections-none}
+use Rattle.c_tree.specs.Trees.{Tree, Forest, Nil, Then, Sections, NoSection, Section, Evaluate, While, sections_of, expression_trees, join}
+use Rattle.c_tree.proofs.TreeLaws.{sections-none}
 use Rattle.c_tree.specs.TestTrees.{Source}
 use Rattle.loose_core.specs.Pieces.{Aim, test_or_one, mark_of, third_items, assign_cell, assigned_cells, zero_tree}
-use Rattle.flat_core.specs.FlatForm.{assigned, flat_for}
+use Rattle.flat_core.specs.FlatForm.{flat_for}
 use Rattle.flat_items.specs.Pieces.{behind, for_loop}
 use Rattle.tree_views.specs.Views.{before}
 use Rattle.tree_views.proofs.Views.{section-first}
@@ -41,20 +40,12 @@ cells_more k x i n h =
 pub cells_end : (k : IntKind) (x i n : ℕ) → n ≤ i → assigned_cells k x i [] (n - i) ≡ Nil
 cells_end k x i n h = let e : n - i ≡ 0 = omega arith in ap (assigned_cells k x i []) e
 
-pub given_more : (k : IntKind) (x i m : ℕ) (es : List Expression) (e : Expression) → i < length es → e ≡ get_or es i e
-    → assigned_cells k x i (expression_trees (drop i es)) m ≡ Then (Evaluate (assign_cell k x i (expression_tree e))) (assigned_cells k x (i + 1) (expression_trees (drop (i + 1) es)) m)
-given_more k x i m es e h q =
-    let f : suc i ≡ i + 1 = omega arith in
-    at_drop_more (λ z. assigned_cells k x i (expression_trees z) m) es i e h
-    ∙ ap (λ j. Then (Evaluate (assign_cell k x i (expression_tree (get_or es i e)))) (assigned_cells k x j (expression_trees (drop (i + 1) es)) m)) f
-    ∙ ap (λ z. Then (Evaluate (assign_cell k x i (expression_tree z))) (assigned_cells k x (i + 1) (expression_trees (drop (i + 1) es)) m)) (sym q)
-
-pub given_end : (k : IntKind) (x i m : ℕ) (es : List Expression) → length es ≤ i → assigned_cells k x i (expression_trees (drop i es)) m ≡ assigned_cells k x i [] m
-given_end k x i m es h = at_drop_all (λ z. assigned_cells k x i (expression_trees z) m) es i h
-
-pub none_given : (k : IntKind) (x : ℕ) (es : List Expression) → length es ≡ 0 → assigned k x None (expression_trees es) ≡ Nil
-none_given k x [] h = refl
-none_given k x (e ∷ es) h = absurd (omega arith)
+pub cells_step : (k : IntKind) (x i m : ℕ) (e : Expression) (es : List Expression) (out new all : Forest) → new ≡ join out (one (Evaluate (assign_cell k x i (expression_tree e))))
+    → join out (assigned_cells k x i (expression_trees (e ∷ es)) m) ≡ all → join new (assigned_cells k x (i + 1) (expression_trees es) m) ≡ all
+cells_step k x i m e es out new all n inv =
+    let f : i + 1 ≡ suc i = omega arith in
+    one_more out new (Evaluate (assign_cell k x i (expression_tree e))) (assigned_cells k x (i + 1) (expression_trees es) m) n
+    ∙ ap (λ j. join out (Then (Evaluate (assign_cell k x i (expression_tree e))) (assigned_cells k x j (expression_trees es) m))) f ∙ inv
 
 -- ---- sections
 
@@ -75,12 +66,7 @@ sections-push xs x = sections-append xs (x ∷ []) ∙ ap (behind (sections_of x
 
 -- ---- variables
 
-pub entry_some : (xs : List Slot) (i : ℕ) (s : Slot) → Some s ≡ slice_get xs i → entry_or no_slot xs i ≡ s
-entry_some [] i s h = cc
-entry_some (x ∷ xs) zero s h = let e : Some s ≡ Some x = h in cc
-entry_some (x ∷ xs) (suc i) s h = entry_some xs i s h
-
-pub entry_none : (xs : List Slot) (i : ℕ) → None ≡ slice_get xs i → entry_or no_slot xs i ≡ no_slot
-entry_none [] i h = refl
-entry_none (x ∷ xs) zero h = let e : None ≡ Some x = h in cc
-entry_none (x ∷ xs) (suc i) h = entry_none xs i h
+pub entry_is : (xs : List Slot) (i : ℕ) → get_or xs i no_slot ≡ entry_or no_slot xs i
+entry_is [] i = refl
+entry_is (x ∷ xs) zero = refl
+entry_is (x ∷ xs) (suc i) = entry_is xs i

@@ -1,5 +1,5 @@
 -- The trees of expressions that are made.
-use Rattle.std.proofs.Common.{◌≡◌, ℕ, ℤ, Option, Some, None, refl, sym, ap, ◌∙◌}
+use Rattle.std.proofs.Common.{◌≡◌, ℕ, ℤ, Option, Some, refl, ap, ◌∙◌}
 use Rattle.c_types.specs.declared.kinds.IntKind.{IntKind}
 use Rattle.c_types.specs.declared.kinds.IntKind.TheVariants as K
 use Rattle.c_types.specs.Numbers.{greatest}
@@ -8,14 +8,11 @@ use mir.Val.{to_z, of_z}
 use Rattle.c_tree.specs.declared.tree.UnaryOp.{UnaryOp}
 use Rattle.c_tree.specs.declared.tree.BinaryOp.{BinaryOp}
 use Rattle.c_tree.specs.declared.tree.Home.TheVariants as H
-use Rattle.c_tree.specs.declared.tree.Expression.{Expression, Expression-F, roll-Expression, out-Expression, out-roll-Expression}
+use Rattle.c_tree.specs.declared.tree.Expression.{Expression, Expression-F, roll-Expression, out-roll-Expression}
 use Rattle.c_tree.specs.declared.tree.Node.{Node, Number, Unary, Binary, Read, Assign}
 use Rattle.c_tree.specs.declared.tree.Place.{Place, Var, Cell}
-use Rattle.c_tree.specs.declared.tree.Test as T
 use Rattle.c_tree.specs.ExpressionTrees as P
 use Rattle.c_tree.specs.ExpressionTrees.{ExpressionTree, Typed, expression_tree, node_tree, place_tree}
-use Rattle.c_tree.specs.TestTrees as PT
-use Rattle.c_tree.specs.TestTrees.{test_tree}
 use Rattle.c_tree.proofs.ExpressionLaws.{expression-parts, node-Number, node-Unary, node-Binary, node-Read, node-Assign, place-Var, place-Cell}
 
 pub typed : (k : Option IntKind) (n : Node) → expression_tree (roll-Expression (record { kind = k; node = n })) ≡ Typed k (node_tree n)

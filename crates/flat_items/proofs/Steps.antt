@@ -1,22 +1,20 @@
 -- The numbers of what comes next, and the walk over a list, step by step.
-use Rattle.std.proofs.Common.{◌≡◌, ℕ, zero, suc, ◌+◌, ◌<◌, ◌≤◌, Bool, true, false, cond, List, length, drop, get_or, Option, arith, refl, sym, ap, ◌∙◌}
-use Rattle.c_tree.specs.Changed.{one}
-use Rattle.c_tree.specs.Everywhere.{total, total_of, total_in}
+use Rattle.std.proofs.Common.{◌≡◌, ℕ, ◌+◌, ◌<◌, ◌≤◌, Bool, true, false, cond, List, length, drop, get_or, Option, arith, sym, ap, ◌∙◌}
 use Rattle.c_tree.specs.declared.tree.Item.{Item}
 use Rattle.c_tree.specs.declared.tree.Section as Real
 use Rattle.c_tree.specs.ExpressionTrees.{ExpressionTree}
 use Rattle.c_tree.specs.Paths.{list_of}
 use Rattle.c_tree.specs.TestTrees.{TestTree, SelectorTree}
-use Rattle.c_tree.specs.Trees.{Tree, Forest, Nil, Then, Sections, NoSection, Section, If, While, Do, For, Switch, Block, trees_of, sections_of, expression_trees, join}
+use Rattle.c_tree.specs.Trees.{Tree, Forest, Then, Sections, NoSection, If, While, Do, For, Switch, Block, trees_of, sections_of, expression_trees, join}
 use Rattle.c_tree.proofs.TreeLaws.{join-nil}
 use Rattle.loose_core.specs.Pieces.{Aim, Names, mark_of, case_marks}
-use Rattle.loose_core.specs.Loose.{Arrivals, NoArrival, Arrives}
-use Rattle.flat_core.specs.Parts.{Here, constructs_of, cases_of, variables_of, past, past_item, inside, is_gone, ending, Breaks, is_scattered}
+use Rattle.loose_core.specs.Loose.{Arrivals, Arrives}
+use Rattle.flat_core.specs.Parts.{Here, past, past_item, inside}
 use Rattle.flat_core.specs.FlatForm.{Plan, flat, flat_item, flat_last, flat_last_item, flat_sections, end_goto, spread}
 use Rattle.flat_parts.proofs.EndLaws.{goes}
 use Rattle.tree_views.specs.Views.{tree_at, before}
 use Rattle.tree_views.proofs.Views.{trees-at, trees-end, sections-at, sections-end}
-use Rattle.flat_items.specs.Forms.{entered_of, past_among, section_form, section_before, part_form}
+use Rattle.flat_items.specs.Forms.{entered_of, past_among, section_before, part_form}
 use Rattle.flat_items.specs.Pieces.{behind}
 use Rattle.flat_items.proofs.Joining.{joined, behind_behind, behind_none}
 

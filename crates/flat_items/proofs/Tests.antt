@@ -1,8 +1,7 @@
 -- The labels of sections and the tests of cases, from one on.
-use Rattle.std.proofs.Common.{◌≡◌, ℕ, ℤ, zero, suc, ◌+◌, ◌<◌, ◌≤◌, Bool, true, false, List, [], ◌∷◌, ◌++◌, length, drop, get_or, map, Option, Some, None, arith, refl, sym, ap, ◌∙◌}
+use Rattle.std.proofs.Common.{◌≡◌, ℕ, ℤ, ◌+◌, ◌<◌, ◌≤◌, Bool, true, false, List, [], ◌∷◌, ◌++◌, length, drop, get_or, map, Option, Some, None, refl, sym, ap, ◌∙◌}
 use Rattle.std.specs.Option.{option_map_or}
-use Rattle.std.proofs.lemmas.List.{at_drop_more, at_drop_all, map-append}
-use Rattle.std.proofs.Math.Path.{fun_ext}
+use Rattle.std.proofs.lemmas.List.{at_drop_more, at_drop_all}
 use Rattle.c_types.specs.declared.kinds.IntKind.{IntKind}
 use Rattle.c_tree.specs.Cases.{case_number}
 use Rattle.c_tree.specs.Changed.{one}
@@ -11,10 +10,10 @@ use Rattle.c_tree.specs.declared.tree.Expression.{Expression}
 use Rattle.c_tree.specs.ExpressionTrees.{ExpressionTree, expression_tree}
 use Rattle.c_tree.specs.TestTrees.{Source}
 use Rattle.c_tree.specs.Trees.{Tree, Forest, Nil, Then, Sections, NoSection, Section, If, While, Do, For, Block, Goto, Mark, Arrival, expression_trees, join}
-use Rattle.loose_core.specs.Pieces.{Names, is_number, test_for, tests_for, tests, tests_in, tests_among, case_marks}
+use Rattle.loose_core.specs.Pieces.{Names, is_number, tests_for, tests, tests_in, tests_among, case_marks}
 use Rattle.flat_core.specs.Parts.{arrivals, arrivals_in, section_labels, switch_labels, cases_among}
 use Rattle.flat_items.specs.Pieces.{number_test, number_tests}
-use Rattle.flat_parts.proofs.Steps.{cases_append, numbers_append}
+use Rattle.flat_parts.proofs.Steps.{numbers_append}
 use Rattle.flat_items.proofs.Joining.{joined}
 
 pub marks_more : (names : Names) (es : List Expression) (d : Bool) (i : ℕ) (e : Expression) → i < length es → e ≡ get_or es i e

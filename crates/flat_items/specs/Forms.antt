@@ -1,6 +1,5 @@
 -- What stands in the place of each kind of item and section, as the cases of the definition.
 use Rattle.std.specs.Prelude.{ℕ, suc, ◌+◌, Bool, true, false, List, Option, Some, None}
-use Rattle.c_tree.specs.Changed.{one}
 use Rattle.c_tree.specs.Everywhere.{total_in}
 use Rattle.c_tree.specs.Exits.{breaks, continues}
 use Rattle.c_tree.specs.ExpressionTrees.{ExpressionTree}

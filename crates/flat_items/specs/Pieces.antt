@@ -1,12 +1,16 @@
--- Tests of cases by their numbers.
+-- Tests of cases by their numbers, the initialisation of a variable, sections behind others, and `for`s.
 use Rattle.std.specs.Prelude.{ℕ, ℤ, Bool, true, false, List, [], ◌∷◌, Option, Some, None}
 use Rattle.c_types.specs.declared.kinds.IntKind.{IntKind}
+use Rattle.c_tree.specs.declared.tree.Slot.{Slot}
 use Rattle.c_tree.specs.Changed.{one}
 use Rattle.c_tree.specs.Numerals.{constant}
 use Rattle.c_tree.specs.TestTrees.{Source}
 use Rattle.c_tree.specs.ExpressionTrees.{ExpressionTree}
 use Rattle.c_tree.specs.Trees.{Tree, Forest, Nil, If, While, For, Goto, Sections, NoSection, Section, join}
+use Rattle.jump_meaning.specs.Code.{entry_or}
+use Rattle.jump_meaning.specs.World.{no_slot}
 use Rattle.loose_core.specs.Pieces.{is_number, test_or_one, third_items}
+use Rattle.flat_core.specs.FlatForm.{assigned}
 
 -- `if (v == n) goto` the label of the case of this number
 abbrev pub number_test : IntKind → ℕ → (Option ℤ → ℕ) → Option ℤ → Forest
@@ -17,6 +21,10 @@ number_test k v label None = Nil
 abbrev pub number_tests : IntKind → ℕ → (Option ℤ → ℕ) → List (Option ℤ) → Forest
 number_tests k v label [] = Nil
 number_tests k v label (n ∷ ns) = join (number_test k v label n) (number_tests k v label ns)
+
+-- the assignments that initialise variable x of these
+abbrev pub initialised_of : List Slot → ℕ → List ExpressionTree → Forest
+initialised_of slots x es = assigned (entry_or no_slot slots x).kind x (entry_or no_slot slots x).cells es
 
 -- sections, then others
 abbrev pub behind : Sections → Sections → Sections

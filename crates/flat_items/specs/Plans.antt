@@ -1,8 +1,7 @@
 -- The code's plan of a flat form as the definition has it: numbers of labels, exits, nested case labels.
-use Rattle.std.specs.Prelude.{ℕ, ◌+◌, ◌*◌, ℤ, List, Option, Some, None, get_or, Bool, true, false}
+use Rattle.std.specs.Prelude.{ℕ, ◌+◌, ◌*◌, ℤ, Option, Some, None, get_or, Bool, true, false}
 use Rattle.std.specs.Option.{option_map_or}
 use Rattle.c_tree.specs.Cases.{case_number}
-use Rattle.c_tree.specs.ExpressionTrees.{ExpressionTree}
 use Rattle.c_tree.specs.Numerals.{constant}
 use Rattle.loose_core.specs.Pieces.{Aim, Stays, Becomes, Absent, Names}
 use Rattle.loose_core.specs.Loose.{Arrivals, NoArrival, Arrives}

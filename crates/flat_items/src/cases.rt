@@ -14,7 +14,7 @@ ghost use Rattle.flat_items.specs.Plans.{arrivals_of, case_names, number_label, 
 use crate::pieces::{add, add_goto, add_label};
 use crate::plans::{Cases, Here, Plan, break_label, case_label, default_label};
 use crate::values::{assignment, case_test};
-use c_copies::copy_option;
+use c_copies::{copy_expression, copy_option};
 use c_tree::{Expression, Item, Section, Selector};
 use c_types::{IntKind, List, Memory};
 use flat_parts::{case_number, case_numbers, selector_source, switch_has_default, switch_kind};
@@ -213,7 +213,8 @@ pub fn add_choice(
 ) -> Result<(), Memory>
     ensures { OnOk result (trees_of out.new ≡ join (trees_of out.old) (Then (Evaluate (assign_number cases.now.kind here.variable (the_selector_source (selector_tree selector.now)))) (join (number_tests cases.now.kind here.variable (number_label plan.now cases.now) cases.now.numbers) (one (Goto (the_otherwise_label (plan_of plan.now) (here_of here) (sections_of sections.now))))))) }
 {
-    let first = assignment(alloc, cases.kind, here.variable, selector_source(selector))?;
+    let source = copy_expression(alloc, selector_source(selector))?;
+    let first = assignment(alloc, cases.kind, here.variable, source)?;
     add(out, first)?;
     add_tests(
         alloc,

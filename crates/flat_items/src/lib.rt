@@ -8,6 +8,9 @@ mod plans;
 mod values;
 mod walk;
 
-pub use pieces::add;
-pub use plans::{Places, Plan};
+pub use pieces::{
+    add, add_break, add_continue, add_end, add_goto, add_initialised, add_label, add_mark,
+};
+pub use plans::{Aim, Here, Places, Plan, Scope, entered, label_of};
+pub use values::{assignment, case_test, jump};
 pub use walk::{add_section, write_body};

@@ -4,15 +4,15 @@ ghost use Rattle.c_tree.specs.ExpressionTrees.{expression_tree};
 ghost use Rattle.c_tree.specs.TestTrees.{Source, test_tree, selector_tree};
 ghost use Rattle.c_tree.specs.Trees.{Then, Nil, If, While, Do, For, Switch, Goto, Mark, Break, Continue, expression_trees, trees_of, sections_of, join};
 ghost use Rattle.loose_core.specs.Pieces.{mark_of, test_or_one, third_items, assigned_cells};
-ghost use Rattle.flat_core.specs.FlatForm.{assigned, initialised as the_initialised, exit as the_exit, end_goto as the_end_goto, flat_for, flat_loop};
-ghost use Rattle.flat_items.specs.Pieces.{for_loop};
-ghost use Rattle.flat_items.specs.Plans.{aim_of, plan_of};
+ghost use Rattle.flat_core.specs.FlatForm.{assigned, exit as the_exit, end_goto as the_end_goto, flat_for, flat_loop};
+ghost use Rattle.flat_items.specs.Pieces.{for_loop, initialised_of};
+ghost use Rattle.flat_items.specs.Plans.{aim_of};
 ghost use Rattle.tree_views.specs.Views.{tree_at};
 
-use crate::plans::{Aim, Plan, Scope};
+use crate::plans::{Aim, Scope};
 use crate::values::{assignment, cell_assignment, cell_cleared, test_of};
 use c_copies::{copy_expression, copy_item, make_do, make_for, make_if, make_switch, make_while};
-use c_tree::{Expression, Item, Section, Selector, Test};
+use c_tree::{Expression, Item, Section, Selector, Slot, Test};
 use c_types::{IntKind, List, Memory};
 use std::alloc::Global;
 
@@ -75,7 +75,7 @@ pub fn add_continue(aim: Aim, out: &mut List<Item>) -> Result<(), Memory>
     }
 }
 
-/// The goto at the end of a section of a scattered switch.
+/// The goto at the end of a section of a switch that becomes gotos.
 pub fn add_end(ends: bool, aim: Aim, out: &mut List<Item>) -> Result<(), Memory>
     ensures { OnOk result (trees_of out.new ≡ join (trees_of out.old) (the_end_goto ends (aim_of aim))) }
 {
@@ -264,31 +264,36 @@ fn add_cells(
     alloc: Global,
     kind: IntKind,
     slot: u32,
-    given: &[Expression],
+    given: List<Expression>,
     cells: usize,
     out: &mut List<Item>,
 ) -> Result<(), Memory>
-    ensures { OnOk result (trees_of out.new ≡ join (trees_of out.old) (assigned_cells kind slot 0 (expression_trees given.now) (cells - length given.now))) }
+    ensures { OnOk result (trees_of out.new ≡ join (trees_of out.old) (assigned_cells kind slot 0 (expression_trees given) (cells - length given))) }
 {
-    for i in 0..given.len() {
-        add(out, cell_assignment(alloc, kind, slot, i, &given[i])?)?;
+    let count = given.len();
+    let mut at = 0;
+    for e in given.into_vec() {
+        add(out, cell_assignment(alloc, kind, slot, at, e)?)?;
+        at += 1;
     }
-    add_cleared(alloc, kind, slot, given.len(), cells, out)
+    add_cleared(alloc, kind, slot, count, cells, out)
 }
 
 fn add_number(
     alloc: Global,
     kind: IntKind,
     slot: u32,
-    given: &[Expression],
+    given: List<Expression>,
     out: &mut List<Item>,
 ) -> Result<(), Memory>
-    ensures { OnOk result (trees_of out.new ≡ join (trees_of out.old) (assigned kind slot None (expression_trees given.now))) }
+    ensures { OnOk result (trees_of out.new ≡ join (trees_of out.old) (assigned kind slot None (expression_trees given))) }
 {
-    if given.len() == 0 {
+    let mut given = given;
+    if given.is_empty() {
         Ok(())
     } else {
-        add(out, assignment(alloc, kind, slot, &given[0])?)
+        let first = given.remove(0);
+        add(out, assignment(alloc, kind, slot, first)?)
     }
 }
 
@@ -297,10 +302,10 @@ fn add_assigned(
     kind: IntKind,
     cells: Option<u32>,
     slot: u32,
-    given: &[Expression],
+    given: List<Expression>,
     out: &mut List<Item>,
 ) -> Result<(), Memory>
-    ensures { OnOk result (trees_of out.new ≡ join (trees_of out.old) (assigned kind slot cells (expression_trees given.now))) }
+    ensures { OnOk result (trees_of out.new ≡ join (trees_of out.old) (assigned kind slot cells (expression_trees given))) }
 {
     match cells {
         Some(cells) => add_cells(alloc, kind, slot, given, cells as usize, out),
@@ -308,17 +313,17 @@ fn add_assigned(
     }
 }
 
-/// The assignments that initialise a variable.
+/// The assignments that initialise one of these variables.
 pub fn add_initialised(
     alloc: Global,
-    plan: &Plan,
+    slots: &[Slot],
     slot: u32,
-    given: &[Expression],
+    given: List<Expression>,
     out: &mut List<Item>,
 ) -> Result<(), Memory>
-    ensures { OnOk result (trees_of out.new ≡ join (trees_of out.old) (the_initialised (plan_of plan.now) slot (expression_trees given.now))) }
+    ensures { OnOk result (trees_of out.new ≡ join (trees_of out.old) (initialised_of slots.now slot (expression_trees given))) }
 {
-    match plan.slots.get(slot as usize) {
+    match slots.get(slot as usize) {
         Some(found) => add_assigned(alloc, found.kind, found.cells, slot, given, out),
         None => add_assigned(alloc, IntKind::Int, None, slot, given, out),
     }

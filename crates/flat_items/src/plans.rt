@@ -30,11 +30,11 @@ pub struct Plan {
 /// The numbers of what comes next in text order.
 #[derive(Clone, Copy)]
 pub struct Here {
-    /// Of the next loop or switch, from 0.
+    /// Of the next construct that is numbered, from 0.
     pub construct: u32,
-    /// Of the next case label of the scattered switches, from 0.
+    /// Of the next case label of the switches that become gotos, from 0.
     pub case: u32,
-    /// Of the next variable of a scattered switch, among the variables of the flat form.
+    /// Of the next variable of such a switch, among all variables.
     pub variable: u32,
 }
 
@@ -96,7 +96,8 @@ fn shifted(code: usize, behind: u32) -> Result<u32, Memory>
     }
 }
 
-fn label_of(places: &Places, code: usize) -> Result<u32, Memory>
+/// The label with this code. A number past `u32` counts as want of memory, here and below.
+pub fn label_of(places: &Places, code: usize) -> Result<u32, Memory>
     ensures { IfOk result (λ it. it ≡ number_at places.now code) }
 {
     match entry(places.table.as_slice(), code) {
@@ -105,8 +106,7 @@ fn label_of(places: &Places, code: usize) -> Result<u32, Memory>
     }
 }
 
-/// The label that a label of the source becomes. A number past `u32` counts as want of memory, here
-/// and below.
+/// The label that a label of the source becomes.
 pub fn source_label(plan: &Plan, label: u32) -> Result<u32, Memory>
     ensures { IfOk result (λ it. it ≡ (plan_of plan.now).source label) }
 {
@@ -158,7 +158,7 @@ fn sum(a: u32, b: usize) -> Result<u32, Memory>
     }
 }
 
-/// The numbers inside a loop or switch that has so many case labels and variables of its own.
+/// The numbers inside a construct that has so many case labels and variables of its own.
 pub fn entered(here: Here, cases: usize, variables: usize) -> Result<Here, Memory>
     requires cases { cases ≤ 4294967295 }
     requires variables { variables ≤ 4294967295 }

@@ -79,18 +79,11 @@ fn constant(alloc: Global, kind: IntKind, n: i128) -> Result<Boxed<Expression>, 
     }
 }
 
-fn boxed(alloc: Global, e: &Expression) -> Result<Boxed<Expression>, Memory>
-    ensures { IfOk result (λ it. it ≡ e.now) }
-{
-    let copy = copy_expression(alloc, e)?;
-    Boxed::new(alloc, copy)
-}
-
 /// `x = e;` of a variable that is a number of the kind.
-pub fn assignment(alloc: Global, kind: IntKind, slot: u32, e: &Expression) -> Result<Item, Memory>
-    ensures { IfOk result (λ it. tree_at it ≡ Evaluate (assign_number kind slot (expression_tree e.now))) }
+pub fn assignment(alloc: Global, kind: IntKind, slot: u32, e: Expression) -> Result<Item, Memory>
+    ensures { IfOk result (λ it. tree_at it ≡ Evaluate (assign_number kind slot (expression_tree e))) }
 {
-    let value = boxed(alloc, e)?;
+    let value = Boxed::new(alloc, e)?;
     Ok(Item::Evaluate(Expression {
         kind: Some(kind),
         node: Node::Assign(Place::Var(Home::Slot(slot)), value),
@@ -119,11 +112,11 @@ pub fn cell_assignment(
     kind: IntKind,
     slot: u32,
     at: usize,
-    e: &Expression,
+    e: Expression,
 ) -> Result<Item, Memory>
-    ensures { IfOk result (λ it. tree_at it ≡ Evaluate (assign_cell kind slot at (expression_tree e.now))) }
+    ensures { IfOk result (λ it. tree_at it ≡ Evaluate (assign_cell kind slot at (expression_tree e))) }
 {
-    let value = boxed(alloc, e)?;
+    let value = Boxed::new(alloc, e)?;
     cell(alloc, kind, slot, at, value)
 }
 
@@ -133,6 +126,20 @@ pub fn cell_cleared(alloc: Global, kind: IntKind, slot: u32, at: usize) -> Resul
 {
     let value = number(alloc, IntKind::Int, 0)?;
     cell(alloc, kind, slot, at, value)
+}
+
+/// `if (test) goto label;`
+pub fn jump(alloc: Global, test: Test, label: u32) -> Result<Item, Memory>
+    ensures { IfOk result (λ it. tree_at it ≡ If (test_tree test) (one (Goto label)) Nil) }
+{
+    let mut gotos = List::new(alloc);
+    match gotos.push(Item::Goto(label)) {
+        Ok(()) => Ok(Item::If(test, gotos, List::new(alloc))),
+        Err(e) => {
+            drop(test);
+            Err(e)
+        }
+    }
 }
 
 /// `if (v == n) goto label;` of a variable of the kind.
@@ -145,8 +152,6 @@ pub fn case_test(
 ) -> Result<Item, Memory>
     ensures { IfOk result (λ it. tree_at it ≡ If (Source (is_number kind variable (the_constant kind n))) (one (Goto label)) Nil) }
 {
-    let mut gotos = List::new(alloc);
-    gotos.push(Item::Goto(label))?;
     let number = constant(alloc, kind, n)?;
     let read = Boxed::new(
         alloc,
@@ -159,7 +164,7 @@ pub fn case_test(
         kind: Some(IntKind::Int),
         node: Node::Binary(BinaryOp::Equal, read, number),
     };
-    Ok(Item::If(Test::Source(test), gotos, List::new(alloc)))
+    jump(alloc, Test::Source(test), label)
 }
 
 /// The test of a `for`, 1 where it has none.

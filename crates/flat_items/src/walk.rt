@@ -468,7 +468,8 @@ fn write_local(
 {
     match given {
         Some(given) => {
-            add_initialised(alloc, plan, slot, given.as_slice(), out)?;
+            let given = copy_expressions(alloc, given.as_slice())?;
+            add_initialised(alloc, plan.slots.as_slice(), slot, given, out)?;
             Ok(here)
         }
         None => Ok(here),
@@ -582,12 +583,7 @@ fn write_item(
         Item::Goto(label) => write_goto(plan, *label, here, out),
         Item::Mark(label) => write_label(plan, *label, here, out),
         Item::Arrival(case) => write_arrival(alloc, plan, cases, case, here, out),
-        Item::Evaluate(_) => write_same(alloc, item, here, out),
-        Item::Return(_) => write_same(alloc, item, here, out),
-        Item::Arm(_, _) => write_same(alloc, item, here, out),
-        Item::Leap(_) => write_same(alloc, item, here, out),
-        Item::Land(_) => write_same(alloc, item, here, out),
-        Item::Note(_) => write_same(alloc, item, here, out),
+        _ => write_same(alloc, item, here, out),
     }
 }
 

@@ -5,9 +5,10 @@ ghost use Rattle.lowered_forms.specs.Lowering.{IsBodyLowered, IsLoweredBeside};
 
 use c_tree::{Function, Item};
 use c_types::{List, Memory};
+use flat_counts::gotos_in;
 use flat_names::{FlatNames, ProgramNames};
 use flat_parts::named_labels;
-use lowered_bodies::{LoweredBody, gotos_in, lower_body};
+use lowered_bodies::{LoweredBody, lower_body};
 use lowered_items::Plan;
 use lowered_names::{constructs, name_lowered};
 use std::alloc::Global;

@@ -1,3 +1,2 @@
 pub mod Renumbered
-pub mod Places
 pub mod Codes

@@ -5,14 +5,14 @@ ghost use Rattle.flat_core.specs.Parts.{is_named};
 ghost use Rattle.flat_parts.specs.Reading.{is_flagged};
 ghost use Rattle.lowered_core.specs.Lowered.{declarations, lowered_body};
 ghost use Rattle.lowered_bodies.specs.Codes.{codes_of};
-ghost use Rattle.lowered_bodies.specs.Places.{number_at};
+ghost use Rattle.flat_items.specs.Plans.{number_at};
 ghost use Rattle.lowered_bodies.specs.Renumbered.{renumbered as the_renumbered};
 
-use crate::labels::labels_in;
-use crate::places::{Places, places_of};
 use crate::renumbering::renumbered;
 use c_tree::Item;
 use c_types::{List, Memory};
+use flat_bodies::{labels_in, places_of};
+use flat_items::Places;
 use lowered_items::{Plan, lower_list};
 use std::alloc::Global;
 

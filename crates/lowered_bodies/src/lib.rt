@@ -2,10 +2,6 @@
 #![tactic(auto)]
 
 mod bodies;
-mod gotos;
-mod labels;
-mod places;
 mod renumbering;
 
 pub use bodies::{LoweredBody, lower_body};
-pub use gotos::gotos_in;

@@ -1,13 +1,13 @@
 ghost use Rattle.std.specs.Prelude.{◌≡◌, Some, IfOk};
 ghost use Rattle.c_tree.specs.Trees.{trees_of};
-ghost use Rattle.lowered_bodies.specs.Places.{number_at};
+ghost use Rattle.flat_items.specs.Plans.{number_at};
 ghost use Rattle.lowered_bodies.specs.Renumbered.{renumbered_goto as the_renumbered_goto, renumbered_item, lone_goto as the_lone_goto};
 ghost use Rattle.lowered_items.specs.Jumps.{goto_of};
 ghost use Rattle.tree_views.specs.Views.{tree_at};
 
-use crate::places::{Places, place};
 use c_tree::Item;
 use c_types::{List, Memory};
+use flat_items::{Places, label_of};
 
 fn goto_label(item: &Item) -> Option<u32>
     ensures { result ≡ goto_of (tree_at item.now) }
@@ -35,7 +35,7 @@ fn renumbered_goto(places: &Places, list: List<Item>) -> Result<List<Item>, Memo
     let mut list = list;
     match lone_goto(list.as_slice()) {
         Some(label) => {
-            let label = place(places, label)?;
+            let label = label_of(places, label as usize)?;
             list.set(0, Item::Goto(label));
             Ok(list)
         }
@@ -48,8 +48,8 @@ pub fn renumbered(places: &Places, item: Item) -> Result<Item, Memory>
     ensures { IfOk result (λ it. tree_at it ≡ renumbered_item (number_at places.now) (tree_at item)) }
 {
     match item {
-        Item::Goto(label) => Ok(Item::Goto(place(places, label)?)),
-        Item::Mark(label) => Ok(Item::Mark(place(places, label)?)),
+        Item::Goto(label) => Ok(Item::Goto(label_of(places, label as usize)?)),
+        Item::Mark(label) => Ok(Item::Mark(label_of(places, label as usize)?)),
         Item::If(test, a, b) => match renumbered_goto(places, a) {
             Ok(a) => Ok(Item::If(test, a, b)),
             Err(e) => {

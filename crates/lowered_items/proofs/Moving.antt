@@ -28,10 +28,3 @@ all_step x xs out new all n inv = one_more out new (tree_at x) (trees_of xs) n �
 
 pub all_end : (out all : Forest) → join out (trees_of []) ≡ all → out ≡ all
 all_end out all inv = sym (join-nil out) ∙ sym (ap (join out) trees-none) ∙ inv
-
-pub cells_step : (k : IntKind) (x i m : ℕ) (e : Expression) (es : List Expression) (out new all : Forest) → new ≡ join out (one (Evaluate (assign_cell k x i (expression_tree e))))
-    → join out (assigned_cells k x i (expression_trees (e ∷ es)) m) ≡ all → join new (assigned_cells k x (i + 1) (expression_trees es) m) ≡ all
-cells_step k x i m e es out new all n inv =
-    let f : i + 1 ≡ suc i = omega arith in
-    one_more out new (Evaluate (assign_cell k x i (expression_tree e))) (assigned_cells k x (i + 1) (expression_trees es) m) n
-    ∙ ap (λ j. join out (Then (Evaluate (assign_cell k x i (expression_tree e))) (assigned_cells k x j (expression_trees es) m))) f ∙ inv

@@ -9,7 +9,7 @@ use Rattle.loose_core.specs.Pieces.{Aim, Becomes, Absent, mark_of, third_items}
 use Rattle.flat_core.specs.FlatForm.{aim}
 use Rattle.lowered_core.specs.Straight.{jump_if}
 use Rattle.lowered_items.specs.declared.loops.Loop as L
-use Rattle.lowered_items.specs.Plans.{aim_of}
+use Rattle.flat_items.specs.Plans.{aim_of}
 
 -- the items before the list, the label right behind it, the items behind that, and what exits become
 pub record Frame : Type 0 where

@@ -1,18 +1,16 @@
--- What the code takes of a function as the definition has it: labels by their codes, exits, nested case labels.
-use Rattle.std.specs.Prelude.{ℕ, suc, ◌+◌, ◌*◌, ℤ, Option, Some, None, Bool, true, false}
+-- What the code takes of a function as the definition has it: labels by their codes, nested case labels.
+use Rattle.std.specs.Prelude.{ℕ, suc, ◌+◌, ◌*◌, ℤ, Option, Some, None}
 use Rattle.c_tree.specs.Cases.{case_number}
 use Rattle.c_tree.specs.ExpressionTrees.{ExpressionTree}
 use Rattle.c_tree.specs.Numerals.{constant}
-use Rattle.loose_core.specs.Pieces.{Aim, Stays, Becomes, Absent, Names}
-use Rattle.loose_core.specs.Loose.{Arrivals, NoArrival, Arrives}
+use Rattle.loose_core.specs.Pieces.{Names}
+use Rattle.loose_core.specs.Loose.{Arrivals}
 use Rattle.flat_core.specs.Parts.{Here}
 use Rattle.flat_parts.specs.Reading.{is_flagged}
+use Rattle.flat_items.specs.Plans.{arrivals_if}
 use Rattle.lowered_core.specs.Lowered.{Layout}
 use Rattle.lowered_items.specs.declared.plans.Plan as L
-use Rattle.lowered_items.specs.declared.plans.Here as H
 use Rattle.lowered_items.specs.declared.plans.Labels as N
-use Rattle.lowered_items.specs.declared.plans.Aim as A
-use Rattle.lowered_items.specs.declared.plans.Aim.TheVariants as V
 use Rattle.lowered_items.specs.declared.plans.Cases as C
 use Rattle.lowered_items.specs.Places.{place_at}
 
@@ -37,19 +35,9 @@ layout_of p = record {
 abbrev pub labels_at : ℕ → N.Labels
 labels_at k = record { behind = 7 * k + 1; next = 7 * k + 2; default = 7 * k + 3; head = 7 * k + 5; list = 7 * k + 6 }
 
--- the numbers of what comes next
-abbrev pub here_of : H.Here → Here
-here_of h = record { construct = h.construct; case = h.case; variable = h.variable }
-
 -- inside an `if`, loop or switch with so many case labels and variables of its own
 abbrev pub entered_at : Here → ℕ → ℕ → Here
 entered_at h n v = record { construct = suc h.construct; case = h.case + n; variable = h.variable + v }
-
--- what an exit becomes
-abbrev pub aim_of : A.Aim → Aim
-aim_of V.Stays = Stays
-aim_of (V.Becomes l) = Becomes l
-aim_of V.Absent = Absent
 
 -- the label of the case whose number this is
 abbrev pub number_label : C.Cases → Option ℤ → ℕ
@@ -59,10 +47,6 @@ number_label s n = 7 * (s.first + place_at s.places n) + 4
 abbrev pub case_names : C.Cases → Names
 case_names s None = s.default
 case_names s (Some e) = number_label s (case_number s.kind e)
-
-abbrev pub arrivals_if : Bool → Names → Arrivals
-arrivals_if true names = Arrives names
-arrivals_if false names = NoArrival
 
 -- the labels that Arrivals have, where they are bound to a switch
 abbrev pub arrivals_of : C.Cases → Arrivals

@@ -8,14 +8,15 @@ ghost use Rattle.flat_core.specs.Parts.{switch_labels, cases_among, has_default,
 ghost use Rattle.flat_core.specs.FlatForm.{arrival};
 ghost use Rattle.flat_items.specs.Pieces.{number_test, number_tests};
 ghost use Rattle.lowered_items.specs.Choices.{AreCases, breaks_of, otherwise_of, choice_form};
-ghost use Rattle.lowered_items.specs.Plans.{aim_of, here_of, entered_at, arrivals_of, case_names, number_label};
+ghost use Rattle.flat_items.specs.Plans.{aim_of, here_of};
+ghost use Rattle.lowered_items.specs.Plans.{entered_at, arrivals_of, case_names, number_label};
 
-use crate::pieces::{add, add_goto, add_label};
 use crate::places::{no_places, place_of, places_of};
-use crate::plans::{Aim, Cases, Here, Inside, Labels, case_label, entered};
-use crate::values::{assignment, case_test, into_source};
+use crate::plans::{Cases, Inside, Labels, case_label, entered};
+use crate::values::into_source;
 use c_tree::{Expression, Item, Section, Selector};
 use c_types::{IntKind, List, Memory};
+use flat_items::{Aim, Here, add, add_goto, add_label, assignment, case_test};
 use flat_parts::{case_number, case_numbers, leaves, switch_has_default, switch_kind};
 use std::alloc::Global;
 

@@ -8,14 +8,15 @@ ghost use Rattle.loose_core.specs.Pieces.{Becomes, third_items as the_third_item
 ghost use Rattle.flat_core.specs.FlatForm.{aim as the_aim};
 ghost use Rattle.lowered_core.specs.Straight.{jump_if};
 ghost use Rattle.lowered_items.specs.Loops.{frame_of, tested as the_tested, for_start, while_frame, do_frame, for_frame};
-ghost use Rattle.lowered_items.specs.Plans.{aim_of, here_of, labels_at, entered_at};
+ghost use Rattle.flat_items.specs.Plans.{aim_of, here_of};
+ghost use Rattle.lowered_items.specs.Plans.{labels_at, entered_at};
 ghost use Rattle.tree_views.specs.Views.{tree_at};
 
-use crate::pieces::{add, add_all, add_goto, add_label};
-use crate::plans::{Aim, Here, Inside, Labels, Scope, entered};
-use crate::values::jump;
+use crate::pieces::add_all;
+use crate::plans::{Inside, Labels, entered};
 use c_tree::{Expression, Item, Test};
 use c_types::{List, Memory};
+use flat_items::{Aim, Here, Scope, add, add_goto, add_label, jump};
 use flat_parts::{has_break, has_continue};
 use std::alloc::Global;
 

@@ -1,9 +1,11 @@
 ghost use Rattle.std.specs.Prelude.{◌≡◌, ◌+◌, ◌*◌, ◌^◌, ◌<◌, ◌≤◌, IfOk};
-ghost use Rattle.lowered_items.specs.Plans.{labels_at, here_of, entered_at};
+ghost use Rattle.flat_items.specs.Plans.{here_of};
+ghost use Rattle.lowered_items.specs.Plans.{labels_at, entered_at};
 
 use crate::places::CasePlaces;
 use c_tree::Slot;
 use c_types::{IntKind, List, Memory};
+use flat_items::Here;
 
 /// What a flat list takes of its function.
 #[derive(Drop)]
@@ -12,35 +14,6 @@ pub struct Plan {
     pub named: List<bool>,
     /// The variables of the source.
     pub slots: List<Slot>,
-}
-
-/// The numbers of what comes next in text order.
-#[derive(Clone, Copy)]
-pub struct Here {
-    /// Of the next `if`, loop or switch, from 0.
-    pub construct: u32,
-    /// Of the next case label, from 0.
-    pub case: u32,
-    /// Of the next variable of a switch, among all variables.
-    pub variable: u32,
-}
-
-/// What a `break` or a `continue` becomes.
-#[derive(Clone, Copy)]
-pub enum Aim {
-    /// It stays.
-    Stays,
-    /// It becomes a goto to the label.
-    Becomes(u32),
-    /// There is none.
-    Absent,
-}
-
-/// What exits become in a list.
-#[derive(Clone, Copy)]
-pub struct Scope {
-    pub breaks: Aim,
-    pub continues: Aim,
 }
 
 /// The labels of an `if`, loop or switch, by their codes.
@@ -126,16 +99,6 @@ fn labels_of(construct: u32) -> Result<Labels, Memory>
     })
 }
 
-fn sum(a: u32, b: usize) -> Result<u32, Memory>
-    requires { b ≤ 4294967295 }
-    ensures { IfOk result (λ it. it ≡ a + b) }
-{
-    match a.checked_add(b as u32) {
-        Some(sum) => Ok(sum),
-        None => Err(Memory),
-    }
-}
-
 /// The `if`, loop or switch that stands here and has so many case labels and variables of its own.
 pub fn entered(here: Here, cases: usize, variables: usize) -> Result<Inside, Memory>
     requires cases { cases ≤ 4294967295 }
@@ -144,15 +107,6 @@ pub fn entered(here: Here, cases: usize, variables: usize) -> Result<Inside, Mem
     ensures start { IfOk result (λ it. here_of it.start ≡ entered_at (here_of here) cases variables) }
 {
     let labels = labels_of(here.construct)?;
-    let construct = sum(here.construct, 1)?;
-    let case = sum(here.case, cases)?;
-    let variable = sum(here.variable, variables)?;
-    Ok(Inside {
-        labels,
-        start: Here {
-            construct,
-            case,
-            variable,
-        },
-    })
+    let start = flat_items::entered(here, cases, variables)?;
+    Ok(Inside { labels, start })
 }

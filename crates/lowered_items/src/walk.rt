@@ -12,19 +12,21 @@ ghost use Rattle.lowered_core.specs.Lowered.{past, past_item, lowered, lowered_i
 ghost use Rattle.lowered_core.specs.Straight.{jump_if};
 ghost use Rattle.lowered_items.specs.Forms.{past_among, part_form, local_form};
 ghost use Rattle.lowered_items.specs.Loops.{frame_of, framed};
-ghost use Rattle.lowered_items.specs.Plans.{aim_of, layout_of, here_of, entered_at, arrivals_of, case_names};
+ghost use Rattle.flat_items.specs.Plans.{aim_of, here_of};
+ghost use Rattle.lowered_items.specs.Plans.{layout_of, entered_at, arrivals_of, case_names};
 ghost use Rattle.tree_views.specs.Views.{tree_at};
 
 use crate::cases::{add_arrival, add_case_marks, add_choice, no_cases};
 use crate::jumps::jump_of;
 use crate::loops::{Loop, add_test, add_then, do_loop, for_loop, while_loop};
-use crate::pieces::{
-    add, add_all, add_break, add_continue, add_end, add_goto, add_initialised, add_label, add_mark,
-};
-use crate::plans::{Aim, Cases, Here, Plan, Scope, entered, source_label};
-use crate::values::jump;
+use crate::pieces::add_all;
+use crate::plans::{Cases, Plan, entered, source_label};
 use c_tree::{Expression, Item, Section, Selector, Test};
 use c_types::{List, Memory};
+use flat_items::{
+    Aim, Here, Scope, add, add_break, add_continue, add_end, add_goto, add_initialised, add_label,
+    add_mark, jump,
+};
 use flat_parts::is_flagged;
 use std::alloc::Global;
 
@@ -265,7 +267,7 @@ fn write_local(
 {
     match given {
         Some(given) => {
-            add_initialised(alloc, plan, slot, given, out)?;
+            add_initialised(alloc, plan.slots.as_slice(), slot, given, out)?;
             Ok(here)
         }
         None => Ok(here),

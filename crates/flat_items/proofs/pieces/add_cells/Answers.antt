@@ -1,45 +1,22 @@
-use Rattle.std.proofs.Common.{◌≡◌, ℕ, ℤ, pos, not, cond, drop, suc, ◌+◌, ◌-◌, ◌++◌, ◌||◌, ◌∷◌, [], map, length, get_or, true, false, Option, Some, None, option_map, refl, sym, ap, ◌∙◌, rules, arith}
-use Rattle.std.proofs.lemmas.Result.{on_ok_weaker, IfOk-weaker}
-use Rattle.std.proofs.lemmas.List.{at_drop_more, at_drop_all}
-use Rattle.c_types.specs.declared.kinds.IntKind.TheVariants.{Int}
-use Rattle.c_tree.specs.declared.tree.UnaryOp.TheVariants.{Minus}
-use Rattle.c_tree.specs.declared.tree.BinaryOp.TheVariants.{Equal, Arith}
-use Rattle.c_types.specs.declared.kinds.ArithOp.TheVariants.{Sub}
-use Rattle.c_types.specs.Numbers.{greatest}
-use Rattle.c_tree.specs.Cases.{case_number, selector_source}
+use Rattle.std.proofs.Common.{◌-◌, length, arith, sym, ap, ◌∙◌}
+use Rattle.std.specs.Vec.Iter.{into_iter_items}
 use Rattle.c_tree.specs.Changed.{one}
-use Rattle.c_tree.specs.ExpressionTrees.{ExpressionTree, Typed, expression_tree}
-use Rattle.c_tree.specs.ExpressionTrees as PE
-use Rattle.c_tree.specs.declared.tree.Home.TheVariants as H
-use Rattle.c_tree.specs.Numerals.{number, constant, least_constant}
-use Rattle.c_tree.specs.Paths.{list_of}
-use Rattle.c_tree.specs.TestTrees as PT
-use Rattle.c_tree.specs.TestTrees.{TestTree, SelectorTree, test_tree, selector_tree}
-use Rattle.c_tree.specs.Trees as Plain
-use Rattle.c_tree.specs.declared.tree.Item as I
-use Rattle.std.proofs.lemmas.Int.{ints, to_z-of_z}
-use mir.Syntax.{w128}
-use mir.Val.{to_z, of_z}
-use Rattle.c_tree.specs.Trees.{Tree, Forest, Nil, Then, Sections, NoSection, trees_of, sections_of, expression_trees, join}
-use Rattle.c_tree.proofs.TreeLaws.{trees-none, trees-append, join-nil}
-use Rattle.c_tree.proofs.ExpressionLaws.{test-Source, selector-Source, selector-Pick}
-use Rattle.loose_core.specs.Pieces.{Aim, Stays, Becomes, Absent, mark_of, case_marks, assign_number, assign_cell, assigned_cells, is_number, third_items, test_or_one, zero_tree}
-use Rattle.flat_core.specs.FlatForm.{same_number, place_of}
-use Rattle.tree_views.specs.Views.{tree_at}
-use Rattle.tree_views.proofs.Views.{at-Evaluate, at-If, at-While, at-Do, at-For, at-Switch, at-Block, at-Goto, at-Mark, at-Break, at-Continue, at-Return, at-Local, at-Arm, at-Leap, at-Land, at-Note, at-Arrival, trees-first, trees-push, trees-at, trees-end, sections-at, sections-end}
-use Rattle.flat_items.proofs.Spelling.{typed, typed-Number, typed-Unary, typed-Binary, typed-Read, typed-Assign, typed-Cell, greatest_fits}
+use Rattle.c_tree.specs.Trees.{trees_of, expression_trees, join}
+use Rattle.loose_core.specs.Pieces.{assigned_cells}
+use Rattle.flat_items.proofs.Joining.{cells_step}
 use Rattle.flat_items.proofs.pieces.add_cells.Goals as goal
-use Rattle.flat_items.proofs.Joining.{joined, one_more, with_loop, cells_more, cells_end, given_more, given_end, none_given}
-use Rattle.flat_items.specs.Plans.{aim_of}
-use Rattle.flat_items.specs.Pieces.{for_loop}
-use Rattle.flat_core.specs.FlatForm.{end_goto, assigned}
 
-pub loop-i-preserved : goal.loop-i-preserved
-loop-i-preserved c =
+pub loop-e-preserved : goal.loop-e-preserved
+loop-e-preserved c =
     let k = c.args.kind in
-    let e = c.index-given-i.result in
-    let m = c.args.cells - length c.args.given.now in
-    let x = Plain.Evaluate (assign_cell k c.args.slot c.loop-i.i (expression_tree e)) in
-    let out = trees_of c.loop-i.out in
-    one_more out (trees_of c.add.new.out) x (assigned_cells k c.args.slot (c.loop-i.i + 1) (expression_trees (drop (c.loop-i.i + 1) c.args.given.now)) m) (c.in_ok-add.ensures ∙ ap (λ z. join out (one z)) c.in_ok-cell_assignment.ensures)
-    ∙ ap (join out) (sym (given_more k c.args.slot c.loop-i.i m c.args.given.now e c.loop-i-test.true c.index-given-i.is)) ∙ c.loop-i.invariant
+    let m = c.args.cells - length c.args.given in
+    let o = trees_of c.loop-e.out in
+    let steps = c.in-Some.ensures.steps.0 in
+    let n = ap length steps in
+    let was = c.loop-e.invariant.count in
+    record {
+      count = omega (arith, n, was);
+      items = cells_step k c.args.slot c.loop-e.at m c.in-Some.e (into_iter_items c.next.new.self) o (trees_of c.add.new.out) _
+          (c.in_ok-add.ensures ∙ ap (λ z. join o (one z)) c.in_ok-cell_assignment.ensures)
+          (sym (ap (λ z. join o (assigned_cells k c.args.slot c.loop-e.at (expression_trees z) m)) steps) ∙ c.loop-e.invariant.items);
+    }

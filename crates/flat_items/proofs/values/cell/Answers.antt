@@ -1,33 +1,11 @@
-use Rattle.std.proofs.Common.{◌≡◌, ℕ, ℤ, pos, not, cond, drop, suc, ◌+◌, ◌-◌, ◌++◌, ◌||◌, ◌∷◌, [], map, length, get_or, true, false, Option, Some, None, option_map, refl, sym, ap, ◌∙◌, rules, arith}
-use Rattle.std.proofs.lemmas.Result.{on_ok_weaker, IfOk-weaker}
-use Rattle.std.proofs.lemmas.List.{at_drop_more, at_drop_all}
+use Rattle.std.proofs.Common.{pos, refl, ap, ◌∙◌, arith}
 use Rattle.c_types.specs.declared.kinds.IntKind.TheVariants.{Int}
-use Rattle.c_tree.specs.declared.tree.UnaryOp.TheVariants.{Minus}
-use Rattle.c_tree.specs.declared.tree.BinaryOp.TheVariants.{Equal, Arith}
-use Rattle.c_types.specs.declared.kinds.ArithOp.TheVariants.{Sub}
-use Rattle.c_types.specs.Numbers.{greatest}
-use Rattle.c_tree.specs.Cases.{case_number, selector_source}
-use Rattle.c_tree.specs.Changed.{one}
-use Rattle.c_tree.specs.ExpressionTrees.{ExpressionTree, Typed, expression_tree}
-use Rattle.c_tree.specs.ExpressionTrees as PE
-use Rattle.c_tree.specs.declared.tree.Home.TheVariants as H
-use Rattle.c_tree.specs.Numerals.{number, constant, least_constant}
-use Rattle.c_tree.specs.Paths.{list_of}
-use Rattle.c_tree.specs.TestTrees as PT
-use Rattle.c_tree.specs.TestTrees.{TestTree, SelectorTree, test_tree, selector_tree}
+use Rattle.c_tree.specs.ExpressionTrees.{expression_tree}
+use Rattle.c_tree.specs.Numerals.{number}
 use Rattle.c_tree.specs.Trees as Plain
-use Rattle.c_tree.specs.declared.tree.Item as I
-use Rattle.std.proofs.lemmas.Int.{ints, to_z-of_z}
-use mir.Syntax.{w128}
-use mir.Val.{to_z, of_z}
-use Rattle.c_tree.specs.Trees.{Tree, Forest, Nil, Then, Sections, NoSection, trees_of, sections_of, expression_trees, join}
-use Rattle.c_tree.proofs.TreeLaws.{trees-none, trees-append, join-nil}
-use Rattle.c_tree.proofs.ExpressionLaws.{test-Source, selector-Source, selector-Pick}
-use Rattle.loose_core.specs.Pieces.{Aim, Stays, Becomes, Absent, mark_of, case_marks, assign_number, assign_cell, assigned_cells, is_number, third_items, test_or_one, zero_tree}
-use Rattle.flat_core.specs.FlatForm.{same_number, place_of}
-use Rattle.tree_views.specs.Views.{tree_at}
-use Rattle.tree_views.proofs.Views.{at-Evaluate, at-If, at-While, at-Do, at-For, at-Switch, at-Block, at-Goto, at-Mark, at-Break, at-Continue, at-Return, at-Local, at-Arm, at-Leap, at-Land, at-Note, at-Arrival, trees-first, trees-push, trees-at, trees-end, sections-at, sections-end}
-use Rattle.flat_items.proofs.Spelling.{typed, typed-Number, typed-Unary, typed-Binary, typed-Read, typed-Assign, typed-Cell, greatest_fits}
+use Rattle.std.proofs.lemmas.Int.{ints}
+use Rattle.tree_views.proofs.Views.{at-Evaluate}
+use Rattle.flat_items.proofs.Spelling.{typed-Cell}
 use Rattle.flat_items.proofs.values.cell.Goals as goal
 
 pub returns : goal.returns

@@ -1,56 +1,37 @@
-use Rattle.std.proofs.Common.{◌≡◌, ℕ, ℤ, pos, not, cond, drop, suc, ◌+◌, ◌-◌, ◌++◌, ◌||◌, ◌∷◌, [], map, length, get_or, true, false, Option, Some, None, option_map, refl, sym, ap, ◌∙◌, rules, arith}
+use Rattle.std.proofs.Common.{cond, ◌+◌, map, length, true, option_map, refl, sym, ap, ◌∙◌, arith}
 use Rattle.std.proofs.lemmas.Result.{on_ok_weaker, IfOk-weaker}
-use Rattle.std.proofs.lemmas.List.{at_drop_more, at_drop_all}
-use Rattle.c_types.specs.declared.kinds.IntKind.TheVariants.{Int}
-use Rattle.c_tree.specs.declared.tree.UnaryOp.TheVariants.{Minus}
-use Rattle.c_tree.specs.declared.tree.BinaryOp.TheVariants.{Equal, Arith}
-use Rattle.c_types.specs.declared.kinds.ArithOp.TheVariants.{Sub}
-use Rattle.c_types.specs.Numbers.{greatest}
 use Rattle.c_tree.specs.Cases.{case_number, selector_source}
 use Rattle.c_tree.specs.Changed.{one}
-use Rattle.c_tree.specs.ExpressionTrees.{ExpressionTree, Typed, expression_tree}
-use Rattle.c_tree.specs.ExpressionTrees as PE
-use Rattle.c_tree.specs.declared.tree.Home.TheVariants as H
-use Rattle.c_tree.specs.Numerals.{number, constant, least_constant}
-use Rattle.c_tree.specs.Paths.{list_of}
-use Rattle.c_tree.specs.TestTrees as PT
-use Rattle.c_tree.specs.TestTrees.{TestTree, SelectorTree, test_tree, selector_tree}
+use Rattle.c_tree.specs.ExpressionTrees.{expression_tree}
+use Rattle.c_tree.specs.TestTrees.{test_tree, selector_tree}
 use Rattle.c_tree.specs.Trees as Plain
-use Rattle.c_tree.specs.declared.tree.Item as I
-use Rattle.std.proofs.lemmas.Int.{ints, to_z-of_z}
-use mir.Syntax.{w128}
-use mir.Val.{to_z, of_z}
 use Rattle.c_tree.specs.Trees.{Tree, Forest, Nil, Then, Sections, NoSection, trees_of, sections_of, expression_trees, join}
-use Rattle.c_tree.proofs.TreeLaws.{trees-none, trees-append, join-nil}
-use Rattle.c_tree.proofs.ExpressionLaws.{test-Source, selector-Source, selector-Pick}
-use Rattle.loose_core.specs.Pieces.{Aim, Stays, Becomes, Absent, mark_of, case_marks, assign_number, assign_cell, assigned_cells, is_number, third_items, test_or_one, zero_tree}
-use Rattle.flat_core.specs.FlatForm.{same_number, place_of}
+use Rattle.c_tree.proofs.TreeLaws.{trees-none, join-nil}
+use Rattle.loose_core.specs.Pieces.{mark_of, case_marks, assign_number}
 use Rattle.tree_views.specs.Views.{tree_at}
-use Rattle.tree_views.proofs.Views.{at-Evaluate, at-If, at-While, at-Do, at-For, at-Switch, at-Block, at-Goto, at-Mark, at-Break, at-Continue, at-Return, at-Local, at-Arm, at-Leap, at-Land, at-Note, at-Arrival, trees-first, trees-push, trees-at, trees-end, sections-at, sections-end}
-use Rattle.flat_items.proofs.Spelling.{typed, typed-Number, typed-Unary, typed-Binary, typed-Read, typed-Assign, typed-Cell, greatest_fits}
+use Rattle.tree_views.proofs.Views.{at-If, at-While, at-Do, at-For, at-Switch, at-Block, at-Goto, at-Mark, at-Break, at-Continue, at-Local, at-Arrival}
 use Rattle.flat_items.proofs.walk.+write.Goals as goal
-use Rattle.flat_core.specs.Parts.{Here, Breaks, past, past_item, inside, ending, ending_of, is_scattered, holds_jump, kept_breaks, ends_then}
+use Rattle.flat_core.specs.Parts.{past, past_item, ending, ending_of, is_scattered, holds_jump, kept_breaks, ends_then}
 use Rattle.c_tree.specs.Exits.{breaks, continues}
 use Rattle.c_tree.specs.declared.tree.Section.{out-Section}
-use Rattle.c_tree.specs.declared.tree.Item.{Item}
-use Rattle.flat_core.specs.FlatForm.{aim, flat, flat_item, flat_last, flat_last_item, flat_sections, spread, flat_loop, flat_for, if_breaks, end_goto, is_jumpy_switch}
+use Rattle.flat_core.specs.FlatForm.{aim, flat, flat_item, flat_last, flat_last_item, flat_sections, spread, flat_loop, flat_for, if_breaks, end_goto}
 use Rattle.loose_core.specs.Loose.{NoArrival}
 use Rattle.flat_parts.specs.Reading.{is_flagged, ending_as}
 use Rattle.flat_parts.proofs.EndLaws.{goes, ends_here}
-use Rattle.flat_items.specs.Forms.{entered_of, past_among, kept_form, scattered_form, section_form, with_parts, is_breaks, switch_breaks, loop_breaks, loop_continues}
+use Rattle.flat_items.specs.Forms.{entered_of, past_among, kept_form, scattered_form, section_form, with_parts, is_breaks, loop_breaks}
 use Rattle.flat_items.specs.Pieces.{behind}
 use Rattle.flat_items.specs.Plans.{plan_of, here_of, aim_of, arrivals_of, arrivals_if, case_names}
 use Rattle.c_tree.proofs.TreeLaws.{sections-none}
-use Rattle.flat_items.proofs.Joining.{joined, sections-push, behind_none}
+use Rattle.flat_items.proofs.Joining.{joined}
 use Rattle.flat_items.proofs.Steps.{same_here, still, past_If, past_While, past_Do, past_For, past_Block, place_step, place_end, walk_step, walk_end, last_step, last_here, last_end, place_step_in, place_end_in, sections_step, sections_end, spread_step, spread_end}
-use Rattle.flat_items.proofs.Arms.{past_kept, switch_item, last_other, past_other, breaks_is, other_end, ends_on, past_last, cases_record, inside_scattered, scattered_is, cases_are, local_is, section_made}
+use Rattle.flat_items.proofs.Arms.{same_item, past_kept, switch_item, last_other, past_other, breaks_is, other_end, ends_on, past_last, inside_scattered, scattered_is, cases_are, local_is}
 use Rattle.flat_items.proofs.Steps.{past_Switch}
 use Rattle.flat_core.specs.Parts.{switch_labels, cases_among}
 use Rattle.flat_core.specs.FlatForm.{otherwise_label, scatter_aim}
 use Rattle.jump_meaning.specs.Step.{switch_kind}
 use Rattle.flat_items.specs.Pieces.{number_tests}
 use Rattle.flat_items.specs.Plans.{number_label}
-use Rattle.flat_items.specs.Forms.{for_form, local_form}
+use Rattle.flat_items.specs.Forms.{for_form}
 
 pub write_list-returns-clause-place : goal.write_list-returns-clause-place
 write_list-returns-clause-place t c =
@@ -712,113 +693,21 @@ write_item-returns-in-Arrival-clause-items t c =
     let e = ap tree_at c.in-Arrival.is ∙ at-Arrival c.in-Arrival.case in
     on_ok_weaker c.write_arrival.result (λ f. f ∙ sym (ap (λ y. join out (flat_item p h b d r y)) e)) c.write_arrival.ensures.items
 
-pub write_item-returns-in-Evaluate-clause-place : goal.write_item-returns-in-Evaluate-clause-place
-write_item-returns-in-Evaluate-clause-place t c =
-    let p = plan_of c.args.plan.now in
-    let h = here_of c.args.here in
-    let e = ap tree_at c.in-Evaluate.is ∙ at-Evaluate c.in-Evaluate.field-0 in
-    IfOk-weaker c.write_same.result _ _ (λ it f. ap here_of f ∙ sym (still h) ∙ sym (ap (λ y. past_item y h) e)) c.write_same.ensures.place
-
-pub write_item-returns-in-Evaluate-clause-items : goal.write_item-returns-in-Evaluate-clause-items
-write_item-returns-in-Evaluate-clause-items t c =
+pub write_item-returns-in_default : goal.write_item-returns-in_default
+write_item-returns-in_default t c =
     let p = plan_of c.args.plan.now in
     let h = here_of c.args.here in
     let out = trees_of c.args.out.now in
     let b = aim_of c.args.scope.breaks in
     let d = aim_of c.args.scope.continues in
     let r = arrivals_of c.args.plan.now c.args.cases.now in
-    let e = ap tree_at c.in-Evaluate.is ∙ at-Evaluate c.in-Evaluate.field-0 in
-    on_ok_weaker c.write_same.result (λ f. f ∙ ap (λ y. join out (one y)) e ∙ sym (ap (λ y. join out (flat_item p h b d r y)) e)) c.write_same.ensures.items
-
-pub write_item-returns-in-Return-clause-place : goal.write_item-returns-in-Return-clause-place
-write_item-returns-in-Return-clause-place t c =
-    let p = plan_of c.args.plan.now in
-    let h = here_of c.args.here in
-    let e = ap tree_at c.in-Return.is ∙ at-Return c.in-Return.field-0 in
-    IfOk-weaker c.write_same-in-Return.result _ _ (λ it f. ap here_of f ∙ sym (still h) ∙ sym (ap (λ y. past_item y h) e)) c.write_same-in-Return.ensures.place
-
-pub write_item-returns-in-Return-clause-items : goal.write_item-returns-in-Return-clause-items
-write_item-returns-in-Return-clause-items t c =
-    let p = plan_of c.args.plan.now in
-    let h = here_of c.args.here in
-    let out = trees_of c.args.out.now in
-    let b = aim_of c.args.scope.breaks in
-    let d = aim_of c.args.scope.continues in
-    let r = arrivals_of c.args.plan.now c.args.cases.now in
-    let e = ap tree_at c.in-Return.is ∙ at-Return c.in-Return.field-0 in
-    on_ok_weaker c.write_same-in-Return.result (λ f. f ∙ ap (λ y. join out (one y)) e ∙ sym (ap (λ y. join out (flat_item p h b d r y)) e)) c.write_same-in-Return.ensures.items
-
-pub write_item-returns-in-Arm-clause-place : goal.write_item-returns-in-Arm-clause-place
-write_item-returns-in-Arm-clause-place t c =
-    let p = plan_of c.args.plan.now in
-    let h = here_of c.args.here in
-    let e = ap tree_at c.in-Arm.is ∙ at-Arm c.in-Arm.field-0 c.in-Arm.field-1 in
-    IfOk-weaker c.write_same-in-Arm.result _ _ (λ it f. ap here_of f ∙ sym (still h) ∙ sym (ap (λ y. past_item y h) e)) c.write_same-in-Arm.ensures.place
-
-pub write_item-returns-in-Arm-clause-items : goal.write_item-returns-in-Arm-clause-items
-write_item-returns-in-Arm-clause-items t c =
-    let p = plan_of c.args.plan.now in
-    let h = here_of c.args.here in
-    let out = trees_of c.args.out.now in
-    let b = aim_of c.args.scope.breaks in
-    let d = aim_of c.args.scope.continues in
-    let r = arrivals_of c.args.plan.now c.args.cases.now in
-    let e = ap tree_at c.in-Arm.is ∙ at-Arm c.in-Arm.field-0 c.in-Arm.field-1 in
-    on_ok_weaker c.write_same-in-Arm.result (λ f. f ∙ ap (λ y. join out (one y)) e ∙ sym (ap (λ y. join out (flat_item p h b d r y)) e)) c.write_same-in-Arm.ensures.items
-
-pub write_item-returns-in-Leap-clause-place : goal.write_item-returns-in-Leap-clause-place
-write_item-returns-in-Leap-clause-place t c =
-    let p = plan_of c.args.plan.now in
-    let h = here_of c.args.here in
-    let e = ap tree_at c.in-Leap.is ∙ at-Leap c.in-Leap.field-0 in
-    IfOk-weaker c.write_same-in-Leap.result _ _ (λ it f. ap here_of f ∙ sym (still h) ∙ sym (ap (λ y. past_item y h) e)) c.write_same-in-Leap.ensures.place
-
-pub write_item-returns-in-Leap-clause-items : goal.write_item-returns-in-Leap-clause-items
-write_item-returns-in-Leap-clause-items t c =
-    let p = plan_of c.args.plan.now in
-    let h = here_of c.args.here in
-    let out = trees_of c.args.out.now in
-    let b = aim_of c.args.scope.breaks in
-    let d = aim_of c.args.scope.continues in
-    let r = arrivals_of c.args.plan.now c.args.cases.now in
-    let e = ap tree_at c.in-Leap.is ∙ at-Leap c.in-Leap.field-0 in
-    on_ok_weaker c.write_same-in-Leap.result (λ f. f ∙ ap (λ y. join out (one y)) e ∙ sym (ap (λ y. join out (flat_item p h b d r y)) e)) c.write_same-in-Leap.ensures.items
-
-pub write_item-returns-in-Land-clause-place : goal.write_item-returns-in-Land-clause-place
-write_item-returns-in-Land-clause-place t c =
-    let p = plan_of c.args.plan.now in
-    let h = here_of c.args.here in
-    let e = ap tree_at c.in-Land.is ∙ at-Land c.in-Land.field-0 in
-    IfOk-weaker c.write_same-in-Land.result _ _ (λ it f. ap here_of f ∙ sym (still h) ∙ sym (ap (λ y. past_item y h) e)) c.write_same-in-Land.ensures.place
-
-pub write_item-returns-in-Land-clause-items : goal.write_item-returns-in-Land-clause-items
-write_item-returns-in-Land-clause-items t c =
-    let p = plan_of c.args.plan.now in
-    let h = here_of c.args.here in
-    let out = trees_of c.args.out.now in
-    let b = aim_of c.args.scope.breaks in
-    let d = aim_of c.args.scope.continues in
-    let r = arrivals_of c.args.plan.now c.args.cases.now in
-    let e = ap tree_at c.in-Land.is ∙ at-Land c.in-Land.field-0 in
-    on_ok_weaker c.write_same-in-Land.result (λ f. f ∙ ap (λ y. join out (one y)) e ∙ sym (ap (λ y. join out (flat_item p h b d r y)) e)) c.write_same-in-Land.ensures.items
-
-pub write_item-returns-in-Note-clause-place : goal.write_item-returns-in-Note-clause-place
-write_item-returns-in-Note-clause-place t c =
-    let p = plan_of c.args.plan.now in
-    let h = here_of c.args.here in
-    let e = ap tree_at c.in-Note.is ∙ at-Note c.in-Note.field-0 in
-    IfOk-weaker c.write_same-in-Note.result _ _ (λ it f. ap here_of f ∙ sym (still h) ∙ sym (ap (λ y. past_item y h) e)) c.write_same-in-Note.ensures.place
-
-pub write_item-returns-in-Note-clause-items : goal.write_item-returns-in-Note-clause-items
-write_item-returns-in-Note-clause-items t c =
-    let p = plan_of c.args.plan.now in
-    let h = here_of c.args.here in
-    let out = trees_of c.args.out.now in
-    let b = aim_of c.args.scope.breaks in
-    let d = aim_of c.args.scope.continues in
-    let r = arrivals_of c.args.plan.now c.args.cases.now in
-    let e = ap tree_at c.in-Note.is ∙ at-Note c.in-Note.field-0 in
-    on_ok_weaker c.write_same-in-Note.result (λ f. f ∙ ap (λ y. join out (one y)) e ∙ sym (ap (λ y. join out (flat_item p h b d r y)) e)) c.write_same-in-Note.ensures.items
+    let same =
+    same_item p h b d r c.args.item.now c.in_default.not-If c.in_default.not-While c.in_default.not-Do c.in_default.not-For c.in_default.not-Switch c.in_default.not-Block
+    c.in_default.not-Local c.in_default.not-Break c.in_default.not-Continue c.in_default.not-Goto c.in_default.not-Mark c.in_default.not-Arrival in
+    record {
+      place = IfOk-weaker c.write_same.result _ _ (λ it f. ap here_of f ∙ sym same.still) c.write_same.ensures.place;
+      items = on_ok_weaker c.write_same.result (λ f. f ∙ ap (join out) (sym same.stays)) c.write_same.ensures.items;
+    }
 
 pub write_item-returns-in_ok-after-in-For-clause-place : goal.write_item-returns-in_ok-after-in-For-clause-place
 write_item-returns-in_ok-after-in-For-clause-place t c =

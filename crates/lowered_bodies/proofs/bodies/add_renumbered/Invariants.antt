@@ -1,7 +1,7 @@
 use Rattle.std.proofs.Common.{◌≡◌}
 use Rattle.std.specs.Vec.Iter.{into_iter_items}
 use Rattle.c_tree.specs.Trees.{trees_of, join}
-use Rattle.lowered_bodies.specs.Places.{number_at}
+use Rattle.flat_items.specs.Plans.{number_at}
 use Rattle.lowered_bodies.specs.Renumbered.{renumbered}
 use Rattle.lowered_bodies.proofs.bodies.add_renumbered.Given as goal
 

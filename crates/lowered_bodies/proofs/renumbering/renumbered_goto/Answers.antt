@@ -1,6 +1,6 @@
 use Rattle.std.proofs.Common.{sym, ap, ◌∙◌}
 use Rattle.c_tree.specs.Trees.{trees_of}
-use Rattle.lowered_bodies.specs.Places.{number_at}
+use Rattle.flat_items.specs.Plans.{number_at}
 use Rattle.lowered_bodies.specs.Renumbered.{lone_goto}
 use Rattle.lowered_bodies.proofs.Layouts.{lone_long, set_lone}
 use Rattle.lowered_bodies.proofs.renumbering.renumbered_goto.Goals as goal

@@ -9,7 +9,8 @@ use Rattle.c_tree.specs.Trees.{Then, trees_of, sections_of, join}
 use Rattle.loose_core.specs.Pieces.{assign_number}
 use Rattle.flat_items.specs.Pieces.{number_tests}
 use Rattle.flat_items.proofs.Joining.{joined, one_more}
-use Rattle.lowered_items.specs.Plans.{here_of, number_label}
+use Rattle.flat_items.specs.Plans.{here_of}
+use Rattle.lowered_items.specs.Plans.{number_label}
 use Rattle.lowered_items.specs.Choices.{label_of, numbers_of, otherwise_of}
 use Rattle.lowered_items.proofs.cases.add_choice.Goals as goal
 

@@ -19,7 +19,8 @@ use Rattle.lowered_core.specs.Lowered.{jump_of, past, past_item, inside, lowered
 use Rattle.tree_views.specs.Views.{tree_at}
 use Rattle.tree_views.proofs.Views.{at-Evaluate, at-If, at-While, at-Do, at-For, at-Switch, at-Block, at-Goto, at-Mark, at-Break, at-Continue, at-Return, at-Local, at-Arm, at-Leap, at-Land, at-Note, at-Arrival}
 use Rattle.flat_items.proofs.Joining.{joined}
-use Rattle.lowered_items.specs.Plans.{layout_of, here_of, entered_at, aim_of, arrivals_of, arrivals_if, case_names}
+use Rattle.flat_items.specs.Plans.{here_of, aim_of, arrivals_if}
+use Rattle.lowered_items.specs.Plans.{layout_of, entered_at, arrivals_of, case_names}
 use Rattle.lowered_items.specs.Loops.{Frame, frame_of, framed, for_frame}
 use Rattle.lowered_items.specs.Choices.{AreCases, breaks_of, choice_form}
 use Rattle.lowered_items.specs.Forms.{past_among, then_part}

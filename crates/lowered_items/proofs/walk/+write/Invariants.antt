@@ -3,7 +3,8 @@ use Rattle.std.specs.Vec.Iter.{into_iter_items}
 use Rattle.c_tree.specs.Trees.{trees_of, sections_of, join}
 use Rattle.lowered_core.specs.Lowered.{past, lowered, lowered_among}
 use Rattle.lowered_items.specs.Forms.{past_among}
-use Rattle.lowered_items.specs.Plans.{layout_of, here_of, aim_of, arrivals_of, case_names}
+use Rattle.flat_items.specs.Plans.{here_of, aim_of}
+use Rattle.lowered_items.specs.Plans.{layout_of, arrivals_of, case_names}
 use Rattle.lowered_items.proofs.walk.+write.Given as goal
 
 abbrev pub invariant-write_list-loop-item : goal.invariant-write_list-loop-item

@@ -6,7 +6,7 @@ use Rattle.c_tree.specs.Trees.{Then, trees_of}
 use Rattle.c_tree.specs.declared.tree.Item as I
 use Rattle.c_tree.proofs.TreeLaws.{trees-none}
 use Rattle.tree_views.proofs.Views.{at-If, at-Goto, trees-first}
-use Rattle.lowered_items.proofs.values.jump.Goals as goal
+use Rattle.flat_items.proofs.values.jump.Goals as goal
 
 pub returns-in-Ok : goal.returns-in-Ok
 returns-in-Ok c =
