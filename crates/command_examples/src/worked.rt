@@ -112,17 +112,15 @@ fn first_unmet(alloc: Global, making: Making, cases: &'static [Worked]) -> Optio
 
 /// The first of all texts of which something else is made.
 fn unmet(alloc: Global, making: Making) -> Option<&'static str> {
-    for cases in [
-        WORKED.as_slice(),
-        EXAMPLES.as_slice(),
-        MORE_EXAMPLES.as_slice(),
-    ] {
-        let source = first_unmet(alloc, making, cases);
-        if source.is_some() {
-            return source;
-        }
+    let source = first_unmet(alloc, making, &WORKED);
+    if source.is_some() {
+        return source;
     }
-    None
+    let source = first_unmet(alloc, making, &EXAMPLES);
+    if source.is_some() {
+        return source;
+    }
+    first_unmet(alloc, making, &MORE_EXAMPLES)
 }
 
 #[test]

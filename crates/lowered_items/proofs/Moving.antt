@@ -1,15 +1,11 @@
 -- Items and initialisers that are moved, one after another.
-use Rattle.std.proofs.Common.{◌≡◌, ℕ, suc, ◌+◌, List, [], ◌∷◌, length, arith, refl, sym, ap, ◌∙◌}
+use Rattle.std.proofs.Common.{◌≡◌, List, [], ◌∷◌, length, arith, refl, sym, ap, ◌∙◌}
 use Rattle.std.specs.Vec.Iter.{into_iter_items, into_iter_len}
 use Rattle.std.specs.declared.vec.IntoIter.{IntoIter}
-use Rattle.c_types.specs.declared.kinds.IntKind.{IntKind}
 use Rattle.c_tree.specs.Changed.{one}
-use Rattle.c_tree.specs.declared.tree.Expression.{Expression}
 use Rattle.c_tree.specs.declared.tree.Item.{Item}
-use Rattle.c_tree.specs.ExpressionTrees.{expression_tree}
-use Rattle.c_tree.specs.Trees.{Forest, Then, Evaluate, trees_of, expression_trees, join}
+use Rattle.c_tree.specs.Trees.{Forest, trees_of, join}
 use Rattle.c_tree.proofs.TreeLaws.{join-nil, trees-none}
-use Rattle.loose_core.specs.Pieces.{assign_cell, assigned_cells}
 use Rattle.tree_views.specs.Views.{tree_at}
 use Rattle.tree_views.proofs.Views.{trees-first}
 use Rattle.flat_items.proofs.Joining.{one_more}

@@ -19,7 +19,7 @@ use Rattle.flat_items.proofs.Joining.{joined}
 use Rattle.flat_items.proofs.Tests.{tests_are}
 use Rattle.lowered_items.specs.declared.plans.Plan as L
 use Rattle.lowered_items.specs.declared.plans.Cases as C
-use Rattle.lowered_items.specs.Plans.{layout_of, entered_at, number_label, case_names}
+use Rattle.lowered_items.specs.Plans.{layout_of, labels_at, entered_at, number_label, case_names}
 use Rattle.lowered_items.specs.Loops.{Frame, framed, while_frame, do_frame, for_frame}
 use Rattle.lowered_items.specs.Choices.{AreCases, label_of, breaks_of, otherwise_of, choice_form}
 use Rattle.lowered_items.specs.Forms.{then_part, local_form}
@@ -83,18 +83,17 @@ for_breaks_are q h None u a = refl
 
 -- ---- an `if`
 
-pub if_is : (q : L.Plan) (h : Here) (b c : Aim) (r : Arrivals) (t : TestTree) (x y out one_out two_out last : Forest) → jump_of (layout_of q).plan.live x y ≡ None
+pub if_is : (q : L.Plan) (h : Here) (b c : Aim) (r : Arrivals) (t : TestTree) (x y out one_out last : Forest) → jump_of (layout_of q).plan.live x y ≡ None
     → one_out ≡ join out (one (jump_if t (7 * h.construct + 6)))
-    → two_out ≡ join one_out (lowered (layout_of q) (past x (entered_at h 0 0)) b c r y)
-    → last ≡ join two_out (then_part h.construct (lowered (layout_of q) (entered_at h 0 0) b c r x))
+    → last ≡ join one_out (join (lowered (layout_of q) (past x (entered_at h 0 0)) b c r y) (then_part (labels_at h.construct) (lowered (layout_of q) (entered_at h 0 0) b c r x)))
     → last ≡ join out (lowered_item (layout_of q) h b c r (If t x y))
-if_is q h b c r t x y out one_out two_out last none first second third =
+if_is q h b c r t x y out one_out last none first second =
     let p = layout_of q in
     let i = jump_if t (7 * h.construct + 6) in
     let ly = lowered p (past x (entered_at h 0 0)) b c r y in
     let lx = lowered p (entered_at h 0 0) b c r x in
-    let k = then_part h.construct lx in
-    third ∙ ap (λ z. join z k) (second ∙ ap (λ z. join z ly) first) ∙ joined (join out (one i)) ly k ∙ joined out (one i) (join ly k)
+    let k = join ly (then_part (labels_at h.construct) lx) in
+    second ∙ ap (λ z. join z k) first ∙ joined out (one i) k
     ∙ sym (ap (λ z. join out (lowered_if p h t z lx ly)) none)
 
 pub jump_is : (q : L.Plan) (h : Here) (b c : Aim) (r : Arrivals) (t : TestTree) (x y : Forest) (l : ℕ) → jump_of (layout_of q).plan.live x y ≡ Some l → one (jump_if t (7 * l)) ≡ lowered_item (layout_of q) h b c r (If t x y)

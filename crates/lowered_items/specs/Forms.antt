@@ -1,5 +1,5 @@
 -- What stands in the place of some kinds of items and of sections.
-use Rattle.std.specs.Prelude.{ℕ, ◌+◌, ◌*◌, List, Option, Some, None}
+use Rattle.std.specs.Prelude.{ℕ, ◌+◌, List, Option, Some, None}
 use Rattle.c_tree.specs.Changed.{one}
 use Rattle.c_tree.specs.Everywhere.{total_in}
 use Rattle.c_tree.specs.ExpressionTrees.{ExpressionTree}
@@ -9,15 +9,16 @@ use Rattle.loose_core.specs.Pieces.{Aim, Names, case_marks}
 use Rattle.loose_core.specs.Loose.{Arrives}
 use Rattle.flat_core.specs.Parts.{Here}
 use Rattle.flat_core.specs.FlatForm.{end_goto, initialised}
+use Rattle.lowered_items.specs.declared.plans.Labels.{Labels}
 use Rattle.lowered_core.specs.Lowered.{Layout, constructs_of, cases_of, variables_of, lowered}
 
 -- the numbers of what comes behind sections
 abbrev pub past_among : Sections → Here → Here
 past_among d h = record { construct = h.construct + total_in constructs_of d; case = h.case + total_in cases_of d; variable = h.variable + total_in variables_of d }
 
--- behind the else-list of an `if`, which is number k
-abbrev pub then_part : ℕ → Forest → Forest
-then_part k a = Then (Goto (7 * k + 1)) (Then (Mark (7 * k + 6)) (join a (one (Mark (7 * k + 1)))))
+-- behind the else-list of an `if` with these labels
+abbrev pub then_part : Labels → Forest → Forest
+then_part n a = Then (Goto n.behind) (Then (Mark n.list) (join a (one (Mark n.behind))))
 
 -- the list of a section of a switch, behind its labels
 abbrev pub part_form : Layout → Here → Aim → Aim → Names → Real.Section → Forest

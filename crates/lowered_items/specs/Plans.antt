@@ -1,7 +1,6 @@
 -- What the code takes of a function as the definition has it: labels by their codes, nested case labels.
 use Rattle.std.specs.Prelude.{ℕ, suc, ◌+◌, ◌*◌, ℤ, Option, Some, None}
 use Rattle.c_tree.specs.Cases.{case_number}
-use Rattle.c_tree.specs.ExpressionTrees.{ExpressionTree}
 use Rattle.c_tree.specs.Numerals.{constant}
 use Rattle.loose_core.specs.Pieces.{Names}
 use Rattle.loose_core.specs.Loose.{Arrivals}

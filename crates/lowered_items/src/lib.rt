@@ -4,6 +4,7 @@
 mod cases;
 mod jumps;
 mod loops;
+mod numbers;
 mod pieces;
 mod places;
 mod plans;

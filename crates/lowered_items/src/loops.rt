@@ -12,7 +12,6 @@ ghost use Rattle.flat_items.specs.Plans.{aim_of, here_of};
 ghost use Rattle.lowered_items.specs.Plans.{labels_at, entered_at};
 ghost use Rattle.tree_views.specs.Views.{tree_at};
 
-use crate::pieces::add_all;
 use crate::plans::{Inside, Labels, entered};
 use c_tree::{Expression, Item, Test};
 use c_types::{List, Memory};
@@ -62,16 +61,6 @@ pub fn add_test(
             Err(e)
         }
     }
-}
-
-/// What stands behind the else-list of an `if`: its then-list, between labels.
-pub fn add_then(labels: Labels, then: List<Item>, out: &mut List<Item>) -> Result<(), Memory>
-    ensures { OnOk result (trees_of out.new ≡ join (trees_of out.old) (Then (Goto labels.behind) (Then (Mark labels.list) (join (trees_of then) (one (Mark labels.behind)))))) }
-{
-    add_goto(labels.behind, out)?;
-    add_label(labels.list, out)?;
-    add_all(then, out)?;
-    add_label(labels.behind, out)
 }
 
 /// What `break` becomes in a loop behind which a label stands only if a goto leads there.

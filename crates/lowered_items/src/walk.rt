@@ -10,7 +10,7 @@ ghost use Rattle.loose_core.specs.Pieces.{Stays};
 ghost use Rattle.flat_core.specs.FlatForm.{mark_if, arrival, exit, first_here};
 ghost use Rattle.lowered_core.specs.Lowered.{past, past_item, lowered, lowered_item, lowered_among, variables_of};
 ghost use Rattle.lowered_core.specs.Straight.{jump_if};
-ghost use Rattle.lowered_items.specs.Forms.{past_among, part_form, local_form};
+ghost use Rattle.lowered_items.specs.Forms.{past_among, then_part, part_form, local_form};
 ghost use Rattle.lowered_items.specs.Loops.{frame_of, framed};
 ghost use Rattle.flat_items.specs.Plans.{aim_of, here_of};
 ghost use Rattle.lowered_items.specs.Plans.{layout_of, entered_at, arrivals_of, case_names};
@@ -18,9 +18,10 @@ ghost use Rattle.tree_views.specs.Views.{tree_at};
 
 use crate::cases::{add_arrival, add_case_marks, add_choice, no_cases};
 use crate::jumps::jump_of;
-use crate::loops::{Loop, add_test, add_then, do_loop, for_loop, while_loop};
+use crate::loops::{Loop, add_test, do_loop, for_loop, while_loop};
+use crate::numbers::behind_list;
 use crate::pieces::add_all;
-use crate::plans::{Cases, Plan, entered, source_label};
+use crate::plans::{Cases, Inside, Plan, entered, source_label};
 use c_tree::{Expression, Item, Section, Selector, Test};
 use c_types::{List, Memory};
 use flat_items::{
@@ -51,31 +52,6 @@ fn write_list(
     Ok(here)
 }
 
-/// A flat list, and the numbers of what comes behind it.
-#[derive(Drop)]
-struct Written {
-    items: List<Item>,
-    here: Here,
-}
-
-/// The flat list of a list as a list of its own.
-#[cycle(write)]
-fn write_apart(
-    alloc: Global,
-    plan: &Plan,
-    scope: Scope,
-    cases: &Cases,
-    list: List<Item>,
-    here: Here,
-) -> Result<Written, Memory>
-    ensures place { IfOk result (λ it. here_of it.here ≡ past (trees_of list) (here_of here)) }
-    ensures items { IfOk result (λ it. trees_of it.items ≡ lowered (layout_of plan.now) (here_of here) (aim_of scope.breaks) (aim_of scope.continues) (arrivals_of cases.now) (trees_of list)) }
-{
-    let mut items = List::new(alloc);
-    let here = write_list(alloc, plan, scope, cases, list, here, &mut items)?;
-    Ok(Written { items, here })
-}
-
 /// An `if` that stays.
 fn write_jump(
     alloc: Global,
@@ -97,6 +73,27 @@ fn write_jump(
             Err(e)
         }
     }
+}
+
+/// The then-list of an `if` between its labels.
+#[cycle(write)]
+fn write_then(
+    alloc: Global,
+    plan: &Plan,
+    scope: Scope,
+    cases: &Cases,
+    a: List<Item>,
+    opened: Inside,
+    out: &mut List<Item>,
+) -> Result<Here, Memory>
+    ensures place { IfOk result (λ it. here_of it ≡ past (trees_of a) (here_of opened.start)) }
+    ensures items { OnOk result (trees_of out.new ≡ join (trees_of out.old) (then_part opened.labels (lowered (layout_of plan.now) (here_of opened.start) (aim_of scope.breaks) (aim_of scope.continues) (arrivals_of cases.now) (trees_of a)))) }
+{
+    add_goto(opened.labels.behind, out)?;
+    add_label(opened.labels.list, out)?;
+    let after = write_list(alloc, plan, scope, cases, a, opened.start, out)?;
+    add_label(opened.labels.behind, out)?;
+    Ok(after)
 }
 
 /// A loop with this list, whose first part is there.
@@ -333,10 +330,14 @@ fn write_item(
             Some(label) => write_jump(alloc, test, label, here, out),
             None => {
                 let opened = add_test(alloc, test, here, out)?;
-                let then = write_apart(alloc, plan, scope, cases, a, opened.start)?;
-                let after = write_list(alloc, plan, scope, cases, b, then.here, out)?;
-                add_then(opened.labels, then.items, out)?;
-                Ok(after)
+                if b.is_empty() {
+                    write_then(alloc, plan, scope, cases, a, opened, out)
+                } else {
+                    let behind = behind_list(alloc, &a, opened.start)?;
+                    let after = write_list(alloc, plan, scope, cases, b, behind, out)?;
+                    write_then(alloc, plan, scope, cases, a, opened, out)?;
+                    Ok(after)
+                }
             }
         },
         Item::While(test, a) => write_while(alloc, plan, cases, a, test, here, out),
@@ -394,9 +395,10 @@ pub fn lower_list(
         case: 0,
         variable: variables,
     };
-    let Written { items, here } = write_apart(alloc, plan, scope, &none, body, here)?;
+    let mut items = List::new(alloc);
+    let after = write_list(alloc, plan, scope, &none, body, here, &mut items)?;
     Ok(Lowered {
         items,
-        variables: here.variable,
+        variables: after.variable,
     })
 }

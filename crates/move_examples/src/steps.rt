@@ -1,12 +1,11 @@
 //! Single simplifications that a report may name, in whatever order.
 
-use crate::printed::print_items;
+use crate::printed::{is_text, print_items};
 use body_simplify::apply_one;
 use c_tree::{Function, Item, Path, Test};
 use c_types::{IntKind, List, Memory, Name};
 use move_records::{Move, MoveKind};
 use std::alloc::Global;
-use std::test::Fail;
 
 fn name(alloc: Global, text: &str) -> Result<Name, Memory> {
     Ok(Name::from_string(String::from_str(alloc, text)?))
@@ -29,32 +28,44 @@ fn function(alloc: Global, body: List<Item>) -> Result<Function, Memory> {
     })
 }
 
-/// Whether the simplification is made that a move of this kind names, with this label, of this function, at
-/// an item of the body.
-fn makes(
-    alloc: Global,
-    made: &mut Function,
-    function: &str,
+/// A simplification of this kind, with this label, of a function at an item of its body; whether it is made, and the body
+/// then.
+struct Try {
+    function: &'static str,
     kind: MoveKind,
-    label: Option<&str>,
+    label: Option<&'static str>,
     item: u32,
-) -> Result<bool, Memory> {
-    let function = name(alloc, function)?;
-    let label = match label {
-        Some(label) => Some(name(alloc, label)?),
-        None => None,
-    };
-    let path = Path {
-        steps: List::new(alloc),
-        item,
-    };
-    let step = Move {
+    is_made: bool,
+    body: &'static str,
+}
+
+fn label_of(alloc: Global, label: Option<&str>) -> Result<Option<Name>, Memory> {
+    match label {
+        Some(label) => Ok(Some(name(alloc, label)?)),
+        None => Ok(None),
+    }
+}
+
+fn step_of(alloc: Global, it: &Try) -> Result<Move, Memory> {
+    let function = name(alloc, it.function)?;
+    let label = label_of(alloc, it.label)?;
+    Ok(Move {
         function,
-        kind,
+        kind: it.kind,
         label,
-        path,
-    };
-    apply_one(alloc, made, &step)
+        path: Path {
+            steps: List::new(alloc),
+            item: it.item,
+        },
+    })
+}
+
+/// Whether the simplification that a step names is made.
+fn makes(alloc: Global, made: &mut Function, it: &Try) -> Result<bool, Memory> {
+    let step = step_of(alloc, it)?;
+    let is_made = apply_one(alloc, made, &step);
+    drop(step);
+    is_made
 }
 
 fn shape(alloc: Global, function: &Function) -> Result<String, Memory> {
@@ -88,36 +99,105 @@ fn neighbours(alloc: Global) -> Result<Function, Memory> {
     function(alloc, body)
 }
 
-#[test]
-fn names_the_first_place_of_a_guard(rt: HostRuntime) -> Result<(), Fail> {
-    let alloc = rt.alloc();
-    let mut made = unread(alloc)?;
-    assert!(rt; !makes(alloc, &mut made, "main", MoveKind::Z1, None, 0)?);
-    assert!(rt; !makes(alloc, &mut made, "main", MoveKind::Z5, Some("first"), 1)?);
-    assert_eq!(rt; shape(alloc, &made)?.as_str(), "arm 0 land 0 ");
-    assert!(rt; makes(alloc, &mut made, "main", MoveKind::Z5, Some("first"), 0)?);
-    assert_eq!(rt; shape(alloc, &made)?.as_str(), "");
-    Ok(())
+fn is_met(alloc: Global, made: &mut Function, it: &Try) -> bool {
+    match makes(alloc, made, it) {
+        Ok(is_made) => is_made == it.is_made && is_text(shape(alloc, made), it.body),
+        Err(_) => false,
+    }
 }
 
-#[test]
-fn names_the_label_and_the_function(rt: HostRuntime) -> Result<(), Fail> {
-    let alloc = rt.alloc();
-    let mut made = unread(alloc)?;
-    assert!(rt; !makes(alloc, &mut made, "main", MoveKind::Z5, Some("second"), 0)?);
-    assert!(rt; !makes(alloc, &mut made, "f", MoveKind::Z5, Some("first"), 0)?);
-    Ok(())
+fn are_met(alloc: Global, made: &mut Function, tries: &[Try]) -> bool {
+    for it in tries {
+        if !is_met(alloc, made, it) {
+            return false;
+        }
+    }
+    true
 }
 
+/// Whether a function was made, of which all these are met, one after another.
+fn come_true(alloc: Global, made: Result<Function, Memory>, tries: &[Try]) -> bool {
+    match made {
+        Ok(made) => {
+            let mut made = made;
+            let met = are_met(alloc, &mut made, tries);
+            drop(made);
+            met
+        }
+        Err(_) => false,
+    }
+}
+
+/// Of a guard that nothing reads: a step names its first place, its label and the function.
+static UNREAD: [Try; 5] = [
+    Try {
+        function: "main",
+        kind: MoveKind::Z1,
+        label: None,
+        item: 0,
+        is_made: false,
+        body: "arm 0 land 0 ",
+    },
+    Try {
+        function: "main",
+        kind: MoveKind::Z5,
+        label: Some("first"),
+        item: 1,
+        is_made: false,
+        body: "arm 0 land 0 ",
+    },
+    Try {
+        function: "main",
+        kind: MoveKind::Z5,
+        label: Some("second"),
+        item: 0,
+        is_made: false,
+        body: "arm 0 land 0 ",
+    },
+    Try {
+        function: "f",
+        kind: MoveKind::Z5,
+        label: Some("first"),
+        item: 0,
+        is_made: false,
+        body: "arm 0 land 0 ",
+    },
+    Try {
+        function: "main",
+        kind: MoveKind::Z5,
+        label: Some("first"),
+        item: 0,
+        is_made: true,
+        body: "",
+    },
+];
+
 #[test]
-fn joins_neighbours_where_the_first_does_not_arm(rt: HostRuntime) -> Result<(), Fail> {
-    let alloc = rt.alloc();
-    let mut made = neighbours(alloc)?;
-    assert!(rt; !makes(alloc, &mut made, "main", MoveKind::Z3, Some("second"), 1)?);
-    assert!(rt; makes(alloc, &mut made, "main", MoveKind::Z3, Some("second"), 0)?);
-    assert_eq!(rt;
-        shape(alloc, &made)?.as_str(),
-        "if (off 1) {? arm 1 } if (off 1) {? } "
-    );
-    Ok(())
+fn names_the_first_place_the_label_and_the_function(rt: HostRuntime) {
+    assert!(rt; come_true(rt.alloc(), unread(rt.alloc()), &UNREAD));
+}
+
+/// Neighbours are joined where the first one doesn't arm.
+static NEIGHBOURS: [Try; 2] = [
+    Try {
+        function: "main",
+        kind: MoveKind::Z3,
+        label: Some("second"),
+        item: 1,
+        is_made: false,
+        body: "if (off 1) {? } if (off 1) {arm 1 } if (off 1) {? } ",
+    },
+    Try {
+        function: "main",
+        kind: MoveKind::Z3,
+        label: Some("second"),
+        item: 0,
+        is_made: true,
+        body: "if (off 1) {? arm 1 } if (off 1) {? } ",
+    },
+];
+
+#[test]
+fn joins_neighbours_where_the_first_does_not_arm(rt: HostRuntime) {
+    assert!(rt; come_true(rt.alloc(), neighbours(rt.alloc()), &NEIGHBOURS));
 }

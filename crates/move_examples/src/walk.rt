@@ -1,11 +1,11 @@
 //! The moves of a body in the order of the text, in lines.
 
-ghost use Rattle.std.specs.Prelude.{IsSome, OnOk};
+ghost use Rattle.std.specs.Prelude.{IsSome, IfOk, OnOk};
 ghost use Rattle.c_tree.specs.Trees.{trees_of};
 ghost use Rattle.c_tree.specs.WellMade.{IsWellMade};
 ghost use Rattle.label_offsets.specs.Marks.{label_at as the_label_at};
 
-use crate::printed::{print_items, print_path};
+use crate::printed::{is_text, print_items, print_path};
 use c_tree::{Item, Path};
 use c_types::{List, Memory};
 use goto_lifting::lift;
@@ -56,7 +56,7 @@ fn print_rule(alloc: Global, out: &mut String, body: &List<Item>, at: &Path) -> 
 
 /// Moves the first Leap until it is joined, then the next, and writes a line for each move: where
 /// the Leap and its Land stand, the rule, where the Leap then stands, and the body then.
-pub fn moves_of(alloc: Global, body: List<Item>) -> Result<String, Memory>
+fn moves_of(alloc: Global, body: List<Item>) -> Result<String, Memory>
     requires { IsWellMade (trees_of body) }
 {
     let mut body = body;
@@ -84,4 +84,14 @@ pub fn moves_of(alloc: Global, body: List<Item>) -> Result<String, Memory>
         print_items(alloc, &mut out, body.as_slice())?;
     }
     Ok(out)
+}
+
+/// Whether a body was made, and has these moves.
+pub fn has_moves(alloc: Global, body: Result<List<Item>, Memory>, want: &str) -> bool
+    requires { IfOk body (λ b. IsWellMade (trees_of b)) }
+{
+    match body {
+        Ok(body) => is_text(moves_of(alloc, body), want),
+        Err(_) => false,
+    }
 }

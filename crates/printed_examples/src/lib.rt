@@ -10,3 +10,5 @@ mod pieces;
 mod plain_forms;
 #[cfg(test)]
 mod postfix;
+#[cfg(test)]
+mod printing;

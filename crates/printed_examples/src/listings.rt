@@ -1,10 +1,7 @@
 //! Whole programs and the texts that they print as.
 
 use crate::postfix::program_of;
-use c_printer::print;
-use c_types::{Bytes, Memory};
-use std::alloc::Global;
-use std::test::Fail;
+use crate::printing::prints_as;
 use worked_texts::{
     CAPTURED_EXITS, COMMENTS_BETWEEN_CASES, DECLARATION_BEHIND_CASE, HIDING_NAMES, INTO_LOOP,
     LOOP_BY_HAND, NUMBERS_AND_BRACKETS, ONE_LABEL_TWO_JUMPS, SECTION_TO_SECTION, TWO_RESOURCES,
@@ -97,18 +94,11 @@ static LISTINGS: [Listing; 10] = [
     },
 ];
 
-fn printed(alloc: Global, words: &str) -> Result<Bytes, Memory> {
-    let program = program_of(alloc, words)?;
-    let text = print(alloc, &program);
-    drop(program);
-    text
-}
-
 #[test]
-fn prints_the_listings(rt: HostRuntime) -> Result<(), Fail> {
+fn prints_the_listings(rt: HostRuntime) {
     for listing in &LISTINGS {
-        let text = printed(rt.alloc(), listing.words)?;
-        assert_eq!(rt; text.as_slice(), listing.worked.text.as_bytes());
+        let program = program_of(rt.alloc(), listing.words);
+        let met = prints_as(rt.alloc(), program, listing.worked.text);
+        assert!(rt; met, "{}", listing.worked.text);
     }
-    Ok(())
 }

@@ -1,5 +1,6 @@
 ghost use Rattle.rg_ports.specs.Written.{Untold};
 
+use crate::printing::prints_as;
 use c_printer::{print, print_to};
 use c_tree::{
     BinaryOp, Expression, Function, GlobalVariable, Home, Item, Node, Place, Program, Section,
@@ -8,7 +9,6 @@ use c_tree::{
 use c_types::{ArithOp, Boxed, IntKind, List, Memory, Name};
 use rg_ports::{Failed, Sink};
 use std::alloc::Global;
-use std::test::Fail;
 
 fn two<T: Drop>(alloc: Global, first: T, second: T) -> Result<List<T>, Memory> {
     let mut list = List::new(alloc);
@@ -54,9 +54,16 @@ fn minus(alloc: Global, a: Expression) -> Result<Expression, Memory> {
 }
 
 fn arith(alloc: Global, op: ArithOp, a: Expression, b: Expression) -> Result<Expression, Memory> {
-    let a = Boxed::new(alloc, a)?;
-    let b = Boxed::new(alloc, b)?;
-    Ok(of(IntKind::Int, Node::Binary(BinaryOp::Arith(op), a, b)))
+    match Boxed::new(alloc, a) {
+        Ok(a) => {
+            let b = Boxed::new(alloc, b)?;
+            Ok(of(IntKind::Int, Node::Binary(BinaryOp::Arith(op), a, b)))
+        }
+        Err(e) => {
+            drop(b);
+            Err(e)
+        }
+    }
 }
 
 /// A function `f` with the slots `a` and `b`, of which so many are parameters.
@@ -103,8 +110,13 @@ fn minus_twice(alloc: Global) -> Result<Expression, Memory> {
 /// `(a - (b - 1)) * - -a`
 fn product(alloc: Global) -> Result<Expression, Memory> {
     let left = difference(alloc)?;
-    let right = minus_twice(alloc)?;
-    arith(alloc, ArithOp::Mul, left, right)
+    match minus_twice(alloc) {
+        Ok(right) => arith(alloc, ArithOp::Mul, left, right),
+        Err(e) => {
+            drop(left);
+            Err(e)
+        }
+    }
 }
 
 fn constants(alloc: Global) -> Result<List<Top>, Memory> {
@@ -114,26 +126,23 @@ fn constants(alloc: Global) -> Result<List<Top>, Memory> {
 }
 
 fn numbers(alloc: Global) -> Result<Program, Memory> {
+    let mut tops = constants(alloc)?;
     let product = product(alloc)?;
     let body = one(alloc, Item::Return(Some(product)))?;
     let function = function(alloc, 2, body)?;
-    let mut tops = constants(alloc)?;
     tops.push(function)?;
     Ok(Program { tops })
 }
 
 #[test]
-fn prints_suffixes_and_brackets(rt: HostRuntime) -> Result<(), Fail> {
-    let program = numbers(rt.alloc())?;
-    let text = print(rt.alloc(), &program)?;
+fn prints_suffixes_and_brackets(rt: HostRuntime) {
     let want = "long l = 2147483648L;
 unsigned u = 4294967295U;
 int f(int a, int b) {
     return (a - (b - 1)) * - -a;
 }
 ";
-    assert_eq!(rt; text.as_slice(), want.as_bytes());
-    Ok(())
+    assert!(rt; prints_as(rt.alloc(), numbers(rt.alloc()), want));
 }
 
 fn section(alloc: Global, constant: Node, list: List<Item>) -> Result<Section, Memory> {
@@ -175,10 +184,13 @@ fn program(alloc: Global, item: Item) -> Result<Program, Memory> {
     Ok(Program { tops })
 }
 
+fn switching(alloc: Global) -> Result<Program, Memory> {
+    let item = switch(alloc)?;
+    program(alloc, item)
+}
+
 #[test]
-fn prints_null_statements_in_sections(rt: HostRuntime) -> Result<(), Fail> {
-    let program = program(rt.alloc(), switch(rt.alloc())?)?;
-    let text = print(rt.alloc(), &program)?;
+fn prints_null_statements_in_sections(rt: HostRuntime) {
     let want = "int f(int a) {
     switch (a) {
     case '\\000':
@@ -192,8 +204,7 @@ fn prints_null_statements_in_sections(rt: HostRuntime) -> Result<(), Fail> {
     }
 }
 ";
-    assert_eq!(rt; text.as_slice(), want.as_bytes());
-    Ok(())
+    assert!(rt; prints_as(rt.alloc(), switching(rt.alloc()), want));
 }
 
 /// Keeps the length of the longest piece and of all.
@@ -226,16 +237,40 @@ fn nested(alloc: Global, levels: u32) -> Result<Item, Memory> {
     Ok(item)
 }
 
-#[test]
-fn prints_deep_nesting_in_short_pieces(rt: HostRuntime) -> Result<(), Fail> {
-    let program = program(rt.alloc(), nested(rt.alloc(), 400)?)?;
-    let text = print(rt.alloc(), &program)?;
+fn deep(alloc: Global) -> Result<Program, Memory> {
+    let item = nested(alloc, 400)?;
+    program(alloc, item)
+}
+
+/// Whether the longest piece in which a program is printed has 4,096 bytes, and all together those of its text.
+fn is_in_short_pieces(alloc: Global, program: &Program) -> bool {
     let mut out = Lengths {
         longest: 0,
         total: 0,
     };
-    assert!(rt; print_to(&program, &mut out).is_ok());
-    assert_eq!(rt; out.longest, 4096);
-    assert_eq!(rt; out.total, text.len());
-    Ok(())
+    let all = print_to(program, &mut out).is_ok() && out.longest == 4096;
+    match print(alloc, program) {
+        Ok(text) => {
+            let same = out.total == text.len();
+            drop(text);
+            all && same
+        }
+        Err(_) => false,
+    }
+}
+
+fn prints_in_short_pieces(alloc: Global, program: Result<Program, Memory>) -> bool {
+    match program {
+        Ok(program) => {
+            let met = is_in_short_pieces(alloc, &program);
+            drop(program);
+            met
+        }
+        Err(_) => false,
+    }
+}
+
+#[test]
+fn prints_deep_nesting_in_short_pieces(rt: HostRuntime) {
+    assert!(rt; prints_in_short_pieces(rt.alloc(), deep(rt.alloc())));
 }

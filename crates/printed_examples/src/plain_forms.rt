@@ -1,13 +1,12 @@
 //! Programs after their moves, and the texts of their plain forms.
 
 use crate::postfix::program_of;
+use crate::printing::prints_as;
 use c_copies::names;
-use c_printer::print;
 use c_tree::Program;
-use c_types::{Bytes, Memory};
+use c_types::Memory;
 use plain_form::plain;
 use std::alloc::Global;
-use std::test::Fail;
 use worked_texts::{
     CAPTURED_EXITS, INTO_DEFAULT, LABELS_IN_IF, LOOP_BY_HAND, NUMBERS_AND_BRACKETS,
     PAST_INITIALISER, SECTION_TO_SECTION, Worked,
@@ -237,27 +236,20 @@ fn plain_of(alloc: Global, words: &str) -> Result<Program, Memory> {
     }
 }
 
-fn printed(alloc: Global, words: &str) -> Result<Bytes, Memory> {
-    let made = plain_of(alloc, words)?;
-    let text = print(alloc, &made);
-    drop(made);
-    text
-}
-
 #[test]
-fn gives_the_worked_forms(rt: HostRuntime) -> Result<(), Fail> {
+fn gives_the_worked_forms(rt: HostRuntime) {
     for form in &WORKED_FORMS {
-        let text = printed(rt.alloc(), form.words)?;
-        assert_eq!(rt; text.as_slice(), form.worked.text.as_bytes());
+        let made = plain_of(rt.alloc(), form.words);
+        let met = prints_as(rt.alloc(), made, form.worked.text);
+        assert!(rt; met, "{}", form.worked.text);
     }
-    Ok(())
 }
 
 #[test]
-fn gives_the_plain_forms(rt: HostRuntime) -> Result<(), Fail> {
+fn gives_the_plain_forms(rt: HostRuntime) {
     for form in &PLAIN_FORMS {
-        let text = printed(rt.alloc(), form.words)?;
-        assert_eq!(rt; text.as_slice(), form.text.as_bytes());
+        let made = plain_of(rt.alloc(), form.words);
+        let met = prints_as(rt.alloc(), made, form.text);
+        assert!(rt; met, "{}", form.text);
     }
-    Ok(())
 }

@@ -195,10 +195,33 @@ impl Builder {
     }
 
     fn item(&mut self, item: Item) -> Result<(), Memory> {
-        let mut list = self.lists.pop().ok_or(Memory)?;
-        list.push(item)?;
-        self.lists.push(list)?;
-        Ok(())
+        match self.lists.last_mut() {
+            Some(list) => list.push(item),
+            None => {
+                drop(item);
+                Err(Memory)
+            }
+        }
+    }
+
+    /// The expression before, where it is given.
+    fn given(&mut self, is_given: bool) -> Result<Option<Expression>, Memory> {
+        if !is_given {
+            return Ok(None);
+        }
+        match self.pop() {
+            Ok(given) => Ok(Some(given)),
+            Err(e) => Err(e),
+        }
+    }
+
+    /// The last so many expressions, where their number is given.
+    fn values(&mut self, count: &str) -> Result<Option<List<Expression>>, Memory> {
+        if count == "" {
+            return Ok(None);
+        }
+        let values = self.operands(number_of(count)?)?;
+        Ok(Some(values))
     }
 
     fn list(&mut self) -> Result<List<Item>, Memory> {
@@ -339,8 +362,9 @@ impl Builder {
                 self.push(int(Node::Count(place, up, after)))
             }
             "f" => {
+                let count = number_of(word.second)?;
                 let name = name_of(self.alloc, word.first)?;
-                let arguments = self.operands(number_of(word.second)?)?;
+                let arguments = self.operands(count)?;
                 self.push(int(Node::Call(name, arguments)))
             }
             _ => self.simple(word),
@@ -354,11 +378,7 @@ impl Builder {
                 self.item(Item::Evaluate(value))
             }
             "return" => {
-                let value = if word.first == "void" {
-                    None
-                } else {
-                    Some(self.pop()?)
-                };
+                let value = self.given(word.first != "void")?;
                 self.item(Item::Return(value))
             }
             "break" => self.item(Item::Break),
@@ -370,12 +390,9 @@ impl Builder {
                 self.item(Item::Note(bytes))
             }
             "local" => {
-                let given = if word.second == "" {
-                    None
-                } else {
-                    Some(self.operands(number_of(word.second)?)?)
-                };
-                self.item(Item::Local(number_of(word.first)?, given))
+                let at = number_of(word.first)?;
+                let given = self.values(word.second)?;
+                self.item(Item::Local(at, given))
             }
             "{" => {
                 self.lists.push(List::new(self.alloc))?;
@@ -404,8 +421,8 @@ impl Builder {
                 self.item(Item::While(test, body))
             }
             "do" => {
-                let test = self.test(word)?;
                 let body = self.list()?;
+                let test = self.test(word)?;
                 self.item(Item::Do(body, test))
             }
             "block" => {
@@ -423,23 +440,21 @@ impl Builder {
     fn for_loop(&mut self, word: Word<'_>) -> Result<(), Memory> {
         let body = self.list()?;
         let first = self.list()?;
-        let step = if word.second == "step" {
-            Some(self.pop()?)
-        } else {
-            None
-        };
-        let test = if word.first == "test" {
-            Some(self.pop()?)
-        } else {
-            None
-        };
-        self.item(Item::For(first, test, step, body))
+        let step = self.given(word.second == "step")?;
+        match self.given(word.first == "test") {
+            Ok(test) => self.item(Item::For(first, test, step, body)),
+            Err(e) => {
+                drop(step);
+                Err(e)
+            }
+        }
     }
 
     /// `section:2:default:ends`, with two cases before its list.
     fn section(&mut self, word: Word<'_>) -> Result<(), Memory> {
+        let count = number_of(word.first)?;
         let list = self.list()?;
-        let cases = self.operands(number_of(word.first)?)?;
+        let cases = self.operands(count)?;
         self.sections.push(Section {
             cases,
             default: word.second == "default",
@@ -499,12 +514,9 @@ impl Builder {
     fn jump(&mut self, word: Word<'_>) -> Result<(), Memory> {
         match word.operator {
             "arm" => {
-                let given = if word.second == "given" {
-                    Some(self.pop()?)
-                } else {
-                    None
-                };
-                self.item(Item::Arm(number_of(word.first)?, given))
+                let label = number_of(word.first)?;
+                let given = self.given(word.second == "given")?;
+                self.item(Item::Arm(label, given))
             }
             "leap" => self.item(Item::Leap(number_of(word.first)?)),
             "land" => self.item(Item::Land(number_of(word.first)?)),
@@ -521,12 +533,14 @@ impl Builder {
             "on" => self.push_test(Test::On(number_of(word.first)?)),
             "off" => self.push_test(Test::Off(number_of(word.first)?)),
             "and_off" => {
+                let label = number_of(word.first)?;
                 let rest = self.inner_test()?;
-                self.push_test(Test::AndOff(number_of(word.first)?, rest))
+                self.push_test(Test::AndOff(label, rest))
             }
             "or_on" => {
+                let label = number_of(word.first)?;
                 let rest = self.inner_test()?;
-                self.push_test(Test::OrOn(number_of(word.first)?, rest))
+                self.push_test(Test::OrOn(label, rest))
             }
             _ => self.guard_selector(word),
         }
@@ -539,9 +553,10 @@ impl Builder {
                 self.push_selector(Selector::Source(selector))
             }
             "pick" => {
+                let label = number_of(word.first)?;
                 let number = word.second.parse::<i128>().map_err(|_| Memory)?;
                 let rest = self.inner_selector()?;
-                self.push_selector(Selector::Pick(number_of(word.first)?, number, rest))
+                self.push_selector(Selector::Pick(label, number, rest))
             }
             _ => Err(Memory),
         }
@@ -550,11 +565,7 @@ impl Builder {
     /// `constant:name:given`, with its value before where it is given.
     fn constant(&mut self, word: Word<'_>) -> Result<(), Memory> {
         let name = name_of(self.alloc, word.first)?;
-        let given = if word.second == "given" {
-            Some(self.pop()?)
-        } else {
-            None
-        };
+        let given = self.given(word.second == "given")?;
         self.constants.push(EnumItem {
             name,
             given,
@@ -576,11 +587,7 @@ impl Builder {
     /// `global:count` is the last variable made, with so many initialisers.
     fn global(&mut self, word: Word<'_>) -> Result<(), Memory> {
         let slot = self.slots.pop().ok_or(Memory)?;
-        let init = if word.first == "" {
-            None
-        } else {
-            Some(self.operands(number_of(word.first)?)?)
-        };
+        let init = self.values(word.first)?;
         self.tops.push(Top::Global(GlobalVariable {
             slot,
             init,
@@ -590,6 +597,7 @@ impl Builder {
 
     /// `function:name:kind:parameters`, or `flat_function`, takes the variables and labels made before.
     fn function(&mut self, word: Word<'_>, body: Option<List<Item>>) -> Result<(), Memory> {
+        let params = number_of(word.third)?;
         let name = name_of(self.alloc, word.first)?;
         let slots = List::from_vec(self.slots.take(self.alloc));
         let labels = List::from_vec(self.labels.take(self.alloc));
@@ -597,7 +605,7 @@ impl Builder {
             name,
             result: kind_of(word.second),
             file_only: word.operator == "static_function" || word.operator == "static_prototype",
-            params: number_of(word.third)?,
+            params,
             slots,
             labels,
             body,
@@ -606,11 +614,24 @@ impl Builder {
     }
 }
 
-/// The program that the words make.
-pub fn program_of(alloc: Global, words: &str) -> Result<Program, Memory> {
-    let mut builder = Builder::new(alloc);
+fn build(builder: &mut Builder, words: &str) -> Result<(), Memory> {
     for text in words.split(' ') {
         builder.atom(word_of(text))?;
     }
-    Ok(Program { tops: builder.tops })
+    Ok(())
+}
+
+/// The program that the words make.
+pub fn program_of(alloc: Global, words: &str) -> Result<Program, Memory> {
+    let mut builder = Builder::new(alloc);
+    let built = build(&mut builder, words);
+    let tops = List::from_vec(builder.tops.take(alloc));
+    drop(builder);
+    match built {
+        Ok(()) => Ok(Program { tops }),
+        Err(e) => {
+            drop(tops);
+            Err(e)
+        }
+    }
 }

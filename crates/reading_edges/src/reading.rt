@@ -2,7 +2,7 @@ use c_printer::print;
 use c_reading::read;
 use c_scopes::FlatCounter;
 use c_tree::Item;
-use c_types::{List, Memory, ReadStop};
+use c_types::{Bytes, List, Memory, ReadStop};
 use std::alloc::Global;
 
 /// Counts no jumps, so that no function is too tangled.
@@ -30,13 +30,25 @@ pub fn is_refused(alloc: Global, text: &[u8], reason: u32, at: u64) -> bool {
     }
 }
 
+fn are_bytes(bytes: Result<Bytes, Memory>, printed: &[u8]) -> bool {
+    match bytes {
+        Ok(bytes) => {
+            let same = bytes.as_slice() == printed;
+            drop(bytes);
+            same
+        }
+        Err(_) => false,
+    }
+}
+
 /// Whether a text reads as a program that is printed so.
 pub fn is_printed(alloc: Global, text: &[u8], printed: &[u8]) -> bool {
     match read(alloc, &NoJumps, text) {
-        Ok(program) => match print(alloc, &program) {
-            Ok(bytes) => bytes.as_slice() == printed,
-            Err(_) => false,
-        },
+        Ok(program) => {
+            let bytes = print(alloc, &program);
+            drop(program);
+            are_bytes(bytes, printed)
+        }
         Err(_) => false,
     }
 }

@@ -1,8 +1,8 @@
 use c_reading::read;
 use c_scopes::FlatCounter;
-use c_tree::Item;
+use c_tree::{Item, Program};
 use c_types::{Bytes, List, Memory, Name};
-use rg_ports::{MemSink, MemSource, Sink, Source};
+use rg_ports::{MemSink, MemSource};
 use std::alloc::Global;
 use step_interp::{Entry, RunAnswer, is_entry, run};
 
@@ -45,38 +45,96 @@ fn entry_of(alloc: Global, name: &str, arguments: &[i128]) -> Option<Entry> {
     })
 }
 
-/// Runs the text of a case; `None` where that is no program with the entry, or memory is refused.
-fn run_case(
+/// Runs a program; `None` where it has no such entry.
+fn run_entry(
     alloc: Global,
-    case: &Case<'_>,
-    input: &mut MemSource,
-    out: &mut MemSink,
+    program: &Program,
+    entry: &Entry,
+    budget: u64,
+    ports: &mut Ports,
 ) -> Option<RunAnswer> {
-    let program = read(alloc, &NoJumps, case.text).ok()?;
-    let entry = entry_of(alloc, case.entry, case.arguments)?;
-    if !is_entry(&program, &entry) {
+    if !is_entry(program, entry) {
         return None;
     }
-    Some(run(alloc, &program, &entry, case.budget, input, out))
+    Some(run(
+        alloc,
+        program,
+        entry,
+        budget,
+        &mut ports.source,
+        &mut ports.sink,
+    ))
 }
 
-/// Whether the run of a case comes to its answer, its output and what it leaves; `None` where memory is
-/// refused.
-fn holds(alloc: Global, case: &Case<'_>) -> Option<bool> {
-    let start = Bytes::from_slice(alloc, case.input).ok()?;
-    let failing_reads = List::from_slice(alloc, case.failing_reads).ok()?;
-    let mut source = MemSource::new(alloc, start, failing_reads).ok()?;
-    let failing_writes = List::from_slice(alloc, case.failing_writes).ok()?;
-    let mut sink = MemSink::new(alloc, List::new(alloc), failing_writes).ok()?;
-    sink.reserve(1000).ok()?;
-    let answer = run_case(alloc, case, &mut source, &mut sink)?;
-    Some(answer == case.answer && sink.bytes() == case.output && source.rest() == case.left)
+/// Runs the text of a case; `None` where that is no program with the entry, or memory is refused.
+fn run_case(alloc: Global, case: &Case<'_>, ports: &mut Ports) -> Option<RunAnswer> {
+    let entry = entry_of(alloc, case.entry, case.arguments)?;
+    let program = read(alloc, &NoJumps, case.text).ok()?;
+    let answer = run_entry(alloc, &program, &entry, case.budget, ports);
+    drop(program);
+    answer
+}
+
+/// The input of a run, and its output.
+#[derive(Drop)]
+struct Ports {
+    source: MemSource,
+    sink: MemSink,
+}
+
+fn source_of(alloc: Global, case: &Case<'_>) -> Result<MemSource, Memory> {
+    let start = Bytes::from_slice(alloc, case.input)?;
+    let failing = List::from_slice(alloc, case.failing_reads)?;
+    MemSource::new(alloc, start, failing)
+}
+
+fn sink_of(alloc: Global, case: &Case<'_>) -> Result<MemSink, Memory> {
+    let failing = List::from_slice(alloc, case.failing_writes)?;
+    let mut sink = MemSink::new(alloc, List::new(alloc), failing)?;
+    match sink.reserve(1000) {
+        Ok(()) => Ok(sink),
+        Err(e) => {
+            drop(sink);
+            Err(e)
+        }
+    }
+}
+
+fn ports_of(alloc: Global, case: &Case<'_>) -> Result<Ports, Memory> {
+    let source = source_of(alloc, case)?;
+    match sink_of(alloc, case) {
+        Ok(sink) => Ok(Ports { source, sink }),
+        Err(e) => {
+            drop(source);
+            Err(e)
+        }
+    }
+}
+
+fn is_met(case: &Case<'_>, answer: Option<RunAnswer>, ports: &Ports) -> bool {
+    answer == Some(case.answer)
+        && ports.sink.bytes() == case.output
+        && ports.source.rest() == case.left
+}
+
+/// Whether the run of a case comes to its answer, its output and what it leaves.
+fn holds(alloc: Global, case: &Case<'_>) -> bool {
+    match ports_of(alloc, case) {
+        Ok(ports) => {
+            let mut ports = ports;
+            let answer = run_case(alloc, case, &mut ports);
+            let met = is_met(case, answer, &ports);
+            drop(ports);
+            met
+        }
+        Err(_) => false,
+    }
 }
 
 /// The place of the first case that doesn't hold, or their number.
 pub fn first_wrong(alloc: Global, cases: &[Case<'_>]) -> usize {
     for (at, case) in cases.iter().enumerate() {
-        if holds(alloc, case) != Some(true) {
+        if !holds(alloc, case) {
             return at;
         }
     }

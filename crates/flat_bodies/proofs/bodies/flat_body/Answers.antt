@@ -1,21 +1,12 @@
-use Rattle.std.proofs.Common.{◌≡◌, ℕ, not, cond, drop, take, suc, ◌+◌, ◌-◌, ◌*◌, ◌<◌, ◌≤◌, ◌++◌, ◌||◌, ◌∷◌, [], map, length, get_or, true, false, Option, Some, None, option_map, append_assoc, refl, sym, ap, ◌∙◌, rules, arith}
-use Rattle.std.proofs.lemmas.Result.{on_ok_weaker, IfOk-weaker}
-use Rattle.std.proofs.lemmas.List.{at_drop_more, at_drop_all, append-nil, length-map}
-use Rattle.c_tree.specs.Cases.{case_number}
-use Rattle.c_tree.specs.Paths.{list_of}
-use Rattle.c_tree.specs.TestTrees.{test_tree, selector_tree}
-use Rattle.c_tree.specs.declared.tree.Section.{Section}
-use Rattle.c_tree.specs.Trees.{Tree, Forest, Sections, trees_of, sections_of}
-use Rattle.tree_views.specs.Views.{tree_at}
-use Rattle.tree_views.proofs.Views.{at-If, at-For, at-Switch}
-use Rattle.tree_views.proofs.Collecting.{collected, collected_all, collected_in, collected_all_in}
+use Rattle.std.proofs.Common.{ℕ, length, ap, ◌∙◌}
+use Rattle.c_tree.specs.Trees.{trees_of}
 use Rattle.c_tree.specs.Numerals.{constant}
 use Rattle.loose_core.specs.Loose.{NoArrival}
 use Rattle.loose_core.specs.Pieces.{Stays}
 use Rattle.flat_core.specs.FlatForm.{Plan, flat, coded, numbered, first_here, marks}
-use Rattle.flat_items.specs.Plans.{plan_of, number_at}
+use Rattle.flat_items.specs.Plans.{plan_of}
 use Rattle.flat_core.specs.FlatForm.{place_in}
-use Rattle.flat_bodies.specs.Codes.{label_codes, with_places}
+use Rattle.flat_bodies.specs.Codes.{label_codes}
 use Rattle.flat_bodies.proofs.PlanLaws.{IsCoded, coded_is, numbered_is}
 use Rattle.flat_bodies.proofs.bodies.flat_body.Goals as goal
 

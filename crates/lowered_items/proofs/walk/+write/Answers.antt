@@ -14,7 +14,6 @@ use Rattle.flat_core.specs.Parts.{switch_labels, cases_among}
 use Rattle.flat_core.specs.FlatForm.{end_goto}
 use Rattle.jump_meaning.specs.Step.{switch_kind}
 use Rattle.flat_parts.specs.Reading.{is_flagged}
-use Rattle.lowered_items.specs.declared.plans.Labels as N
 use Rattle.lowered_core.specs.Lowered.{jump_of, past, past_item, inside, lowered, lowered_item, lowered_among, lowered_for, for_aim, continue_aim}
 use Rattle.tree_views.specs.Views.{tree_at}
 use Rattle.tree_views.proofs.Views.{at-Evaluate, at-If, at-While, at-Do, at-For, at-Switch, at-Block, at-Goto, at-Mark, at-Break, at-Continue, at-Return, at-Local, at-Arm, at-Leap, at-Land, at-Note, at-Arrival}
@@ -24,8 +23,8 @@ use Rattle.lowered_items.specs.Plans.{layout_of, entered_at, arrivals_of, case_n
 use Rattle.lowered_items.specs.Loops.{Frame, frame_of, framed, for_frame}
 use Rattle.lowered_items.specs.Choices.{AreCases, breaks_of, choice_form}
 use Rattle.lowered_items.specs.Forms.{past_among, then_part}
-use Rattle.lowered_items.proofs.Steps.{still, past_If, past_While, past_Do, past_For, past_Block, past_Switch, place_step, place_end, walk_step, walk_end, place_step_in, place_end_in, parts_step, parts_end, past_jump}
-use Rattle.lowered_items.proofs.Shapes.{framed_is, parts_joined, while_is, do_is, for_is, for_breaks_are, if_is, jump_is, switch_is, local_is}
+use Rattle.lowered_items.proofs.Steps.{same_here, still, past_If, past_While, past_Do, past_For, past_Block, past_Switch, place_step, place_end, walk_step, walk_end, place_step_in, place_end_in, parts_step, parts_end, past_jump}
+use Rattle.lowered_items.proofs.Shapes.{framed_is, then_joined, parts_joined, while_is, do_is, for_is, for_breaks_are, if_is, jump_is, switch_is, local_is}
 use Rattle.lowered_items.proofs.Moving.{emptied}
 use Rattle.lowered_items.proofs.walk.+write.Goals as goal
 
@@ -67,16 +66,21 @@ write_list-returns-clause-items t c =
     let o = trees_of c.loop-item.out in
     walk_end p b d r k o _ (sym (ap (λ z. join o (lowered p k b d r (trees_of z))) (emptied c.loop-item.item-iterator c.in-None.ensures.steps.0)) ∙ c.loop-item.invariant.items)
 
-pub write_apart-returns-clause-items : goal.write_apart-returns-clause-items
-write_apart-returns-clause-items t c =
+pub write_then-returns-clause-place : goal.write_then-returns-clause-place
+write_then-returns-clause-place t c =
+    c.in_ok-after.ensures.place
+
+pub write_then-returns-clause-items : goal.write_then-returns-clause-items
+write_then-returns-clause-items t c =
     let q = c.args.plan.now in
     let p = layout_of q in
-    let h = here_of c.args.here in
     let b = aim_of c.args.scope.breaks in
     let d = aim_of c.args.scope.continues in
     let r = arrivals_of c.args.cases.now in
-    let y = lowered p h b d r (trees_of c.args.list) in
-    c.in_ok-here.ensures.items ∙ ap (λ z. join (trees_of z) y) c.new-items.ensures ∙ ap (λ z. join z y) trees-none
+    let out = trees_of c.args.out.now in
+    let n = c.args.opened.labels in
+    then_joined out (lowered p (here_of c.args.opened.start) b d r (trees_of c.args.a)) (Plain.Goto n.behind) (Plain.Mark n.list) (Plain.Mark n.behind) _ _ _ _
+    c.in_ok-add_goto.ensures c.in_ok-add_label.ensures c.in_ok-after.ensures.items c.in_ok-add_label-2.ensures
 
 pub write_loop-returns-clause-place : goal.write_loop-returns-clause-place
 write_loop-returns-clause-place t c =
@@ -574,19 +578,19 @@ write_item-returns-in-Some-clause-items t c =
     let jump = sym (c.jump_of.ensures ∙ ap (λ z. jump_of (is_flagged z) a e) c.as_slice-named.ensures.value) in
     on_ok_weaker c.write_jump.result (λ f. f ∙ ap (join out) (jump_is q h b d r t' a e c.in-Some.label (jump ∙ c.in-Some.is)) ∙ sym (ap (λ y. join out (lowered_item p h b d r y)) is)) c.write_jump.ensures.items
 
-pub write_item-returns-in_ok-add_then-in-None-clause-place : goal.write_item-returns-in_ok-add_then-in-None-clause-place
-write_item-returns-in_ok-add_then-in-None-clause-place t c =
-    let q = c.args.plan.now in
-    let p = layout_of q in
+pub write_item-returns-then-is_empty-clause-place : goal.write_item-returns-then-is_empty-clause-place
+write_item-returns-then-is_empty-clause-place t c =
     let h = here_of c.args.here in
     let is = ap tree_at c.in-If.is ∙ at-If c.in-If.test c.in-If.a c.in-If.b in
     let a = trees_of c.in-If.a in
     let e = trees_of c.in-If.b in
     let t' = test_tree c.in-If.test in
-    c.in_ok-after-in-None.ensures.place ∙ ap (past e) (c.in_ok-then-in-None.ensures.place ∙ ap (past a) c.in_ok-opened-in-None.ensures.start) ∙ past_If t' a e h ∙ sym (ap (λ y. past_item y h) is)
+    let none = ap trees_of (c.is_empty.ensures.0 c.if-is_empty.true) ∙ trees-none in
+    let k = past a (entered_at h 0 0) in
+    IfOk-weaker c.write_then.result _ _ (λ it f. f ∙ ap (past a) c.in_ok-opened-in-None.ensures.start ∙ sym (still k) ∙ sym (ap (λ z. past z k) none) ∙ past_If t' a e h ∙ sym (ap (λ y. past_item y h) is)) c.write_then.ensures.place
 
-pub write_item-returns-in_ok-add_then-in-None-clause-items : goal.write_item-returns-in_ok-add_then-in-None-clause-items
-write_item-returns-in_ok-add_then-in-None-clause-items t c =
+pub write_item-returns-then-is_empty-clause-items : goal.write_item-returns-then-is_empty-clause-items
+write_item-returns-then-is_empty-clause-items t c =
     let q = c.args.plan.now in
     let p = layout_of q in
     let h = here_of c.args.here in
@@ -599,13 +603,53 @@ write_item-returns-in_ok-add_then-in-None-clause-items t c =
     let e = trees_of c.in-If.b in
     let t' = test_tree c.in-If.test in
     let jump = sym (c.jump_of.ensures ∙ ap (λ z. jump_of (is_flagged z) a e) c.as_slice-named.ensures.value) in
-    let s = c.in_ok-opened-in-None.ensures.start in
+    let opened = c.in_ok-opened-in-None.ensures in
+    let labels = c.in_ok-opened-in-None.opened.labels in
+    let s = here_of c.in_ok-opened-in-None.opened.start in
     let o = trees_of c.add_test.new.out in
-    let w = trees_of c.write_list.new.out in
-    if_is q h b d r t' a e out o w _ (jump ∙ c.in-None.is) c.in_ok-opened-in-None.ensures.items
-    (c.in_ok-after-in-None.ensures.items ∙ ap (λ k. join o (lowered p k b d r e)) (c.in_ok-then-in-None.ensures.place ∙ ap (past a) s))
-    (c.in_ok-add_then-in-None.ensures ∙ ap (λ (n : N.Labels). join w (Then (Plain.Goto n.behind) (Then (Plain.Mark n.list) (join (trees_of c.in_ok-then-in-None.then.items) (one (Plain.Mark n.behind)))))) c.in_ok-opened-in-None.ensures.labels
-    ∙ ap (λ z. join w (then_part h.construct z)) (c.in_ok-then-in-None.ensures.items ∙ ap (λ k. lowered p k b d r a) s))
+    let none = ap trees_of (c.is_empty.ensures.0 c.if-is_empty.true) ∙ trees-none in
+    let y = then_part labels (lowered p s b d r a) in
+    on_ok_weaker c.write_then.result (λ g. let f = g ∙ sym (ap (λ z. join o (join (lowered p (past a s) b d r z) y)) none) in if_is q h b d r t' a e out o _ (jump ∙ c.in-None.is) opened.items
+    (f ∙ ap (λ k. join o (join (lowered p (past a k) b d r e) (then_part labels (lowered p k b d r a)))) opened.start
+    ∙ ap (λ n. join o (join (lowered p (past a (entered_at h 0 0)) b d r e) (then_part n (lowered p (entered_at h 0 0) b d r a)))) opened.labels)
+    ∙ sym (ap (λ y. join out (lowered_item p h b d r y)) is)) c.write_then.ensures.items
+
+pub write_item-returns-in_ok-write_then-in-None-clause-place : goal.write_item-returns-in_ok-write_then-in-None-clause-place
+write_item-returns-in_ok-write_then-in-None-clause-place t c =
+    let h = here_of c.args.here in
+    let is = ap tree_at c.in-If.is ∙ at-If c.in-If.test c.in-If.a c.in-If.b in
+    let a = trees_of c.in-If.a in
+    let e = trees_of c.in-If.b in
+    let t' = test_tree c.in-If.test in
+    let v = c.in_ok-behind-in-None.ensures in
+    c.in_ok-after-in-None.ensures.place ∙ ap (past e) (same_here v.construct v.case v.variable ∙ ap (past a) c.in_ok-opened-in-None.ensures.start) ∙ past_If t' a e h ∙ sym (ap (λ y. past_item y h) is)
+
+pub write_item-returns-in_ok-write_then-in-None-clause-items : goal.write_item-returns-in_ok-write_then-in-None-clause-items
+write_item-returns-in_ok-write_then-in-None-clause-items t c =
+    let q = c.args.plan.now in
+    let p = layout_of q in
+    let h = here_of c.args.here in
+    let b = aim_of c.args.scope.breaks in
+    let d = aim_of c.args.scope.continues in
+    let r = arrivals_of c.args.cases.now in
+    let out = trees_of c.args.out.now in
+    let is = ap tree_at c.in-If.is ∙ at-If c.in-If.test c.in-If.a c.in-If.b in
+    let a = trees_of c.in-If.a in
+    let e = trees_of c.in-If.b in
+    let t' = test_tree c.in-If.test in
+    let jump = sym (c.jump_of.ensures ∙ ap (λ z. jump_of (is_flagged z) a e) c.as_slice-named.ensures.value) in
+    let opened = c.in_ok-opened-in-None.ensures in
+    let labels = c.in_ok-opened-in-None.opened.labels in
+    let s = here_of c.in_ok-opened-in-None.opened.start in
+    let o = trees_of c.add_test.new.out in
+    let v = c.in_ok-behind-in-None.ensures in
+    let y = then_part labels (lowered p s b d r a) in
+    let f = c.in_ok-write_then-in-None.ensures.items
+    ∙ ap (λ z. join z y) (c.in_ok-after-in-None.ensures.items ∙ ap (λ k. join o (lowered p k b d r e)) (same_here v.construct v.case v.variable))
+    ∙ joined o (lowered p (past a s) b d r e) y in
+    if_is q h b d r t' a e out o _ (jump ∙ c.in-None.is) opened.items
+    (f ∙ ap (λ k. join o (join (lowered p (past a k) b d r e) (then_part labels (lowered p k b d r a)))) opened.start
+    ∙ ap (λ n. join o (join (lowered p (past a (entered_at h 0 0)) b d r e) (then_part n (lowered p (entered_at h 0 0) b d r a)))) opened.labels)
     ∙ sym (ap (λ y. join out (lowered_item p h b d r y)) is)
 
 pub write_item-returns-in_ok-start-in-For-clause-place : goal.write_item-returns-in_ok-start-in-For-clause-place
