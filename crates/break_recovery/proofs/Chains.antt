@@ -1,7 +1,7 @@
 -- Changes one after another: of a function, of what stands at file scope, of a program.
 use mathlib.Core.Path.{ap₂}
 use Rattle.std.proofs.Common.{ℕ, false, if◌then◌else◌, zero, suc, ◌+◌, ◌<◌, ◌≤◌, ◌≡◌, inl, inr, List, [], ◌∷◌, length, Option, Some, None, slice_get, slice_set, refl, sym, ap, subst, ◌∙◌, arith}
-use Rattle.std.specs.Prelude.{All, Contains, map}
+use Rattle.std.specs.Prelude.{All, map}
 use Rattle.c_tree.specs.declared.tree.Item.{Item}
 use Rattle.c_tree.specs.declared.tree.Function.{Function}
 use Rattle.c_tree.specs.declared.tree.Top.{Top}
@@ -12,16 +12,10 @@ use Rattle.jump_meaning.specs.Laws.{IsTopUnflat}
 use Rattle.guard_vars.specs.GuardNames.{guard_names}
 use Rattle.plain_form.specs.Plain.{plain}
 use Rattle.plain_core.specs.Plain.{plain_top, plain_function, plain_body, with_guard_variables, tidied}
-use Rattle.jump_meaning.specs.Code.{FunctionTree, function_tree}
-use Rattle.tidy_changes.proofs.Reach.{fewer, first_among}
-use Rattle.tidy_ends.specs.Ends.{IsChangedFirst, TopIsChangedFirst, TopIsSettled, AreChangedFirst, AreChangedTimes, IsTidied}
+use Rattle.tidy_ends.specs.Ends.{TopIsChangedFirst, TopIsSettled, AreChangedFirst, AreChangedTimes, IsTidied}
 use Rattle.break_recovery.specs.Ends.{FunctionChangedTimes, IsFunctionTidied, TopChangedTimes, TopTidied, AreTidied}
 
 -- ---- a function
-
-pub function_more : (n : ℕ) (f k h : Function) → FunctionChangedTimes n f k → IsChangedFirst k h → FunctionChangedTimes (suc n) f h
-function_more zero f k h e c = (h, subst (λ z. IsChangedFirst z h) e c, refl)
-function_more (suc n) f k h (z, first, rest) c = (z, first, function_more n z k h rest c)
 
 pub of_function : (n : ℕ) (f h : Function) → FunctionChangedTimes n f h → TopChangedTimes n (T.Function f) (T.Function h)
 of_function zero f h e = ap T.Function e
@@ -154,9 +148,3 @@ tidied_by p us names n q h a e = record {
 
 pub top_of : (n : ℕ) (f h : Function) → IsFunctionTidied n f h → TopTidied n (T.Function f) (T.Function h)
 top_of n f h t = record { changed = of_function n f h t.changed; settled = t.settled }
-
--- a change takes a variable away
-pub one_less : (f h : Function) → IsChangedFirst f h → suc (length h.slots) ≡ length f.slots
-one_less f h c =
-    let r : FunctionTree = function_tree f in
-    ap (λ (z : FunctionTree). suc (length z.slots)) c.tree ∙ fewer r c.first (subst (λ cs. Contains cs c.first) (sym c.changes) (first_among c.first c.later))

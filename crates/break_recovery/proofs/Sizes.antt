@@ -1,5 +1,5 @@
 -- How many items a list has, at any depth.
-use Rattle.std.proofs.Common.{ℕ, zero, suc, ◌+◌, ◌≤◌, drop, List, [], ◌∷◌, Option, Some, slice_get, ◌≡◌, sym, ap, ◌∙◌, arith}
+use Rattle.std.proofs.Common.{ℕ, zero, suc, ◌+◌, ◌≤◌, List, [], ◌∷◌, Option, Some, slice_get, ◌≡◌, ap, ◌∙◌, arith}
 use Rattle.c_tree.specs.declared.tree.Item.{Item, If, While, Do, For, Switch, Block}
 use Rattle.c_tree.specs.declared.tree.Section.{Section}
 use Rattle.c_tree.specs.declared.tree.Test.{Test}
@@ -7,7 +7,7 @@ use Rattle.c_tree.specs.declared.tree.Selector.{Selector}
 use Rattle.c_tree.specs.declared.tree.Expression.{Expression}
 use Rattle.c_tree.specs.Paths.{list_of}
 use Rattle.c_tree.specs.Everywhere.{total, total_of, total_in}
-use Rattle.c_tree.specs.Trees.{Tree, Forest, Sections, SectionTree, tree_of, trees_of, section_tree, sections_of}
+use Rattle.c_tree.specs.Trees.{Tree, Forest, Sections, SectionTree, tree_of, trees_of, sections_of}
 use Rattle.c_tree.proofs.TreeLaws.{tree-If, tree-While, tree-Do, tree-For, tree-Switch, tree-Block, section-parts}
 
 abbrev pub items : Forest → ℕ

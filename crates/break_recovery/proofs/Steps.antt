@@ -23,8 +23,8 @@ use Rattle.c_tree.specs.Paths.{list_of}
 use Rattle.c_tree.specs.Paths as Paths
 use Rattle.loop_changes.specs.Slots.{counts_of, broken, continued, but_first}
 use Rattle.tail_exits.proofs.Made.{join_join}
-use Rattle.break_recovery.specs.Next.{or_else, put, next_list, next_sections, next_at, next_here, next_item, next_either, with_list, behind_sections, break_first, continue_first, broken_first, continued_first, changed_to}
-use Rattle.break_recovery.proofs.NextLaws.{more, in_if, in_while, in_do, in_for, in_switch, in_block, more_sections}
+use Rattle.next_changes.specs.Next.{or_else, put, next_list, next_sections, next_at, next_here, next_item, next_either, with_list, behind_sections, break_first, continue_first, broken_first, continued_first, changed_to}
+use Rattle.next_changes.proofs.NextLaws.{more, in_if, in_while, in_do, in_for, in_switch, in_block, more_sections}
 
 put_all : {A : Type 0} (F : A → A) → ((x : A) → F x ≡ x) → (o : Option (ℕ × A)) → put F o ≡ o
 put_all F h None = refl

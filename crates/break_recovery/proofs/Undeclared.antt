@@ -1,26 +1,22 @@
--- A function without a variable: its declaration and its slot go.
+-- A body without the declaration of a variable.
 use mathlib.Core.Path.{ap₂}
-use Rattle.std.proofs.Common.{ℕ, zero, suc, ◌+◌, ◌<◌, ◌≤◌, arith, true, false, cond, List, [], ◌∷◌, ◌++◌, length, take, drop, get_or, Option, Some, None, option_map, ◌≡◌, refl, sym, ap, ◌∙◌}
+use Rattle.std.proofs.Common.{ℕ, zero, suc, ◌+◌, ◌<◌, ◌≤◌, arith, true, false, cond, List, [], ◌∷◌, ◌++◌, length, take, drop, get_or, Some, None, ◌≡◌, refl, sym, ap, ◌∙◌}
 use Rattle.std.specs.Option.{option_map_or}
 use Rattle.std.specs.Prelude.{remove}
 use Rattle.std.proofs.lemmas.List.{take_more, take_all}
 use Rattle.c_tree.specs.declared.tree.Item.{Item}
-use Rattle.c_tree.specs.declared.tree.Slot.{Slot}
-use Rattle.c_tree.specs.declared.tree.Function.{Function}
-use Rattle.jump_meaning.specs.Code.{FunctionTree, function_tree}
+use Rattle.jump_meaning.specs.Code.{FunctionTree}
 use Rattle.c_tree.specs.Trees.{Forest, Then, trees_of, join}
 use Rattle.c_tree.specs.Changed.{one}
 use Rattle.c_tree.proofs.TreeLaws.{trees-none}
 use Rattle.tree_views.specs.Views.{tree_at}
 use Rattle.tree_views.proofs.Views.{trees-first, trees-at, trees-end, trees-push}
 use Rattle.tail_exits.proofs.Made.{join_join, join_nil}
-use Rattle.tidy_changes.specs.Renumbered.{without, renumbered_list}
 use Rattle.tidy_changes.specs.Changes.{undeclared, is_declaration, changes, changes_of}
-use Rattle.break_recovery.specs.Next.{first, next_list}
-use Rattle.tidy_ends.specs.Ends.{IsChangedFirst}
+use Rattle.next_changes.specs.Next.{first, next_list}
 use Rattle.break_recovery.specs.Ends.{IsBodyChanged}
 use Rattle.break_recovery.proofs.Steps.{some_none}
-use Rattle.break_recovery.proofs.BodyLaws.{search_laws_hold}
+use Rattle.next_changes.proofs.BodyLaws.{search_laws_hold}
 
 -- the first so many items are not the declaration
 pub record Passed (g i : ℕ) (old now : List Item) : Type 0 where
@@ -62,18 +58,6 @@ none_declared g i old xs h p =
     sym (ap (λ z. undeclared g (trees_of z)) (sym p.same) ∙ p.rest
     ∙ ap₂ join (ap trees_of (take_all i xs h)) (ap (undeclared g) (trees-end xs i h)) ∙ join_nil (trees_of xs))
 
--- ---- slots
-
-pub slot_removed : (ss : List Slot) (g : ℕ) → g < length ss → remove ss g ≡ without g ss
-slot_removed [] g h = absurd (omega (arith, h))
-slot_removed (s ∷ ss) zero h = refl
-slot_removed (s ∷ ss) (suc g) h = let k : g < length ss = omega (arith, h) in ap (λ z. s ∷ z) (slot_removed ss g k)
-
-pub slot_absent : (ss : List Slot) (g : ℕ) → length ss ≤ g → ss ≡ without g ss
-slot_absent [] g h = refl
-slot_absent (s ∷ ss) zero h = absurd (omega (arith, h))
-slot_absent (s ∷ ss) (suc g) h = let k : length ss ≤ g = omega (arith, h) in ap (λ z. s ∷ z) (slot_absent ss g k)
-
 -- ---- the next change of a function
 
 first_some : {A : Type 0} (cs : List A) (c : A) → Some c ≡ first cs → (later : List A) × (cs ≡ c ∷ later)
@@ -87,7 +71,7 @@ first_none (d ∷ ds) e = absurd (some_none d (sym e))
 next_is : (f : FunctionTree) (a : Forest) → f.body ≡ Some a → next_list f 1 a ≡ first (changes_of f)
 next_is f a h = search_laws_hold.whole f a h ∙ sym (ap (λ b. first (option_map_or (changes f) b [])) h)
 
-pub body_changed : (f : FunctionTree) (g : ℕ) (a b d : Forest) → f.body ≡ Some a → Some (g, b) ≡ next_list f 1 a → d ≡ renumbered_list g (undeclared g b) → IsBodyChanged f (Some g) (Some d)
+pub body_changed : (f : FunctionTree) (g : ℕ) (a b d : Forest) → f.body ≡ Some a → Some (g, b) ≡ next_list f 1 a → d ≡ undeclared g b → IsBodyChanged f (Some g) (Some d)
 body_changed f g a b d e h k = let l = first_some (changes_of f) (g, b) (h ∙ next_is f a e) in (b, l.0, l.1, ap Some k)
 
 pub body_settled : (f : FunctionTree) (a : Forest) → f.body ≡ Some a → None ≡ next_list f 1 a → changes_of f ≡ []
@@ -95,16 +79,3 @@ body_settled f a e h = first_none (changes_of f) (h ∙ next_is f a e)
 
 pub no_body : (f : FunctionTree) → f.body ≡ None → changes_of f ≡ []
 no_body f e = ap (λ b. option_map_or (changes f) b []) e
-
-pub function_changed : (f : Function) (g : ℕ) (ss : List Slot) (b : Option (List Item)) → ss ≡ without g f.slots → IsBodyChanged (function_tree f) (Some g) (option_map trees_of b)
-    → IsChangedFirst f (record f { slots = ss; body = b })
-function_changed f g ss b h (c, later, e, k) = record {
-  kept = refl;
-  first = (g, c);
-  later = later;
-  changes = e;
-  tree = ap₂ (λ s z. record (function_tree f) { slots = s; body = z }) h k;
-}
-
-pub function_kept : (f : Function) (b : Option (List Item)) → b ≡ f.body → changes_of (function_tree f) ≡ [] → (changes_of (function_tree f) ≡ []) × (record f { body = b } ≡ f)
-function_kept f b h e = (e, ap (λ z. record f { body = z }) h)

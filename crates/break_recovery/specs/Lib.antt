@@ -1,3 +1,1 @@
-pub mod Next
-pub mod Laws
 pub mod Ends

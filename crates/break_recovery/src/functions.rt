@@ -1,16 +1,17 @@
-ghost use Rattle.std.specs.Prelude.{◌≡◌, ◌+◌, suc, option_map, Some, None, IfOk};
+ghost use Rattle.std.specs.Prelude.{◌≡◌, ◌+◌, suc, false, true, length, replicate, slice_set, option_map, Some, None, IfOk, OnOk};
 ghost use Rattle.c_tree.specs.Trees.{trees_of};
 ghost use Rattle.jump_meaning.specs.Code.{FunctionTree};
 ghost use Rattle.loop_changes.specs.Slots.{Tells};
-ghost use Rattle.tidy_changes.specs.Renumbered.{without};
+ghost use Rattle.slot_numbers.specs.Renamed.{renamed_list};
+ghost use Rattle.slot_removal.specs.Numbers.{number};
 ghost use Rattle.tidy_changes.specs.Changes.{undeclared};
-ghost use Rattle.break_recovery.specs.Ends.{IsBodyChanged, WentOn, IsFunctionTidied, TopTidied, AreTidied};
+ghost use Rattle.break_recovery.specs.Ends.{IsBodyChanged, WentOn, AreMade, IsNumbered, IsFunctionTidied, TopTidied, AreTidied};
 
 use crate::search::change_list;
-use c_tree::{Function, Item, Slot, Top};
+use c_tree::{Function, Item, Top};
 use c_types::{List, Memory};
 use loop_changes::{guard_counts, is_declaration};
-use slot_removal::renumber_list;
+use slot_removal::{Numbers, new_numbers, remove_gone, renumber_list};
 use std::alloc::Global;
 
 /// Takes the first `int g = 0;` out.
@@ -27,8 +28,8 @@ fn undeclare(slot: u32, list: &mut List<Item>)
     }
 }
 
-/// Makes the next change of a body, if one applies, and answers its slot: the declaration goes too, and
-/// later slots have one number less. Else the body stays. The counts are those of the function.
+/// Makes the next change of a body, if one applies, and answers its slot: the declaration goes too. Each slot
+/// keeps its number. Else the body stays. The counts are those of the function.
 fn change_list_of(
     alloc: Global,
     counts: &List<u64>,
@@ -41,7 +42,6 @@ fn change_list_of(
     match change {
         Some(slot) => {
             undeclare(slot, list);
-            renumber_list(slot, list);
             Ok(Some(slot))
         }
         None => Ok(None),
@@ -62,23 +62,38 @@ fn change_body(
     }
 }
 
-fn remove_slot(slot: u32, slots: &mut List<Slot>)
-    ensures { slots.new ≡ without slot slots.old }
+/// Marks a slot as gone.
+fn mark(slot: u32, gone: &mut List<bool>)
+    ensures { gone.new ≡ slice_set gone.old slot true }
 {
-    if (slot as usize) < slots.len() {
-        slots.remove(slot as usize);
+    if (slot as usize) < gone.len() {
+        gone.set(slot as usize, true);
     }
 }
 
-/// Makes the next change, and says whether there was one.
-fn change_once(alloc: Global, function: &mut Function) -> Result<bool, Memory>
-    ensures { IfOk result (λ went. WentOn went function.old function.new) }
+/// Counts a slot no more.
+fn forget(slot: u32, counts: &mut List<u64>)
+    ensures { counts.new ≡ slice_set counts.old slot 0 }
 {
-    let counts = guard_counts(alloc, function)?;
-    let change = change_body(alloc, &counts, &mut function.body)?;
+    if (slot as usize) < counts.len() {
+        counts.set(slot as usize, 0);
+    }
+}
+
+/// Makes the next change with the old numbers, and says whether there was one.
+fn change_once(
+    alloc: Global,
+    gone: &mut List<bool>,
+    counts: &mut List<u64>,
+    function: &mut Function,
+) -> Result<bool, Memory>
+    ensures { IfOk result (λ went. WentOn went gone.old counts.old function.old gone.new counts.new function.new) }
+{
+    let change = change_body(alloc, counts, &mut function.body)?;
     match change {
         Some(slot) => {
-            remove_slot(slot, &mut function.slots);
+            mark(slot, gone);
+            forget(slot, counts);
             Ok(true)
         }
         None => Ok(false),
@@ -95,15 +110,60 @@ fn one_more(count: u64) -> Result<u64, Memory>
     }
 }
 
+fn none_gone(alloc: Global, count: usize) -> Result<List<bool>, Memory>
+    ensures { IfOk result (λ it. it ≡ replicate count false) }
+{
+    let mut gone = List::new(alloc);
+    for i in 0..count {
+        gone.push(false)?;
+    }
+    Ok(gone)
+}
+
+/// Makes one change after another until none applies, with the old numbers. Says how many, and which slots
+/// are gone.
+fn change_all(alloc: Global, function: &mut Function) -> Result<(u64, List<bool>), Memory>
+    ensures { IfOk result (λ r. AreMade r.0 function.old r.1 function.new) }
+{
+    let mut counts = guard_counts(alloc, function)?;
+    let mut gone = none_gone(alloc, function.slots.len())?;
+    let mut count = 0;
+    'changes: while change_once(alloc, &mut gone, &mut counts, function)? {
+        count = one_more(count)?;
+    }
+    Ok((count, gone))
+}
+
+fn renumber_body(numbers: &Numbers, body: &mut Option<List<Item>>)
+    ensures { option_map trees_of body.new ≡ option_map (renamed_list (number numbers.now)) (option_map trees_of body.old) }
+{
+    match body {
+        Some(list) => renumber_list(numbers, list),
+        None => {}
+    }
+}
+
+/// Gives the slots that are left their new numbers.
+fn number_again(alloc: Global, gone: &List<bool>, function: &mut Function) -> Result<(), Memory>
+    requires { length gone.now ≡ length function.old.slots }
+    ensures { OnOk result (IsNumbered gone.now function.old function.new) }
+{
+    let numbers = new_numbers(alloc, gone)?;
+    renumber_body(&numbers, &mut function.body);
+    remove_gone(gone, &mut function.slots);
+    Ok(())
+}
+
 /// Makes one change after another until none applies, and says how many.
 fn change_fully(alloc: Global, function: &mut Function) -> Result<u64, Memory>
     ensures { IfOk result (λ n. IsFunctionTidied n function.old function.new) }
 {
-    let mut count = 0;
-    'changes: while change_once(alloc, function)? {
-        count = one_more(count)?;
+    let made = change_all(alloc, function)?;
+    if made.0 == 0 {
+        return Ok(0);
     }
-    Ok(count)
+    number_again(alloc, &made.1, function)?;
+    Ok(made.0)
 }
 
 fn change_top(alloc: Global, top: &mut Top) -> Result<u64, Memory>

@@ -2,7 +2,7 @@ ghost use Rattle.std.specs.Prelude.{◌≡◌, ◌<◌, ◌+◌, length, take, d
 ghost use Rattle.c_tree.specs.Trees.{Then, trees_of, join};
 ghost use Rattle.jump_meaning.specs.Code.{FunctionTree};
 ghost use Rattle.loop_changes.specs.Slots.{Tells, count_in, break_slot as the_break_slot, continue_slot as the_continue_slot};
-ghost use Rattle.break_recovery.specs.Next.{put, next_here, broken_first, continued_first, break_first, continue_first, changed_to};
+ghost use Rattle.next_changes.specs.Next.{put, next_here, broken_first, continued_first, break_first, continue_first, changed_to};
 
 use c_tree::Item;
 use c_types::{List, Memory};

@@ -4,7 +4,7 @@ ghost use Rattle.c_tree.specs.Trees.{trees_of, sections_of, join};
 ghost use Rattle.jump_meaning.specs.Code.{FunctionTree};
 ghost use Rattle.tree_views.specs.Views.{tree_at};
 ghost use Rattle.loop_changes.specs.Slots.{Tells};
-ghost use Rattle.break_recovery.specs.Next.{put, next_list, next_at, next_item, next_either, next_sections, changed_to};
+ghost use Rattle.next_changes.specs.Next.{put, next_list, next_at, next_item, next_either, next_sections, changed_to};
 
 use crate::here::change_here;
 use c_tree::{Item, Section};

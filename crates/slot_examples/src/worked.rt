@@ -1,7 +1,7 @@
 use c_tree::{Expression, Home, Item, Node, Place, Test};
 use c_types::{Boxed, IntKind, List, Memory};
 use slot_mentions::{item_names, items_name, list_names, names, test_names};
-use slot_removal::{new_number, renumber_expression, renumber_list};
+use slot_removal::{Numbers, new_number, new_numbers, renumber_expression, renumber_list};
 use std::alloc::Global;
 use std::test::Fail;
 
@@ -44,24 +44,39 @@ fn slots_are_named(rt: HostRuntime) -> Result<(), Fail> {
     Ok(())
 }
 
+/// The numbers of three slots once slot 1 is gone.
+fn numbers_without(alloc: Global) -> Result<Numbers, Memory> {
+    let mut gone = List::new(alloc);
+    gone.push(false)?;
+    gone.push(true)?;
+    gone.push(false)?;
+    new_numbers(alloc, &gone)
+}
+
 /// Whether a list without slot 1 is what it is to be.
 fn lists_are_right(alloc: Global) -> Result<bool, Memory> {
+    let numbers = numbers_without(alloc)?;
     let mut list = body(alloc, 2, 0)?;
-    renumber_list(1, &mut list);
+    renumber_list(&numbers, &mut list);
     Ok(list == body(alloc, 1, 0)?)
 }
 
 /// Whether an expression without slot 1 is what it is to be.
-fn expressions_are_right() -> bool {
+fn expressions_are_right(alloc: Global) -> Result<bool, Memory> {
+    let numbers = numbers_without(alloc)?;
     let mut e = read(2);
-    renumber_expression(1, &mut e);
-    e == read(1)
+    renumber_expression(&numbers, &mut e);
+    Ok(e == read(1))
 }
 
 #[test]
 fn later_slots_have_one_number_less(rt: HostRuntime) -> Result<(), Fail> {
-    assert_eq!(rt; new_number(1, 5), 4);
-    assert!(rt; expressions_are_right());
+    let numbers = numbers_without(rt.alloc())?;
+    assert_eq!(rt; new_number(&numbers, 0), 0);
+    assert_eq!(rt; new_number(&numbers, 2), 1);
+    assert_eq!(rt; new_number(&numbers, 5), 4);
+    let expressions = expressions_are_right(rt.alloc())?;
+    assert!(rt; expressions);
     let lists = lists_are_right(rt.alloc())?;
     assert!(rt; lists);
     Ok(())

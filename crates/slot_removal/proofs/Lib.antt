@@ -1,3 +1,4 @@
 pub mod RemovalLaws
 pub mod ItemRemovals
 pub mod LoopLaws
+pub mod NumberLaws

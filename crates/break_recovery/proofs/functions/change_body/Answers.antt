@@ -1,4 +1,4 @@
-use Rattle.std.proofs.Common.{Some, None, option_map, sym, ap, refl, ◌∙◌}
+use Rattle.std.proofs.Common.{Some, option_map, sym, ap, refl, ◌∙◌}
 use Rattle.c_tree.specs.Trees.{trees_of}
 use Rattle.tail_exits.proofs.Counted.{if_ok_more}
 use Rattle.break_recovery.proofs.Undeclared.{no_body}

@@ -1,16 +1,11 @@
-use Rattle.std.proofs.Common.{sym, subst, arith}
-use Rattle.break_recovery.specs.Ends.{WentOn, FunctionChangedTimes}
-use Rattle.break_recovery.proofs.Chains.{function_more, one_less}
+use Rattle.break_recovery.proofs.Numbered.{as_many, function_tidied, none_tidied}
 use Rattle.break_recovery.proofs.functions.change_fully.Goals as goal
 
-pub changes-smaller : goal.changes-smaller
-changes-smaller c =
-    let w = subst (λ b. WentOn b c.changes.function c.change_once.new.function) c.if-branch.true c.in_ok-change_once.ensures in
-    let e = one_less c.changes.function c.change_once.new.function w in
-    omega (arith, e)
+pub returns-then-made-eq0 : goal.returns-then-made-eq0
+returns-then-made-eq0 c = none_tidied c.in_ok-made.made.0 c.args.function.now c.in_ok-made.made.1 c.change_all.new.function c.if-made-eq0.true c.in_ok-made.ensures
 
-pub changes-preserved : goal.changes-preserved
-changes-preserved c =
-    let w = subst (λ b. WentOn b c.changes.function c.change_once.new.function) c.if-branch.true c.in_ok-change_once.ensures in
-    subst (λ m. FunctionChangedTimes m c.args.function.now c.change_once.new.function) (sym c.in_ok-count.ensures)
-    (function_more c.changes.count c.args.function.now c.changes.function c.change_once.new.function c.changes.invariant w)
+pub number_again-requires : goal.number_again-requires
+number_again-requires c = as_many c.in_ok-made.made.0 c.args.function.now c.in_ok-made.made.1 c.change_all.new.function c.in_ok-made.ensures
+
+pub returns : goal.returns
+returns c = function_tidied c.in_ok-made.made.0 c.args.function.now c.in_ok-made.made.1 c.change_all.new.function c.number_again.new.function c.if-made-eq0.false c.in_ok-made.ensures c.in_ok-number_again.ensures

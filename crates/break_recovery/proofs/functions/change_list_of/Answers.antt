@@ -1,15 +1,14 @@
 use Rattle.std.proofs.Common.{sym, ap, ◌∙◌}
 use Rattle.c_tree.specs.Trees.{trees_of}
-use Rattle.tidy_changes.specs.Renumbered.{renumbered_list}
-use Rattle.break_recovery.specs.Next.{changed_to}
+use Rattle.next_changes.specs.Next.{changed_to}
 use Rattle.break_recovery.proofs.Undeclared.{body_changed, body_settled}
 use Rattle.break_recovery.proofs.functions.change_list_of.Goals as goal
 
 pub returns-in-Some-clause-made : goal.returns-in-Some-clause-made
 returns-in-Some-clause-made c =
-    λ f h e. body_changed f c.in-Some.slot (trees_of c.args.list.now) (trees_of c.change_list.new.list) (trees_of c.renumber_list.new.list) e
+    λ f h e. body_changed f c.in-Some.slot (trees_of c.args.list.now) (trees_of c.change_list.new.list) (trees_of c.undeclare.new.list) e
     (ap (λ s. changed_to s (trees_of c.change_list.new.list)) (sym c.in-Some.is) ∙ c.in_ok-change.ensures.made f h)
-    (c.renumber_list.ensures ∙ ap (renumbered_list c.in-Some.slot) c.undeclare.ensures)
+    c.undeclare.ensures
 
 pub returns-in-None-clause-made : goal.returns-in-None-clause-made
 returns-in-None-clause-made c =

@@ -4,7 +4,7 @@ use Rattle.tree_views.specs.Views.{tree_at}
 use Rattle.tree_views.proofs.Views.{trees-at}
 use Rattle.tail_exits.proofs.Counted.{if_ok_more}
 use Rattle.loop_changes.specs.Slots.{count_in, break_slot}
-use Rattle.break_recovery.specs.Next.{break_first}
+use Rattle.next_changes.specs.Next.{break_first}
 use Rattle.break_recovery.proofs.here.break_at.Goals as goal
 
 pub returns : goal.returns

@@ -1,9 +1,10 @@
 use Rattle.slot_removal.proofs.ItemRemovals.{SameItem, SameSection}
 use Rattle.slot_removal.proofs.LoopLaws.{DoneTo}
+use Rattle.slot_removal.specs.Numbers.{number}
 use Rattle.slot_removal.proofs.items.+items.Given as goal
 
 abbrev pub invariant-renumber_items-loop-i : goal.invariant-renumber_items-loop-i
-invariant-renumber_items-loop-i l = goal.unvisited-renumber_items-loop-i l × DoneTo (SameItem l.slot) l.i l.initial.items l.items
+invariant-renumber_items-loop-i l = goal.unvisited-renumber_items-loop-i l × DoneTo (SameItem (number l.numbers)) l.i l.initial.items l.items
 
 abbrev pub invariant-renumber_sections-loop-i : goal.invariant-renumber_sections-loop-i
-invariant-renumber_sections-loop-i l = goal.unvisited-renumber_sections-loop-i l × DoneTo (SameSection l.slot) l.i l.initial.sections l.sections
+invariant-renumber_sections-loop-i l = goal.unvisited-renumber_sections-loop-i l × DoneTo (SameSection (number l.numbers)) l.i l.initial.sections l.sections

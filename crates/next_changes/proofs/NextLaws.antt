@@ -13,7 +13,7 @@ use Rattle.loop_changes.specs.Fits.{is_declared_flag, leaves_one, fits, item_fit
 use Rattle.loop_changes.specs.Slots.{counts_of, break_slot, continue_slot, broken, continued, but_first, broken_lists, continued_lists, found}
 use Rattle.loop_changes.proofs.Single.{eqb_same}
 use Rattle.loop_changes.proofs.AtLoop.{loop_laws_hold}
-use Rattle.break_recovery.specs.Next.{first, or_else, put, of_slot, next_list, next_item, next_sections, next_at}
+use Rattle.next_changes.specs.Next.{first, or_else, put, of_slot, next_list, next_item, next_sections, next_at}
 
 first_append : {A : Type 0} (xs ys : List A) → first (xs ++ ys) ≡ or_else (first xs) (first ys)
 first_append [] ys = refl

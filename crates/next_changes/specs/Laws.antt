@@ -5,7 +5,7 @@ use Rattle.c_tree.specs.TestTrees.{TestTree, SelectorTree}
 use Rattle.c_tree.specs.Trees.{Tree, Forest, Nil, Then, Sections, NoSection, Section, If, While, Do, For, Switch, Block}
 use Rattle.jump_meaning.specs.Code.{FunctionTree}
 use Rattle.tidy_changes.specs.Changes.{changes}
-use Rattle.break_recovery.specs.Next.{first, or_else, put, next_list, next_item, next_sections, next_at}
+use Rattle.next_changes.specs.Next.{first, or_else, put, next_list, next_item, next_sections, next_at}
 
 pub record SearchLaws : Type 0 where
   pub none : (f : FunctionTree) (n : ℕ) → next_list f n Nil ≡ None

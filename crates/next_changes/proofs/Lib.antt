@@ -1,0 +1,9 @@
+pub mod NextLaws
+pub mod BodyLaws
+pub mod RenamedCounts
+pub mod RenamedExits
+pub mod RenamedNext
+pub mod Others
+pub mod RenamedDeclared
+pub mod RealTrees
+pub mod Underway
