@@ -187,11 +187,15 @@ impl<T: Drop> List<T> {
         if self.items.len() >= MOST {
             return Err(Memory);
         }
-        // Most lists of a tree have one entry, where a first push makes room for four.
-        if self.items.is_empty() {
-            self.items.reserve_exact(1)?;
+        if self.items.len() == self.items.capacity() {
+            if self.items.is_empty() {
+                // most lists of a tree have one entry, where a first push makes room for four
+                self.items.reserve_exact(1)?;
+            } else {
+                self.items.reserve(1)?;
+            }
         }
-        self.items.push(item)?;
+        self.items.push_reserved(item);
         Ok(())
     }
 
