@@ -1,14 +1,14 @@
 -- What may close a comment `/*`.
-use Rattle.std.proofs.Common.{◌≡◌, ℕ, Bool, true, false, not, ◌==◌, cond, List, [], ◌∷◌, refl, sym, subst}
+use Rattle.std.proofs.Common.{◌≡◌, ℕ, Bool, true, false, not, ◌&&◌, ◌||◌, ◌==◌, cond, List, [], ◌∷◌, refl, ap, sym, ◌∙◌, subst}
 use Rattle.std.proofs.lemmas.Bool.{eqb-true}
 use Rattle.c_lexer.specs.declared.state.Closing.{Closing}
-use Rattle.c_lexer.specs.declared.state.Closing.TheVariants.{Open, Starred, Continued, Joined}
+use Rattle.c_lexer.specs.declared.state.Closing.TheVariants.{Open, Starred, Continued, Returned, Joined}
 use Rattle.c_lexer.specs.declared.state.State.TheVariants.{InComment}
 use Rattle.c_lexer.specs.declared.state.Ended.TheVariants as ended
 use Rattle.c_lexer.specs.declared.state.Taken.TheVariants.{Go}
 use Rattle.c_lexer.specs.Bytes.{is_space}
 use Rattle.c_lexer.specs.Pieces.{slash_follows, is_single, closes}
-use Rattle.c_lexer.specs.Machine.{closing_else, closing_step, in_comment}
+use Rattle.c_lexer.specs.Machine.{continued_step, closing_else, closing_step, in_comment}
 use Rattle.c_lexer.proofs.Truths.{not_true, not_false}
 
 -- these bytes close a comment that stands so
@@ -16,6 +16,7 @@ abbrev pub closes_from : Closing → List ℕ → Bool
 closes_from Open w = closes w
 closes_from Starred w = cond (slash_follows false w) (is_single w) (closes w)
 closes_from Continued w = cond (slash_follows true w) false (closes w)
+closes_from Returned w = cond (slash_follows true w || slash_follows false w) false (closes w)
 closes_from Joined w = cond (slash_follows false w) false (closes w)
 
 -- no byte closes it here, nor would it with its lines joined
@@ -23,12 +24,14 @@ abbrev pub goes_on : Closing → ℕ → Bool
 goes_on Open b = true
 goes_on Starred b = not (b == 47)
 goes_on Continued b = true
+goes_on Returned b = not (b == 47)
 goes_on Joined b = not (b == 47)
 
 pub none_left : (c : Closing) → closes_from c [] ≡ false
 none_left Open = refl
 none_left Starred = refl
 none_left Continued = refl
+none_left Returned = refl
 none_left Joined = refl
 
 -- behind a byte that is no `*`
@@ -39,6 +42,7 @@ at_star : (c : Closing) (w : List ℕ) → closes_from c (42 ∷ w) ≡ closes_f
 at_star Open w = refl
 at_star Starred w = refl
 at_star Continued w = refl
+at_star Returned w = refl
 at_star Joined w = refl
 
 single_more : (b : ℕ) (w : List ℕ) → slash_follows true w ≡ true → is_single (b ∷ w) ≡ false
@@ -52,6 +56,29 @@ starred_backslash w = go (slash_follows true w) refl
     go true e = let x = single_more 92 w e in rw (e, x)
     go false e = rw e
 
+or_none : (a : Bool) → (a || false) ≡ a
+or_none true = refl
+or_none false = refl
+
+-- behind a carriage return too a `/` may follow at once
+no_return : (a : Bool) (b : ℕ) (c : Bool) → (b == 13) ≡ false → (a || (b == 13 && c)) ≡ a
+no_return a b c h = ap (λ (x : Bool). a || (x && c)) h ∙ or_none a
+
+continued_space : (b : ℕ) (w : List ℕ) → (b == 42) ≡ false → (b == 10) ≡ false → (b == 13) ≡ false → is_space b ≡ true → closes_from Continued (b ∷ w) ≡ closes_from Continued w
+continued_space b w h e k f = let y = no_return (slash_follows true w) b (slash_follows false w) k in rw (e, f, y, h)
+
+continued_other : (b : ℕ) (w : List ℕ) → (b == 42) ≡ false → (b == 10) ≡ false → is_space b ≡ false → closes_from Continued (b ∷ w) ≡ closes_from Open w
+continued_other b w h e f = rw (e, f, h)
+
+continued : (b : ℕ) (w : List ℕ) → (b == 42) ≡ false → closes_from Continued (b ∷ w) ≡ closes_from (continued_step b) w
+continued b w h = go (b == 10) refl (b == 13) refl (is_space b) refl
+  where
+    go : (c : Bool) → (b == 10) ≡ c → (d : Bool) → (b == 13) ≡ d → (x : Bool) → is_space b ≡ x → closes_from Continued (b ∷ w) ≡ closes_from (cond c Joined (cond d Returned (cond x Continued Open))) w
+    go true e d k x f = rw (e, h)
+    go false e true k x f = subst (λ (i : ℕ). closes_from Continued (i ∷ w) ≡ closes_from Returned w) (sym (eqb-true b 13 k)) refl
+    go false e false k true f = continued_space b w h e k f
+    go false e false k false f = continued_other b w h e f
+
 other : (c : Closing) (b : ℕ) (w : List ℕ) → goes_on c b ≡ true → (b == 42) ≡ false → closes_from c (b ∷ w) ≡ closes_from (closing_else c b) w
 other Open b w g h = past_other b w h
 other Starred b w g h = go (b == 92) refl
@@ -64,15 +91,17 @@ other Joined b w g h = go (b == 92) refl
     go : (c : Bool) → (b == 92) ≡ c → closes_from Joined (b ∷ w) ≡ closes_from (cond c Continued Open) w
     go true e = subst (λ (i : ℕ). closes_from Joined (i ∷ w) ≡ closes_from Continued w) (sym (eqb-true b 92 e)) refl
     go false e = let x = not_true (b == 47) g in rw (x, e, h)
-other Continued b w g h = go (b == 10) refl
+other Continued b w g h = continued b w h
+other Returned b w g h = go (b == 92) refl
   where
-    go : (c : Bool) → (b == 10) ≡ c → closes_from Continued (b ∷ w) ≡ closes_from (cond c Joined (cond (is_space b) Continued Open)) w
-    go true e = rw (e, h)
-    go false e = in_line (is_space b) refl
-      where
-        in_line : (d : Bool) → is_space b ≡ d → closes_from Continued (b ∷ w) ≡ closes_from (cond d Continued Open) w
-        in_line true f = rw (e, f, h)
-        in_line false f = rw (e, f, h)
+    x : (b == 47) ≡ false
+    x = not_true (b == 47) g
+
+    go : (c : Bool) → (b == 92) ≡ c → closes_from Returned (b ∷ w) ≡ closes_from (cond c Continued (continued_step b)) w
+    go true e = subst (λ (i : ℕ). closes_from Returned (i ∷ w) ≡ closes_from Continued w) (sym (eqb-true b 92 e)) refl
+    go false e =
+        ap (λ (d : Bool). cond (slash_follows true (b ∷ w) || d) false (closes (b ∷ w))) (let y : slash_follows false (b ∷ w) ≡ false = rw (x, e) in y)
+        ∙ ap (λ (d : Bool). cond d false (closes (b ∷ w))) (or_none (slash_follows true (b ∷ w))) ∙ continued b w h
 
 -- what a byte does to it
 pub closes_on : (c : Closing) (b : ℕ) (w : List ℕ) → goes_on c b ≡ true → closes_from c (b ∷ w) ≡ closes_from (closing_step c b) w
@@ -91,10 +120,12 @@ pub last_slash : (c : Closing) (b : ℕ) (w : List ℕ) → goes_on c b ≡ fals
 last_slash Open b w g h = absurd cc
 last_slash Continued b w g h = absurd cc
 last_slash Starred b w g h = let x = eqb-true b 47 (not_false (b == 47) g) in (refl, x, nothing_more w (subst (λ (i : ℕ). closes_from Starred (i ∷ w) ≡ true) x h))
+last_slash Returned b w g h = let x = eqb-true b 47 (not_false (b == 47) g) in absurd (let y : false ≡ true = subst (λ (i : ℕ). closes_from Returned (i ∷ w) ≡ true) x h in cc)
 last_slash Joined b w g h = let x = eqb-true b 47 (not_false (b == 47) g) in absurd (let y : false ≡ true = subst (λ (i : ℕ). closes_from Joined (i ∷ w) ≡ true) x h in cc)
 
 pub comment_on : (s : ℕ) (c : Closing) (b at : ℕ) → goes_on c b ≡ true → in_comment s c b at ≡ Go (InComment s (closing_step c b)) ended.Nothing
 comment_on s Open b at g = refl
 comment_on s Continued b at g = refl
 comment_on s Starred b at g = let x = not_true (b == 47) g in rw x
+comment_on s Returned b at g = let x = not_true (b == 47) g in rw x
 comment_on s Joined b at g = let x = not_true (b == 47) g in rw x

@@ -1,5 +1,5 @@
 -- What a state says of the bytes read so far.
-use Rattle.std.proofs.Common.{◌≡◌, ◌+◌, ◌*◌, ℕ, Bool, true, false, ◌==◌, nat_le, cond, List, [], ◌∷◌, ◌++◌, refl, arith, ap, sym, ◌∙◌, subst, append_assoc, zero-add}
+use Rattle.std.proofs.Common.{◌≡◌, ◌⊎◌, inl, ◌+◌, ◌*◌, ℕ, Bool, true, false, ◌==◌, nat_le, cond, List, [], ◌∷◌, ◌++◌, refl, arith, ap, sym, ◌∙◌, subst, append_assoc, zero-add}
 use Rattle.std.specs.Prelude.{slice_range}
 use Rattle.std.specs.List.{list_all}
 use Rattle.std.proofs.lemmas.Bool.{eqb-true}
@@ -18,7 +18,7 @@ use Rattle.c_lexer.specs.Numbers.{continues, ends_with_power, value_from}
 use Rattle.c_lexer.specs.Characters.{Character, Simple, OneDigit, TwoDigits, ThreeDigits, Hexadecimal, written, written_all, three_digits, IsCharacter, TakesDigits, AreCharacters}
 use Rattle.c_lexer.specs.Marks.{mark_text}
 use Rattle.c_lexer.specs.Pieces.{Piece, spelled, text, closes, Fits, Longest, first_behind, first_behind_all, Good}
-use Rattle.c_lexer.specs.Faults.{reason_of}
+use Rattle.c_lexer.specs.Faults.{reason_of, reach_of, HasNoPiece}
 use Rattle.c_lexer.specs.Machine.{escape_step}
 use Rattle.c_lexer.proofs.PieceLemmas.{past, ends, ends_all, Stands, stands_along, stands_text, stands_past, slice_is}
 use Rattle.c_lexer.proofs.Truths.{both_true}
@@ -180,8 +180,13 @@ pub record StuckAt (base : ℕ) (first : Bool) (reason place : ℕ) (t : List �
   pub rest : List ℕ
   pub spells : t ≡ text pieces (byte ∷ rest)
   pub good : Good first pieces (byte ∷ rest)
-  pub place_is : ends_all pieces base ≡ place
+  pub place_is : ends_all pieces base + reach_of (first_behind_all first pieces) byte rest ≡ place
   pub reason_is : reason_of (first_behind_all first pieces) byte rest ≡ reason
+  pub none : (reach_of (first_behind_all first pieces) byte rest ≡ 0) ⊎ HasNoPiece (first_behind_all first pieces) (byte ∷ rest)
+
+-- at this byte, in front of these, stands a fault for this reason
+abbrev pub IsFaulty : Bool → ℕ → List ℕ → ℕ → Type 0
+IsFaulty first b r reason = (reason_of first b r ≡ reason) × (reach_of first b r ≡ 0)
 
 abbrev pub Goes : Taken → ℕ → Front → Type 0
 Goes (Go s ended) at P = Ready s at P
@@ -200,8 +205,15 @@ grown s at ps w b P i =
 pub part_along : (s at : ℕ) (ps : List Piece) (v w : List ℕ) (P : Front) → v ≡ w → Part s at ps v P → Part s at ps w P
 part_along s at ps v w P e i = subst (λ (x : List ℕ). Part s at ps x P) e i
 
-pub stuck_part : (s at : ℕ) (ps : List Piece) (x : ℕ) (w : List ℕ) (P : Front) (reason : ℕ) → Part s at ps (x ∷ w) P → ((r : List ℕ) → reason_of (first_behind_all P.first ps) x (w ++ r) ≡ reason) → (r : List ℕ) → StuckAt P.base P.first reason s (P.bytes r)
-stuck_part s at ps x w P reason i h r = record { pieces = ps; byte = x; rest = w ++ r; spells = i.0 r; good = i.1 r; place_is = i.2; reason_is = h r }
+no_further : (m n s : ℕ) → m ≡ s → n ≡ 0 → m + n ≡ s
+no_further m n s h k = omega arith
+
+pub stuck_before : (s at : ℕ) (ps : List Piece) (x : ℕ) (w : List ℕ) (P : Front) (reason : ℕ) → Part s at ps (x ∷ w) P → (r : List ℕ) → IsFaulty (first_behind_all P.first ps) x (w ++ r) reason → StuckAt P.base P.first reason s (P.bytes r)
+stuck_before s at ps x w P reason i r h =
+    record { pieces = ps; byte = x; rest = w ++ r; spells = i.0 r; good = i.1 r; place_is = no_further _ _ s i.2 h.1; reason_is = h.0; none = inl h.1 }
+
+pub stuck_part : (s at : ℕ) (ps : List Piece) (x : ℕ) (w : List ℕ) (P : Front) (reason : ℕ) → Part s at ps (x ∷ w) P → ((r : List ℕ) → IsFaulty (first_behind_all P.first ps) x (w ++ r) reason) → (r : List ℕ) → StuckAt P.base P.first reason s (P.bytes r)
+stuck_part s at ps x w P reason i h r = stuck_before s at ps x w P reason i r (h r)
 
 -- the bytes of a part are a slice of the text
 pub part_slice : (t : List ℕ) (s at : ℕ) (ps : List Piece) (w : List ℕ) (P : Front) (r : List ℕ) → Part s at ps w P → Stands t P.base (P.bytes r) → slice_range t s at ≡ w

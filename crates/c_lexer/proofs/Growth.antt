@@ -1,5 +1,5 @@
 -- What each byte does to what a state says.
-use Rattle.std.proofs.Common.{◌≡◌, ◌+◌, ℕ, Bool, true, false, not, ◌&&◌, ◌||◌, ◌==◌, cond, List, [], ◌∷◌, ◌++◌, Option, Some, None, refl, arith, ap, sym, ◌∙◌, subst, append_assoc, take}
+use Rattle.std.proofs.Common.{◌≡◌, inr, ◌+◌, ℕ, Bool, true, false, not, ◌&&◌, ◌||◌, ◌==◌, cond, List, [], ◌∷◌, ◌++◌, length, Option, Some, None, refl, arith, ap, sym, ◌∙◌, subst, append_assoc, take}
 use Rattle.std.specs.Prelude.{slice_range, is_some}
 use Rattle.std.specs.List.{list_all}
 use Rattle.std.proofs.lemmas.Bool.{eqb-true}
@@ -20,24 +20,25 @@ use Rattle.c_lexer.specs.Bytes.{is_space, is_newline, is_power, is_run_byte, is_
 use Rattle.c_lexer.specs.Numbers.{continues, ends_with_power, integer_of}
 use Rattle.c_lexer.specs.Characters.{Character, Plain, written, written_all, IsCharacter, AreCharacters}
 use Rattle.c_lexer.specs.Marks.{mark_text, mark_at, longer, is_slash, is_dot}
-use Rattle.c_lexer.specs.Pieces.{Piece, Space, Word, Number, Char, Text, Sign, Directive, Line, Block, spelled, text, closes, is_include, Fits, IsLine, Longest, first_behind, first_behind_all, Good}
-use Rattle.c_lexer.specs.Faults.{reason_of}
-use Rattle.c_lexer.specs.Machine.{begin, of_mark, after_mark, escape_step, char_held, char_escape, in_text, text_escape, continued_at, end_directive, end_line, closing_step, in_comment, step}
+use Rattle.c_lexer.specs.Pieces.{Piece, Space, Word, Number, Char, Text, Sign, Directive, Line, Block, spelled, text, closes, own_line, NewlineNext, is_directive, Fits, IsLine, Longest, first_behind, first_behind_all, Good}
+use Rattle.c_lexer.specs.Machine.{begin, of_mark, after_mark, escape_step, char_held, char_escape, in_text, text_escape, broken_at, end_directive, end_line, closing_step, in_comment, step}
 use Rattle.c_lexer.proofs.MarkLemmas.{longer_text, mark_first, longest_mark, no_dots}
-use Rattle.c_lexer.proofs.PieceLemmas.{Stands, past, past_is, character_ends, characters_end, ends, ends_all}
+use Rattle.c_lexer.proofs.PieceLemmas.{Stands, past, character_ends, characters_end, ends, ends_all}
 use Rattle.c_lexer.proofs.Truths.{both_true}
-use Rattle.c_lexer.proofs.Lines.{has_no_newline, NewlineNext, ends_at_once, white_newline, runs_before, runs_to_newline, Continued, continued}
+use Rattle.c_lexer.proofs.Lines.{has_no_newline, runs_to_newline, own_whole, broken}
+use Rattle.c_lexer.proofs.Pieceless.{no_comment, no_directive}
 use Rattle.c_lexer.proofs.Closings.{closes_from, goes_on, closes_on}
 use Rattle.c_lexer.proofs.Reading.{digit_power, two_on}
-use Rattle.c_lexer.proofs.Fronts.{Front, onward, text_more, good_more, ends_more, first_more, all_more, snoc, past_snoc, Progresses, escape_progresses, written_more, characters_more, Part, Ready, StuckAt, Goes, branch, grown, part_along, stuck_part, part_slice, part_slice_behind}
+use Rattle.c_lexer.proofs.Fronts.{Front, onward, text_more, good_more, ends_more, first_more, all_more, snoc, past_snoc, Progresses, escape_progresses, written_more, characters_more, Part, Ready, StuckAt, IsFaulty, Goes, branch, grown, part_along, stuck_before, stuck_part, part_slice, part_slice_behind}
 
 -- ---- reasons
 
-pub other_reason : (first : Bool) (b : ℕ) (r : List ℕ) → (b == 47) ≡ false → (b == 39) ≡ false → (b == 34) ≡ false → is_digit b ≡ false → (b == 35) ≡ false → reason_of first b r ≡ 2
-other_reason first b r h i j d l = rw (h, i, j, d, l)
+other_fault : (first : Bool) (b : ℕ) (r : List ℕ) → (b == 47) ≡ false → (b == 39) ≡ false → (b == 34) ≡ false → is_digit b ≡ false → (b == 35) ≡ false → IsFaulty first b r 2
+other_fault first b r h i j d l = (rw (h, i, j, d, l), rw (h, l))
 
-pub hash_reason : (first : Bool) (b : ℕ) (r : List ℕ) → b ≡ 35 → reason_of first b r ≡ cond first 6 2
-hash_reason first b r e = ap (λ (i : ℕ). reason_of first i r) e
+-- a `#` that is not first on its line
+hash_fault : (first : Bool) (b : ℕ) (r : List ℕ) → b ≡ 35 → first ≡ false → IsFaulty first b r 2
+hash_fault first b r e f = subst (λ (i : ℕ). IsFaulty first i r 2) (sym e) (subst (λ (c : Bool). IsFaulty c 35 r 2) (sym f) (refl, refl))
 
 digit_slash : (b : ℕ) → is_digit b ≡ true → (b == 47) ≡ false
 digit_slash b h = grind (arith, nat_tests)
@@ -45,8 +46,11 @@ digit_slash b h = grind (arith, nat_tests)
 digit_quote : (b : ℕ) → is_digit b ≡ true → (b == 39 || b == 34) ≡ false
 digit_quote b h = grind (arith, nat_tests)
 
-pub digit_reason : (first : Bool) (b : ℕ) (r : List ℕ) → is_digit b ≡ true → reason_of first b r ≡ 5
-digit_reason first b r h = let x = digit_slash b h in let y = digit_quote b h in rw (x, y, h)
+digit_hash : (b : ℕ) → is_digit b ≡ true → (b == 35) ≡ false
+digit_hash b h = grind (arith, nat_tests)
+
+pub digit_fault : (first : Bool) (b : ℕ) (r : List ℕ) → is_digit b ≡ true → IsFaulty first b r 5
+digit_fault first b r h = let x = digit_slash b h in let y = digit_quote b h in let z = digit_hash b h in (rw (x, y, h), rw (x, z))
 
 not_slash : (b : ℕ) → mark_at b ≡ None → (b == 47) ≡ false
 not_slash b h = go (b == 47) refl
@@ -60,7 +64,7 @@ not_slash b h = go (b == 47) refl
 goes_mark : (o : Option Mark) (b at : ℕ) → mark_at b ≡ o → (e : Ended) (P : Front) (ps : List Piece) → ((r : List ℕ) → P.bytes r ≡ text ps r) → ((r : List ℕ) → Good P.first ps (b ∷ r)) → ends_all ps P.base ≡ at
     → (b == 39) ≡ false → (b == 34) ≡ false → is_digit b ≡ false → (b == 35) ≡ false → Goes (of_mark o e at) (at + 1) (onward P b)
 goes_mark None b at h e P ps i g z q q' d l =
-    λ r. record { pieces = ps; byte = b; rest = r; spells = i (b ∷ r); good = g r; place_is = z; reason_is = other_reason _ b r (not_slash b h) q q' d l }
+    stuck_part at (at + 1) ps b [] (onward P b) 2 ((λ r. i (b ∷ r)), g, z, refl) (λ r. other_fault _ b r (not_slash b h) q q' d l)
 goes_mark (Some m) b at h e P ps i g z q q' d l = (ps, part_along at (at + 1) ps (b ∷ []) (mark_text m) _ (sym (mark_first b m h)) ((λ r. i (b ∷ r)), g, z, refl))
 
 -- behind these pieces
@@ -79,7 +83,7 @@ begins first e b at P ps i g z f =
     (λ q. branch (b == 34) _ _ _ _ (λ q'. (ps, [], [], part_along at (at + 1) ps (b ∷ []) (34 ∷ []) _ (ap (λ (n : ℕ). n ∷ []) (eqb-true b 34 q')) here, (λ r. refl), (λ r. tt)))
     (λ q'. branch (b == 35) _ _ _ _
     (λ x. branch first _ _ _ _ (λ y. (ps, [], part_along at (at + 1) ps (b ∷ []) (35 ∷ []) _ (ap (λ (n : ℕ). n ∷ []) (eqb-true b 35 x)) here, f ∙ y, refl))
-    (λ y r. record { pieces = ps; byte = b; rest = r; spells = i (b ∷ r); good = g r; place_is = z; reason_is = hash_reason _ b r (eqb-true b 35 x) ∙ ap (λ (c : Bool). cond c 6 2) (f ∙ y) }))
+    (λ y. stuck_part at (at + 1) ps b [] (onward P b) 2 here (λ r. hash_fault _ b r (eqb-true b 35 x) (f ∙ y))))
     (λ x. goes_mark (mark_at b) b at refl e P ps i g z q q' d x))))))
   where
     here : Part at (at + 1) ps (b ∷ []) (onward P b)
@@ -184,13 +188,13 @@ pub char_held_goes : (s b at : ℕ) (P : Front) (ps : List Piece) (c : Character
 char_held_goes s b at P ps c w i k f =
     branch (b == 39) _ _ _ _
     (λ h. finished (Char c) s b at P ps (39 ∷ w) i (λ r. ap (λ (n : ℕ). 39 ∷ w ++ n ∷ r) (eqb-true b 39 h) ∙ ap (λ (v : List ℕ). 39 ∷ v) (sym (k (39 ∷ r)))) (ap (λ (n : ℕ). n + 1) (character_ends c w k (s + 1))) f refl (λ r. tt))
-    (λ h r. stuck_part s at ps 39 w P 4 i (λ q. refl) (b ∷ r))
+    (λ h r. stuck_part s at ps 39 w P 4 i (λ q. (refl, refl)) (b ∷ r))
 
 char_goes : (s b at : ℕ) (P : Front) (ps : List Piece) (w : List ℕ) → Part s at ps (39 ∷ w) P → (p : Progress) → Progresses p b w → Goes (char_escape s p b at) (at + 1) (onward P b)
 char_goes s b at P ps w i (More e) h = (ps, w ++ b ∷ [], grown s at ps (39 ∷ w) b P i, h)
 char_goes s b at P ps w i Whole (c, h) = (ps, c, w ++ b ∷ [], grown s at ps (39 ∷ w) b P i, h.bytes, h.is is_character_byte)
 char_goes s b at P ps w i Over (c, h) = char_held_goes s b at P ps c w i h.bytes (h.is is_character_byte)
-char_goes s b at P ps w i Wrong h = λ r. stuck_part s at ps 39 w P 4 i (λ q. refl) (b ∷ r)
+char_goes s b at P ps w i Wrong h = λ r. stuck_part s at ps 39 w P 4 i (λ q. (refl, refl)) (b ∷ r)
 
 -- ---- texts
 
@@ -205,7 +209,7 @@ in_text_goes s b at P ps cs v i k f =
     (subst (λ (n : ℕ). AreCharacters is_text_byte cs (n ∷ [])) (eqb-true b 34 h) (f [])) refl (λ r. tt))
     (λ q. branch (b == 92) _ _ _ _
     (λ h. let x = eqb-true b 92 h in (ps, cs, v, 92 ∷ [], part_along s (at + 1) ps (34 ∷ v ++ b ∷ []) (34 ∷ v ++ 92 ∷ []) _ (ap (λ (n : ℕ). 34 ∷ v ++ n ∷ []) x) (grown s at ps (34 ∷ v) b P i), k, (λ r. subst (λ (n : ℕ). AreCharacters is_text_byte cs (n ∷ r)) x (f r)), refl))
-    (λ d. branch (b == 10) _ _ _ _ (λ h r. stuck_part s at ps 34 v P 4 i (λ q. refl) (b ∷ r))
+    (λ d. branch (b == 10) _ _ _ _ (λ h r. stuck_part s at ps 34 v P 4 i (λ q. (refl, refl)) (b ∷ r))
     (λ h. (ps, cs ++ Plain b ∷ [], v ++ b ∷ [], grown s at ps (34 ∷ v) b P i, (λ r. written_more cs (Plain b) r ∙ k (b ∷ r) ∙ sym (snoc v b r)), (λ r. characters_more cs (Plain b) r (f r) (text_byte b h q d) tt)))))
 
 text_goes : (s b at : ℕ) (P : Front) (ps : List Piece) (cs : List Character) (v w : List ℕ) → Part s at ps (34 ∷ v ++ w) P → ((r : List ℕ) → written_all cs r ≡ v ++ r) → ((r : List ℕ) → AreCharacters is_text_byte cs (w ++ r)) → (p : Progress) → Progresses p b w
@@ -231,7 +235,7 @@ text_goes s b at P ps cs v w i k f Whole (c, h) = (
 text_goes s b at P ps cs v w i k f Over (c, h) =
     in_text_goes s b at P ps (cs ++ c ∷ []) (v ++ w) i (λ r. written_more cs c r ∙ k (written c r) ∙ ap (λ (u : List ℕ). v ++ u) (h.bytes r) ∙ sym (append_assoc v w r))
     (λ r. characters_more cs c (b ∷ r) (subst (AreCharacters is_text_byte cs) (sym (h.bytes (b ∷ r))) (f (b ∷ r))) (h.is is_text_byte) (h.digits (b ∷ r) (r, refl)))
-text_goes s b at P ps cs v w i k f Wrong h = λ r. stuck_part s at ps 34 (v ++ w) P 4 i (λ q. refl) (b ∷ r)
+text_goes s b at P ps cs v w i k f Wrong h = λ r. stuck_part s at ps 34 (v ++ w) P 4 i (λ q. (refl, refl)) (b ∷ r)
 
 -- ---- comments and directives
 
@@ -245,58 +249,85 @@ comment_goes s closing.Starred b at P ps w i o =
     branch (b == 47) _ _ _ _
     (λ h. finished (Block (w ++ b ∷ [])) s b at P ps (47 ∷ 42 ∷ w) i (λ r. ap (λ (u : List ℕ). 47 ∷ 42 ∷ u) (sym (snoc w b r))) (past_snoc w (s + 1 + 1) b) (o (b ∷ []) ∙ ap (λ (i : ℕ). closes_from closing.Starred (i ∷ [])) (eqb-true b 47 h)) refl (λ r. tt))
     (λ h. comment_grows s closing.Starred b at P ps w i o (ap not h))
+comment_goes s closing.Returned b at P ps w i o =
+    branch (b == 47) _ _ _ _ (λ h r. stuck_part s at ps 47 (42 ∷ w) P 3 i (λ q. (refl, refl)) (b ∷ r)) (λ h. comment_grows s closing.Returned b at P ps w i o (ap not h))
 comment_goes s closing.Joined b at P ps w i o =
-    branch (b == 47) _ _ _ _ (λ h r. stuck_part s at ps 47 (42 ∷ w) P 3 i (λ q. refl) (b ∷ r)) (λ h. comment_grows s closing.Joined b at P ps w i o (ap not h))
+    branch (b == 47) _ _ _ _ (λ h r. stuck_part s at ps 47 (42 ∷ w) P 3 i (λ q. (refl, refl)) (b ∷ r)) (λ h. comment_grows s closing.Joined b at P ps w i o (ap not h))
 
 -- a line that the newline, or the end of the text, ends
-pub line_is : (w q : List ℕ) → NewlineNext q → has_no_newline w ≡ true → continued_at w ≡ None → IsLine w q
-line_is w q next none k = (runs_to_newline w q next none k, ends_at_once q next)
+pub line_is : (w q : List ℕ) → NewlineNext q → has_no_newline w ≡ true → broken_at w ≡ None → IsLine w q
+line_is w q next none k = (runs_to_newline w q next none k, next)
 
--- a line that a `\` continues: no piece begins with that
-line_stops : (p : List ℕ → Piece) (before : List ℕ) → ((w r : List ℕ) → spelled (p w) r ≡ before ++ w ++ r) → ((w : List ℕ) (s : ℕ) → ends (p w) s ≡ past (past s before) w) → ((w r : List ℕ) → IsLine w r → Longest (p w) r)
-    → (s at : ℕ) (P : Front) (ps : List Piece) (w : List ℕ) (n : ℕ) → Part s at ps (before ++ w) P → has_no_newline w ≡ true → (k : Continued w n) → Fits (first_behind_all P.first ps) (p k.own)
-    → (q : List ℕ) → NewlineNext q → StuckAt P.base P.first 2 (past s before + n) (P.bytes q)
-line_stops p before spell end longest s at P ps w n i none k f q next =
+-- a comment that breaks off is at fault there
+pub line_stuck : (s at : ℕ) (P : Front) (ps : List Piece) (w : List ℕ) (n : ℕ) → Part s at ps (47 ∷ 47 ∷ w) P → has_no_newline w ≡ true → broken_at w ≡ Some n → (q : List ℕ) → NewlineNext q → StuckAt P.base P.first 2 (s + (n + 1 + 1)) (P.bytes q)
+line_stuck s at P ps w n i none k q next =
+    let c = broken w n k in
     record {
-      pieces = ps ++ p k.own ∷ [];
-      byte = 92;
-      rest = k.gap ++ q;
-      spells = i.0 q ∙ ap (text ps) same ∙ sym (text_more ps (p k.own) (92 ∷ k.gap ++ q));
-      good = good_more P.first ps (p k.own) (92 ∷ k.gap ++ q) (subst (Good P.first ps) same (i.1 q)) f (longest k.own _ (runs_before k.own (k.gap ++ q) (k.line none), white_newline k.gap q next k.white));
-      place_is = ends_more ps (p k.own) P.base ∙ ap (ends (p k.own)) i.2 ∙ end k.own s ∙ past_is k.own (past s before) ∙ ap (λ (m : ℕ). past s before + m) k.count;
+      pieces = ps;
+      byte = 47;
+      rest = 47 ∷ w ++ q;
+      spells = i.0 q;
+      good = i.1 q;
+      place_is = (let x = i.2 in let y = ap length (c.own_is q next none) ∙ c.count in omega arith);
       reason_is = refl;
+      none = inr (no_comment _ (w ++ q) (c.breaks q next none));
+    }
+
+-- the bytes of a directive up to where it breaks off
+own_part : (w : List ℕ) (n : ℕ) → broken_at w ≡ Some n → has_no_newline w ≡ true → (q : List ℕ) → NewlineNext q → own_line (w ++ q) ≡ take n w
+own_part w n k none q next = let c = broken w n k in c.own_is q next none ∙ sym (take_at c.own c.gap n c.count) ∙ ap (take n) (sym c.bytes)
+
+reaches : (first include : Bool) (n m : ℕ) → first ≡ true → include ≡ true → n ≡ m → cond ((true && first) && include) (1 + n) 0 ≡ 1 + m
+reaches first include n m f g e = rw (f, g, e)
+
+reasons : (first include : Bool) (n m : ℕ) → first ≡ true → include ≡ true → cond ((true && first) && not include) n m ≡ m
+reasons first include n m f g = rw (f, g)
+
+pub directive_stuck : (s at : ℕ) (P : Front) (ps : List Piece) (w : List ℕ) (n : ℕ) → Part s at ps (35 ∷ w) P → first_behind_all P.first ps ≡ true → has_no_newline w ≡ true → broken_at w ≡ Some n → is_directive (take n w) ≡ true → (q : List ℕ) → NewlineNext q
+    → StuckAt P.base P.first 2 (s + 1 + n) (P.bytes q)
+directive_stuck s at P ps w n i first none k g q next =
+    let c = broken w n k in
+    let own = ap is_directive (own_part w n k none q next) ∙ g in
+    record {
+      pieces = ps;
+      byte = 35;
+      rest = w ++ q;
+      spells = i.0 q;
+      good = i.1 q;
+      place_is = (let x = i.2 in let y = reaches _ _ (length (own_line (w ++ q))) n first own (ap length (c.own_is q next none) ∙ c.count) in further _ _ s n x y);
+      reason_is = reasons _ _ 6 2 first own;
+      none = inr (no_directive _ (w ++ q) (c.breaks q next none));
     }
   where
-    same : (before ++ w) ++ q ≡ spelled (p k.own) (92 ∷ k.gap ++ q)
-    same =
-        ap (λ (v : List ℕ). (before ++ v) ++ q) k.bytes ∙ append_assoc before (k.own ++ 92 ∷ k.gap) q
-        ∙ ap (λ (v : List ℕ). before ++ v) (append_assoc k.own (92 ∷ k.gap) q) ∙ sym (append_assoc before k.own (92 ∷ k.gap ++ q)) ∙ sym (spell k.own (92 ∷ k.gap ++ q))
+    further : (a b s n : ℕ) → a ≡ s → b ≡ 1 + n → a + b ≡ s + 1 + n
+    further a b s n h k = omega arith
 
-pub line_stuck : (s at : ℕ) (P : Front) (ps : List Piece) (w : List ℕ) (n : ℕ) → Part s at ps (47 ∷ 47 ∷ w) P → has_no_newline w ≡ true → continued_at w ≡ Some n → (q : List ℕ) → NewlineNext q → StuckAt P.base P.first 2 (s + (n + 1 + 1)) (P.bytes q)
-line_stuck s at P ps w n i none k q next =
-    subst (λ (m : ℕ). StuckAt P.base P.first 2 m (P.bytes q)) (omega arith) (line_stops Line (47 ∷ 47 ∷ []) (λ v r. refl) (λ v m. refl) (λ v r l. l) s at P ps w n i none (continued w n k) tt q next)
+refuses : (first include : Bool) (n m i : ℕ) → first ≡ true → include ≡ false → (cond ((true && first) && not include) n m ≡ n) × (cond ((true && first) && include) i m ≡ m)
+refuses first include n m i f g = (rw (f, g), rw (f, g))
 
-pub directive_stuck : (s at : ℕ) (P : Front) (ps : List Piece) (w : List ℕ) (n : ℕ) → Part s at ps (35 ∷ w) P → first_behind_all P.first ps ≡ true → has_no_newline w ≡ true → continued_at w ≡ Some n → is_include (take n w) ≡ true → (q : List ℕ) → NewlineNext q
-    → StuckAt P.base P.first 2 (s + 1 + n) (P.bytes q)
-directive_stuck s at P ps w n i first none k g =
-    let c = continued w n k in
-    line_stops Directive (35 ∷ []) (λ v r. refl) (λ v m. refl) (λ v r l. l) s at P ps w n i none c (first, ap is_include (sym (take_at c.own (92 ∷ c.gap) n c.count) ∙ ap (take n) (sym c.bytes)) ∙ g)
+-- no piece begins with the `#` of a directive that is no `#include`, or that leaves a comment open
+directive_refused : (s at : ℕ) (P : Front) (ps : List Piece) (w : List ℕ) → Part s at ps (35 ∷ w) P → first_behind_all P.first ps ≡ true → (q : List ℕ) → is_directive (own_line (w ++ q)) ≡ false → StuckAt P.base P.first 6 s (P.bytes q)
+directive_refused s at P ps w i first q d = stuck_before s at ps 35 w P 6 i q ((refuses _ _ 6 2 0 first d).0, (refuses _ _ 0 0 (1 + length (own_line (w ++ q))) first d).1)
 
--- no piece begins with the `#` of a directive that is no `#include`
-pub directive_refused : (s at : ℕ) (P : Front) (ps : List Piece) (w : List ℕ) → Part s at ps (35 ∷ w) P → first_behind_all P.first ps ≡ true → (q : List ℕ) → StuckAt P.base P.first 6 s (P.bytes q)
-directive_refused s at P ps w i first q = stuck_part s at ps 35 w P 6 i (λ r. ap (λ (c : Bool). cond c 6 2) first) q
+-- these bytes up to its end are no `#include`, or leave a comment open
+pub whole_refused : (s at : ℕ) (P : Front) (ps : List Piece) (w : List ℕ) → Part s at ps (35 ∷ w) P → first_behind_all P.first ps ≡ true → has_no_newline w ≡ true → broken_at w ≡ None → is_directive w ≡ false → (q : List ℕ) → NewlineNext q → StuckAt P.base P.first 6 s (P.bytes q)
+whole_refused s at P ps w i first none k g q next = directive_refused s at P ps w i first q (ap is_directive (own_whole w q next none k) ∙ g)
 
-line_goes : (s end b at : ℕ) (P : Front) (ps : List Piece) (w : List ℕ) → Part s at ps (47 ∷ 47 ∷ w) P → has_no_newline w ≡ true → (b == 10) ≡ true → (o : Option ℕ) → continued_at w ≡ o
+pub broken_refused : (s at : ℕ) (P : Front) (ps : List Piece) (w : List ℕ) (n : ℕ) → Part s at ps (35 ∷ w) P → first_behind_all P.first ps ≡ true → has_no_newline w ≡ true → broken_at w ≡ Some n → is_directive (take n w) ≡ false → (q : List ℕ) → NewlineNext q
+    → StuckAt P.base P.first 6 s (P.bytes q)
+broken_refused s at P ps w n i first none k g q next = directive_refused s at P ps w i first q (ap is_directive (own_part w n k none q next) ∙ g)
+
+line_goes : (s end b at : ℕ) (P : Front) (ps : List Piece) (w : List ℕ) → Part s at ps (47 ∷ 47 ∷ w) P → has_no_newline w ≡ true → (b == 10) ≡ true → (o : Option ℕ) → broken_at w ≡ o
     → Goes (end_line s end (two_on o)) (at + 1) (onward P b)
 line_goes s end b at P ps w i none h None k = line_ended (Line w) s b at P ps (47 ∷ 47 ∷ w) i (λ r. refl) refl tt (λ r. line_is w (b ∷ r) h none k) h
 line_goes s end b at P ps w i none h (Some n) k = λ r. line_stuck s at P ps w n i none k (b ∷ r) h
 
-directive_goes : (s end b at : ℕ) (P : Front) (ps : List Piece) (w : List ℕ) → Part s at ps (35 ∷ w) P → first_behind_all P.first ps ≡ true → has_no_newline w ≡ true → (b == 10) ≡ true → (o : Option ℕ) → continued_at w ≡ o
+directive_goes : (s end b at : ℕ) (P : Front) (ps : List Piece) (w : List ℕ) → Part s at ps (35 ∷ w) P → first_behind_all P.first ps ≡ true → has_no_newline w ≡ true → (b == 10) ≡ true → (o : Option ℕ) → broken_at w ≡ o
     → Goes (end_directive s end w o) (at + 1) (onward P b)
 directive_goes s end b at P ps w i first none h None k =
-    branch (is_include w) _ _ _ _ (λ g. line_ended (Directive w) s b at P ps (35 ∷ w) i (λ r. refl) refl (first, g) (λ r. line_is w (b ∷ r) h none k) h) (λ g r. directive_refused s at P ps w i first (b ∷ r))
+    branch (is_directive w) _ _ _ _ (λ g. line_ended (Directive w) s b at P ps (35 ∷ w) i (λ r. refl) refl (first, g) (λ r. line_is w (b ∷ r) h none k) h) (λ g r. whole_refused s at P ps w i first none k g (b ∷ r) h)
 directive_goes s end b at P ps w i first none h (Some n) k =
-    branch (is_include (take n w)) _ _ _ _ (λ g r. directive_stuck s at P ps w n i first none k g (b ∷ r) h) (λ g r. directive_refused s at P ps w i first (b ∷ r))
+    branch (is_directive (take n w)) _ _ _ _ (λ g r. directive_stuck s at P ps w n i first none k g (b ∷ r) h) (λ g r. broken_refused s at P ps w n i first none k g (b ∷ r) h)
 
 -- ---- every state
 
@@ -310,7 +341,7 @@ goes t (InNumber s power) at P (ps, x, w, i, digit, run, last) b rest e =
     (λ h. branch (is_some (integer_of (slice_range t s at))) _ _ _ _
     (λ g. after (Number (x ∷ w)) _ s b at P ps (x ∷ w) i (λ r. refl) refl (both (is_digit x) (continues false w) digit run, ap (λ (v : List ℕ). is_some (integer_of v)) (sym (part_slice t s at ps (x ∷ w) P (b ∷ rest) i e)) ∙ g) refl
     (λ r. ap (λ (c : Bool). is_run_byte c b) (number_power x w digit ∙ last) ∙ h))
-    (λ g r. stuck_part s at ps x w P 5 i (λ q. digit_reason _ x (w ++ q) digit) (b ∷ r)))
+    (λ g r. stuck_part s at ps x w P 5 i (λ q. digit_fault _ x (w ++ q) digit) (b ∷ r)))
 goes t (InMark s m) at P (ps, i) b rest e =
     branch (is_slash m && b == 42) _ _ _ _ (λ h. (ps, [], slash_grown m s at b 42 P ps i (both_true (is_slash m) (b == 42) h), (λ v. refl)))
     (λ h. branch (is_slash m && b == 47) _ _ _ _ (λ g. (ps, [], slash_grown m s at b 47 P ps i (both_true (is_slash m) (b == 47) g), refl))
@@ -321,17 +352,17 @@ goes t (Dots s) at P (ps, i) b rest e =
     (λ h. dots_goes _ s b at P ps i h)
 goes t (CharOpened s) at P (ps, i) b rest e =
     branch (b == 92) _ _ _ _ (λ h. (ps, 92 ∷ [], part_along s (at + 1) ps (39 ∷ b ∷ []) (39 ∷ 92 ∷ []) _ (ap (λ (n : ℕ). 39 ∷ n ∷ []) (eqb-true b 92 h)) (grown s at ps (39 ∷ []) b P i), refl))
-    (λ h. branch (is_character_byte b) _ _ _ _ (λ g. (ps, Plain b, b ∷ [], grown s at ps (39 ∷ []) b P i, (λ r. refl), g)) (λ g r. stuck_part s at ps 39 [] P 4 i (λ q. refl) (b ∷ r)))
+    (λ h. branch (is_character_byte b) _ _ _ _ (λ g. (ps, Plain b, b ∷ [], grown s at ps (39 ∷ []) b P i, (λ r. refl), g)) (λ g r. stuck_part s at ps 39 [] P 4 i (λ q. (refl, refl)) (b ∷ r)))
 goes t (CharEscape s x) at P (ps, w, i, h) b rest e = char_goes s b at P ps w i (escape_step x b) (escape_progresses x w h b)
 goes t (CharHeld s) at P (ps, c, w, i, k, f) b rest e = char_held_goes s b at P ps c w i k f
 goes t (InText s) at P (ps, cs, v, i, k, f) b rest e = in_text_goes s b at P ps cs v i k (λ r. f (b ∷ r))
 goes t (TextEscape s x) at P (ps, cs, v, w, i, k, f, h) b rest e = text_goes s b at P ps cs v w i k f (escape_step x b) (escape_progresses x w h b)
 goes t (InDirective s end) at P (ps, w, i, first, none) b rest e =
     branch (b == 10) _ _ _ _
-    (λ h. subst (λ (v : List ℕ). Goes (end_directive s end v (continued_at v)) (at + 1) (onward P b)) (sym (part_slice_behind t s at ps 35 w P (b ∷ rest) i e)) (directive_goes s end b at P ps w i first none h (continued_at w) refl))
+    (λ h. subst (λ (v : List ℕ). Goes (end_directive s end v (broken_at v)) (at + 1) (onward P b)) (sym (part_slice_behind t s at ps 35 w P (b ∷ rest) i e)) (directive_goes s end b at P ps w i first none h (broken_at w) refl))
     (λ h. (ps, w ++ b ∷ [], grown s at ps (35 ∷ w) b P i, first, all_more (λ c. not (is_newline c)) w b none (ap not h)))
 goes t (InComment s c) at P (ps, w, i, o) b rest e = comment_goes s c b at P ps w i o
 goes t (InLine s end) at P (ps, w, i, none) b rest e =
     branch (b == 10) _ _ _ _
-    (λ h. subst (λ (v : List ℕ). Goes (end_line s end (continued_at v)) (at + 1) (onward P b)) (sym (part_slice t s at ps (47 ∷ 47 ∷ w) P (b ∷ rest) i e)) (line_goes s end b at P ps w i none h (continued_at w) refl))
+    (λ h. subst (λ (v : List ℕ). Goes (end_line s end (broken_at v)) (at + 1) (onward P b)) (sym (part_slice t s at ps (47 ∷ 47 ∷ w) P (b ∷ rest) i e)) (line_goes s end b at P ps w i none h (broken_at w) refl))
     (λ h. (ps, w ++ b ∷ [], grown s at ps (47 ∷ 47 ∷ w) b P i, all_more (λ c. not (is_newline c)) w b none (ap not h)))

@@ -7,7 +7,7 @@ use Rattle.c_lexer.specs.declared.mark.Mark.TheVariants.{Plus}
 use Rattle.c_lexer.specs.declared.state.State.{State}
 use Rattle.c_lexer.specs.declared.state.State.TheVariants.{Between, InWord, InNumber, InMark, Dots, CharOpened, CharEscape, CharHeld, InText, TextEscape, InDirective, InComment, InLine}
 use Rattle.c_lexer.specs.declared.state.Closing.{Closing}
-use Rattle.c_lexer.specs.declared.state.Closing.TheVariants.{Open, Starred, Continued, Joined}
+use Rattle.c_lexer.specs.declared.state.Closing.TheVariants.{Open, Starred, Continued, Returned, Joined}
 use Rattle.c_lexer.specs.declared.state.Progress.{Progress}
 use Rattle.c_lexer.specs.declared.state.Progress.TheVariants.{More, Whole, Over, Wrong}
 use Rattle.c_lexer.specs.declared.state.Ended.{Ended}
@@ -17,8 +17,8 @@ use Rattle.c_types.specs.Words.{is_letter, is_digit, is_word_byte}
 use Rattle.c_lexer.specs.Bytes.{is_space, is_run_byte, is_character_byte}
 use Rattle.c_lexer.specs.Numbers.{integer_of}
 use Rattle.c_lexer.specs.Marks.{mark_text, mark_at, longer, is_slash, is_dot}
-use Rattle.c_lexer.specs.Pieces.{Piece, Space, Word, Number, Char, Text, Sign, Directive, Line, Block, spelled, is_include, Fits, Longest, first_behind}
-use Rattle.c_lexer.specs.Machine.{of_mark, begin, after_mark, escape_step, char_held, char_escape, in_text, text_escape, continued_at, end_directive, end_line, in_comment, step, finish, Lexed, Read, Faulty, go_on}
+use Rattle.c_lexer.specs.Pieces.{Piece, Space, Word, Number, Char, Text, Sign, Directive, Line, Block, spelled, is_directive, Fits, Longest, first_behind}
+use Rattle.c_lexer.specs.Machine.{of_mark, begin, after_mark, escape_step, char_held, char_escape, in_text, text_escape, broken_at, end_directive, end_line, in_comment, step, finish, Lexed, Read, Faulty, go_on}
 use Rattle.c_lexer.proofs.PieceLemmas.{ends, ends_is, Stands}
 use Rattle.c_lexer.proofs.Reading.{add_all, scan, kept, read}
 
@@ -94,13 +94,14 @@ text_moves s Over b at h = in_text_moves s b at h
 text_moves s Wrong b at h = self s
 
 directive_moves : (s end at : ℕ) (w : List ℕ) (o : Option ℕ) → s ≤ at → Moves (end_directive s end w o) s (at + 1)
-directive_moves s end at w None h = move (is_include w) _ _ s (at + 1) (beyond s at h) (self s)
-directive_moves s end at w (Some n) h = move (is_include (take n w)) _ _ s (at + 1) (omega arith) (self s)
+directive_moves s end at w None h = move (is_directive w) _ _ s (at + 1) (beyond s at h) (self s)
+directive_moves s end at w (Some n) h = move (is_directive (take n w)) _ _ s (at + 1) (omega arith) (self s)
 
 comment_moves : (s : ℕ) (c : Closing) (b at : ℕ) → s ≤ at → Moves (in_comment s c b at) s (at + 1)
 comment_moves s Open b at h = same s at h
 comment_moves s Starred b at h = move (b == 47) _ _ s (at + 1) (beyond s at h) (same s at h)
 comment_moves s Continued b at h = same s at h
+comment_moves s Returned b at h = move (b == 47) _ _ s (at + 1) (self s) (same s at h)
 comment_moves s Joined b at h = move (b == 47) _ _ s (at + 1) (self s) (same s at h)
 
 line_moves : (s end at : ℕ) (o : Option ℕ) → s ≤ at → Moves (end_line s end o) s (at + 1)
@@ -120,9 +121,9 @@ step_moves t (CharEscape s e) b at h = char_moves s (escape_step e b) b at h
 step_moves t (CharHeld s) b at h = char_held_moves s b at h
 step_moves t (InText s) b at h = in_text_moves s b at h
 step_moves t (TextEscape s e) b at h = text_moves s (escape_step e b) b at h
-step_moves t (InDirective s end) b at h = move (b == 10) _ _ s (at + 1) (directive_moves s end at (slice_range t (s + 1) at) (continued_at (slice_range t (s + 1) at)) h) (same s at h)
+step_moves t (InDirective s end) b at h = move (b == 10) _ _ s (at + 1) (directive_moves s end at (slice_range t (s + 1) at) (broken_at (slice_range t (s + 1) at)) h) (same s at h)
 step_moves t (InComment s c) b at h = comment_moves s c b at h
-step_moves t (InLine s end) b at h = move (b == 10) _ _ s (at + 1) (line_moves s end at (continued_at (slice_range t s at)) h) (same s at h)
+step_moves t (InLine s end) b at h = move (b == 10) _ _ s (at + 1) (line_moves s end at (broken_at (slice_range t s at)) h) (same s at h)
 
 finish_moves : (t : List ℕ) (s : State) (at : ℕ) → floor s at ≤ at → Moves (finish t s at) (floor s at) (at + 1)
 finish_moves t (InComment s star) at h = self s

@@ -1,12 +1,11 @@
 -- Where lines end.
-use Rattle.std.proofs.Common.{◌≡◌, ◌<◌, ◌+◌, ℕ, Bool, true, false, not, ◌&&◌, ◌||◌, ◌==◌, cond, List, [], ◌∷◌, ◌++◌, length, Option, Some, None, refl, arith, ap, sym, ◌∙◌, length-append}
+use Rattle.std.proofs.Common.{◌≡◌, ◌<◌, ◌+◌, ℕ, Bool, true, false, not, ◌&&◌, ◌||◌, ◌==◌, cond, List, [], ◌∷◌, ◌++◌, length, Option, Some, None, refl, arith, ap, sym, ◌∙◌}
 use Rattle.std.specs.List.{list_all}
 use Rattle.std.specs.Option.{option_map}
-use Rattle.std.proofs.lemmas.Bool.{eqb-true}
-use Rattle.c_lexer.specs.Bytes.{is_space, is_newline}
-use Rattle.c_lexer.specs.Pieces.{comes_to_newline, ends_line, runs_on}
-use Rattle.c_lexer.specs.Machine.{continued_at}
-use Rattle.c_lexer.proofs.Truths.{both_true, all_of_more, or_first, or_second, not_true, and_not, and_false, or_true, second_of}
+use Rattle.c_lexer.specs.Bytes.{is_space, is_newline, is_return}
+use Rattle.c_lexer.specs.Pieces.{comes_to_newline, returns_to_newline, breaks_off, ends_line, own_line, NewlineNext, runs_on}
+use Rattle.c_lexer.specs.Machine.{breaks_line, broken_at}
+use Rattle.c_lexer.proofs.Truths.{all_of_more, or_first, or_second, not_true, and_not}
 
 abbrev pub has_no_newline : List ℕ → Bool
 has_no_newline w = list_all (λ b. not (is_newline b)) w
@@ -16,24 +15,19 @@ pub no_newline : (w r : List ℕ) → runs_on w r ≡ true → has_no_newline w 
 no_newline [] r h = refl
 no_newline (b ∷ w) r h =
     let q = and_not (ends_line (b ∷ w ++ r)) (runs_on w r) h in
-    let x = or_first (b == 10) (b == 92 && comes_to_newline (w ++ r)) q.0 in
+    let x = or_first (b == 10) (breaks_off b (w ++ r)) q.0 in
     let y = no_newline w r q.1 in
     rw (x, y)
 
 -- ---- what comes to a newline
 
--- a newline is next, or the end of the text
-abbrev pub NewlineNext : List ℕ → Type 0
-NewlineNext [] = Unit {0}
-NewlineNext (b ∷ r) = is_newline b ≡ true
-
 comes_at_once : (r : List ℕ) → NewlineNext r → comes_to_newline r ≡ true
 comes_at_once [] e = refl
 comes_at_once (b ∷ r) e = rw e
 
-pub ends_at_once : (r : List ℕ) → NewlineNext r → ends_line r ≡ true
-ends_at_once [] e = refl
-ends_at_once (b ∷ r) e = rw e
+returns_at_once : (r : List ℕ) → NewlineNext r → returns_to_newline r ≡ true
+returns_at_once [] e = refl
+returns_at_once (b ∷ r) e = rw e
 
 space_newline : (w r : List ℕ) → NewlineNext r → has_no_newline w ≡ true → comes_to_newline (w ++ r) ≡ list_all is_space w
 space_newline [] r e h = comes_at_once r e
@@ -43,128 +37,135 @@ space_newline (b ∷ w) r e h =
     let y = space_newline w r e q.1 in
     rw (x, y)
 
-space_backslash : (w r : List ℕ) → has_no_newline w ≡ true → comes_to_newline (w ++ 92 ∷ r) ≡ false
-space_backslash [] r h = refl
-space_backslash (b ∷ w) r h =
+returns_newline : (w r : List ℕ) → NewlineNext r → has_no_newline w ≡ true → returns_to_newline (w ++ r) ≡ list_all is_return w
+returns_newline [] r e h = returns_at_once r e
+returns_newline (b ∷ w) r e h =
     let q = all_of_more (λ c. not (is_newline c)) b w h in
     let x = not_true (b == 10) q.0 in
-    let y = space_backslash w r q.1 in
-    rw (x, y) (and_false (is_space b))
+    let y = returns_newline w r e q.1 in
+    rw (x, y)
 
-pub white_newline : (w r : List ℕ) → NewlineNext r → list_all is_space w ≡ true → comes_to_newline (w ++ r) ≡ true
-white_newline [] r e h = comes_at_once r e
-white_newline (b ∷ w) r e h =
-    let q = all_of_more is_space b w h in
-    let x = q.0 in
-    let y = white_newline w r e q.1 in
-    rw (x, y) (or_true (b == 10))
+-- the bytes up to the newline say where a line breaks off
+pub breaks_same : (b : ℕ) (w r : List ℕ) → NewlineNext r → has_no_newline w ≡ true → breaks_off b (w ++ r) ≡ breaks_line b w
+breaks_same b w r e h = let x = space_newline w r e h in let y = returns_newline w r e h in rw (x, y)
 
-both : (f : ℕ → Bool) (b : ℕ) (w : List ℕ) → f b ≡ true → list_all f w ≡ true → list_all f (b ∷ w) ≡ true
-both f b w h k = rw (h, k)
+-- ---- lines that don't break off
 
--- white space, and then a newline or the end of the text
-pub record ToNewline (r : List ℕ) : Type 0 where
-  pub gap : List ℕ
-  pub rest : List ℕ
-  pub bytes : r ≡ gap ++ rest
-  pub next : NewlineNext rest
-  pub white : list_all is_space gap ≡ true
-  pub line : has_no_newline gap ≡ true
+no_more : (a c r : Bool) → a ≡ false → c ≡ false → r ≡ true → (not (a || c) && r) ≡ true
+no_more a c r h k l = rw (h, k, l)
 
-pub to_newline : (r : List ℕ) → comes_to_newline r ≡ true → ToNewline r
-to_newline [] h = record { gap = []; rest = []; bytes = refl; next = tt; white = refl; line = refl }
-to_newline (b ∷ r) h = go (b == 10) refl (λ k. to_newline r k)
-  where
-    go : (c : Bool) → (b == 10) ≡ c → (comes_to_newline r ≡ true → ToNewline r) → ToNewline (b ∷ r)
-    go true e f = record { gap = []; rest = b ∷ r; bytes = refl; next = e; white = refl; line = refl }
-    go false e f =
-        let q = both_true (is_space b) (comes_to_newline r) (second_of (b == 10) _ e h) in
-        let k = f q.1 in
-        record { gap = b ∷ k.gap; rest = k.rest; bytes = ap (λ (l : List ℕ). b ∷ l) k.bytes; next = k.next; white = both is_space b k.gap q.0 k.white; line = both (λ c. not (is_newline c)) b k.gap (ap not e) k.line }
+not_here : (c : Bool) (o : Option ℕ) → cond c (Some 0) (option_map (λ n. n + 1) o) ≡ None → (c ≡ false) × (o ≡ None)
+not_here true o h = absurd cc
+not_here false None h = (refl, refl)
+not_here false (Some n) h = absurd cc
 
--- ---- lines that run on
+here_not : (c : Bool) (o : Option ℕ) → c ≡ false → o ≡ None → cond c (Some 0) (option_map (λ n. n + 1) o) ≡ None
+here_not c o h g = rw (h, g)
 
-no_more : (b : ℕ) (c : Bool) (r : Bool) → (b == 10) ≡ false → (b == 92 && c) ≡ false → r ≡ true → (not (b == 10 || (b == 92 && c)) && r) ≡ true
-no_more b c r h k l = rw (h, k, l)
-
--- up to a `\`
-pub runs_before : (w r : List ℕ) → has_no_newline w ≡ true → runs_on w (92 ∷ r) ≡ true
-runs_before [] r h = refl
-runs_before (b ∷ w) r h =
-    let q = all_of_more (λ c. not (is_newline c)) b w h in
-    no_more b (comes_to_newline (w ++ 92 ∷ r)) (runs_on w (92 ∷ r)) (not_true (b == 10) q.0) (ap (λ (c : Bool). b == 92 && c) (space_backslash w r q.1) ∙ and_false (b == 92)) (runs_before w r q.1)
-
-no_backslash : (c : Bool) (o : Option ℕ) → cond c (Some 0) (option_map (λ n. n + 1) o) ≡ None → (c ≡ false) × (o ≡ None)
-no_backslash true o h = absurd cc
-no_backslash false None h = (refl, refl)
-no_backslash false (Some n) h = absurd cc
-
--- up to the newline or the end of the text, where no `\` continues it
-pub runs_to_newline : (w r : List ℕ) → NewlineNext r → has_no_newline w ≡ true → continued_at w ≡ None → runs_on w r ≡ true
+pub runs_to_newline : (w r : List ℕ) → NewlineNext r → has_no_newline w ≡ true → broken_at w ≡ None → runs_on w r ≡ true
 runs_to_newline [] r e h n = refl
 runs_to_newline (b ∷ w) r e h n =
     let q = all_of_more (λ c. not (is_newline c)) b w h in
-    let y = no_backslash (b == 92 && list_all is_space w) (continued_at w) n in
-    no_more b (comes_to_newline (w ++ r)) (runs_on w r) (not_true (b == 10) q.0) (ap (λ (c : Bool). b == 92 && c) (space_newline w r e q.1) ∙ y.0) (runs_to_newline w r e q.1 y.1)
+    let y = not_here (breaks_line b w) (broken_at w) n in
+    no_more (b == 10) (breaks_off b (w ++ r)) (runs_on w r) (not_true (b == 10) q.0) (breaks_same b w r e q.1 ∙ y.0) (runs_to_newline w r e q.1 y.1)
 
-pub not_continued : (w r : List ℕ) → NewlineNext r → runs_on w r ≡ true → continued_at w ≡ None
-not_continued [] r e h = refl
-not_continued (b ∷ w) r e h =
+pub not_broken : (w r : List ℕ) → NewlineNext r → runs_on w r ≡ true → broken_at w ≡ None
+not_broken [] r e h = refl
+not_broken (b ∷ w) r e h =
     let q = and_not (ends_line (b ∷ w ++ r)) (runs_on w r) h in
-    let y = or_second (b == 10) (b == 92 && comes_to_newline (w ++ r)) q.0 in
-    let x : (b == 92 && list_all is_space w) ≡ false = ap (λ (c : Bool). b == 92 && c) (sym (space_newline w r e (no_newline w r q.1))) ∙ y in
-    let z = not_continued w r e q.1 in
-    rw (x, z)
+    let y = or_second (b == 10) (breaks_off b (w ++ r)) q.0 in
+    here_not (breaks_line b w) (broken_at w) (sym (breaks_same b w r e (no_newline w r q.1)) ∙ y) (not_broken w r e q.1)
 
--- ---- the `\` by which a line is continued
+own_at_once : (r : List ℕ) → NewlineNext r → own_line r ≡ []
+own_at_once [] e = refl
+own_at_once (b ∷ r) e = rw e
 
-pub record Continued (w : List ℕ) (n : ℕ) : Type 0 where
+own_on : (a c : Bool) (b : ℕ) (w v : List ℕ) → a ≡ false → c ≡ false → w ≡ v → cond (a || c) [] (b ∷ w) ≡ b ∷ v
+own_on a c b w v h k e = rw (h, k, e)
+
+own_stops : (a c : Bool) (w : List ℕ) → c ≡ true → cond (a || c) [] w ≡ []
+own_stops true c w k = refl
+own_stops false c w k = rw k
+
+-- it is its own line
+pub own_whole : (w r : List ℕ) → NewlineNext r → has_no_newline w ≡ true → broken_at w ≡ None → own_line (w ++ r) ≡ w
+own_whole [] r e h n = own_at_once r e
+own_whole (b ∷ w) r e h n =
+    let q = all_of_more (λ c. not (is_newline c)) b w h in
+    let y = not_here (breaks_line b w) (broken_at w) n in
+    own_on (b == 10) (breaks_off b (w ++ r)) b _ _ (not_true (b == 10) q.0) (breaks_same b w r e q.1 ∙ y.0) (own_whole w r e q.1 y.1)
+
+-- the line that goes on with these bytes doesn't break off
+abbrev pub is_whole : List ℕ → Bool
+is_whole [] = true
+is_whole (b ∷ r) = is_newline b || (not (breaks_off b r) && is_whole r)
+
+whole_on : (a c r : Bool) → c ≡ false → r ≡ true → (a || (not c && r)) ≡ true
+whole_on true c r h k = refl
+whole_on false c r h k = rw (h, k)
+
+whole_at_once : (r : List ℕ) → NewlineNext r → is_whole r ≡ true
+whole_at_once [] e = refl
+whole_at_once (b ∷ r) e = rw e
+
+pub whole_line : (w r : List ℕ) → runs_on w r ≡ true → NewlineNext r → is_whole (w ++ r) ≡ true
+whole_line [] r h e = whole_at_once r e
+whole_line (b ∷ w) r h e =
+    let q = and_not (ends_line (b ∷ w ++ r)) (runs_on w r) h in
+    whole_on (b == 10) (breaks_off b (w ++ r)) (is_whole (w ++ r)) (or_second (b == 10) (breaks_off b (w ++ r)) q.0) (whole_line w r q.1 e)
+
+-- ---- where a line breaks off
+
+pub record Broken (w : List ℕ) (n : ℕ) : Type 0 where
   pub own : List ℕ
   pub gap : List ℕ
-  pub bytes : w ≡ own ++ 92 ∷ gap
+  pub bytes : w ≡ own ++ gap
   pub count : length own ≡ n
-  pub white : list_all is_space gap ≡ true
-  pub line : has_no_newline w ≡ true → has_no_newline own ≡ true
+  pub within : n < length w
+  pub own_is : (r : List ℕ) → NewlineNext r → has_no_newline w ≡ true → own_line (w ++ r) ≡ own
+  pub breaks : (r : List ℕ) → NewlineNext r → has_no_newline w ≡ true → is_whole (w ++ r) ≡ false
 
 some_same : (n m : ℕ) → Some n ≡ Some m → n ≡ m
 some_same n m h = cc
 
-pub continued : (w : List ℕ) (n : ℕ) → continued_at w ≡ Some n → Continued w n
-continued [] n h = absurd cc
-continued (b ∷ w) n h = go (b == 92 && list_all is_space w) refl (continued_at w) refl h (λ m f. continued w m f)
+broken_here : (a c r : Bool) → a ≡ false → c ≡ true → (a || (not c && r)) ≡ false
+broken_here a c r h k = rw (h, k)
+
+broken_on : (a c r : Bool) → a ≡ false → r ≡ false → (a || (not c && r)) ≡ false
+broken_on a true r h k = rw h
+broken_on a false r h k = rw (h, k)
+
+pub broken : (w : List ℕ) (n : ℕ) → broken_at w ≡ Some n → Broken w n
+broken [] n h = absurd cc
+broken (b ∷ w) n h = go (breaks_line b w) refl (broken_at w) refl h (λ m f. broken w m f)
   where
-    go : (c : Bool) → (b == 92 && list_all is_space w) ≡ c → (o : Option ℕ) → continued_at w ≡ o → cond c (Some 0) (option_map (λ m. m + 1) o) ≡ Some n → ((m : ℕ) → continued_at w ≡ Some m → Continued w m) → Continued (b ∷ w) n
+    go : (c : Bool) → breaks_line b w ≡ c → (o : Option ℕ) → broken_at w ≡ o → cond c (Some 0) (option_map (λ m. m + 1) o) ≡ Some n → ((m : ℕ) → broken_at w ≡ Some m → Broken w m) → Broken (b ∷ w) n
     go true e o f g i =
-        let q = both_true (b == 92) (list_all is_space w) e in
-        record { own = []; gap = w; bytes = ap (λ (i : ℕ). i ∷ w) (eqb-true b 92 q.0); count = some_same 0 n g; white = q.1; line = λ l. refl }
+        let z = some_same 0 n g in
+        record {
+          own = [];
+          gap = b ∷ w;
+          bytes = refl;
+          count = z;
+          within = omega arith;
+          own_is = λ r next line. (let q = all_of_more (λ c. not (is_newline c)) b w line in own_stops (b == 10) (breaks_off b (w ++ r)) _ (breaks_same b w r next q.1 ∙ e));
+          breaks = λ r next line. (let q = all_of_more (λ c. not (is_newline c)) b w line in broken_here (b == 10) (breaks_off b (w ++ r)) _ (not_true (b == 10) q.0) (breaks_same b w r next q.1 ∙ e));
+        }
     go false e None f g i = absurd cc
     go false e (Some m) f g i =
         let k = i m f in
         let x = k.count in
         let y = some_same (m + 1) n g in
+        let z = k.within in
         record {
           own = b ∷ k.own;
           gap = k.gap;
           bytes = ap (λ (l : List ℕ). b ∷ l) k.bytes;
           count = omega arith;
-          white = k.white;
-          line = λ l. (let q = all_of_more (λ c. not (is_newline c)) b w l in let u = not_true (b == 10) q.0 in let v = k.line q.1 in rw (u, v));
+          within = omega arith;
+          own_is = λ r next line. (let q = all_of_more (λ c. not (is_newline c)) b w line in own_on (b == 10) (breaks_off b (w ++ r)) b _ _ (not_true (b == 10) q.0) (breaks_same b w r next q.1 ∙ e) (k.own_is r next q.1));
+          breaks = λ r next line. (let q = all_of_more (λ c. not (is_newline c)) b w line in broken_on (b == 10) (breaks_off b (w ++ r)) _ (not_true (b == 10) q.0) (k.breaks r next q.1));
         }
 
-white_stops : (w g : List ℕ) → list_all is_space (w ++ 92 ∷ g) ≡ false
-white_stops [] g = refl
-white_stops (b ∷ w) g = let x = white_stops w g in rw x (and_false (is_space b))
-
-pub continued_there : (w g : List ℕ) → list_all is_space g ≡ true → continued_at (w ++ 92 ∷ g) ≡ Some (length w)
-continued_there [] g h = rw h
-continued_there (b ∷ w) g h =
-    let x : (b == 92 && list_all is_space (w ++ 92 ∷ g)) ≡ false = ap (λ (c : Bool). b == 92 && c) (white_stops w g) ∙ and_false (b == 92) in
-    let y = continued_there w g h in
-    rw (x, y) (let z : length w + 1 ≡ length (b ∷ w) = omega arith in ap (λ (n : ℕ). Some n) z)
-
-pub continued_within : (w : List ℕ) (n : ℕ) → continued_at w ≡ Some n → n < length w
-continued_within w n h = let k = continued w n h in let x = ap length k.bytes ∙ length-append k.own (92 ∷ k.gap) in let y = k.count in omega arith
-
-pub one_line : (w g : List ℕ) → has_no_newline w ≡ true → has_no_newline g ≡ true → has_no_newline (w ++ 92 ∷ g) ≡ true
-one_line [] g h k = k
-one_line (b ∷ w) g h k = let q = all_of_more (λ c. not (is_newline c)) b w h in let x = not_true (b == 10) q.0 in let y = one_line w g q.1 k in rw (x, y)
+pub broken_within : (w : List ℕ) (n : ℕ) → broken_at w ≡ Some n → n < length w
+broken_within w n h = (broken w n h).within

@@ -7,7 +7,7 @@ use Rattle.c_lexer.specs.declared.mark.Mark.{Mark}
 use Rattle.c_lexer.specs.declared.state.State.{State}
 use Rattle.c_lexer.specs.declared.state.State.TheVariants.{Between, InWord, InNumber, InMark, Dots, CharOpened, CharEscape, CharHeld, InText, TextEscape, InDirective, InComment, InLine}
 use Rattle.c_lexer.specs.declared.state.Closing.{Closing}
-use Rattle.c_lexer.specs.declared.state.Closing.TheVariants.{Open, Starred, Continued, Joined}
+use Rattle.c_lexer.specs.declared.state.Closing.TheVariants.{Open, Starred, Continued, Returned, Joined}
 use Rattle.c_lexer.specs.declared.state.Progress.{Progress}
 use Rattle.c_lexer.specs.declared.state.Progress.TheVariants.{More, Whole, Over, Wrong}
 use Rattle.c_lexer.specs.declared.state.Ended.{Ended}
@@ -16,9 +16,9 @@ use Rattle.c_types.specs.Words.{is_letter, is_digit, is_word_byte}
 use Rattle.c_lexer.specs.Bytes.{is_space, is_run_byte, is_character_byte}
 use Rattle.c_lexer.specs.Numbers.{integer_of}
 use Rattle.c_lexer.specs.Marks.{mark_at, longer, is_slash, is_dot}
-use Rattle.c_lexer.specs.Pieces.{is_include}
-use Rattle.c_lexer.proofs.Lines.{continued_within}
-use Rattle.c_lexer.specs.Machine.{of_mark, begin, after_mark, in_mark, escape_step, char_held, char_escape, in_text, text_escape, continued_at, end_directive, end_line, in_comment, step, least, KeepsOrder}
+use Rattle.c_lexer.specs.Pieces.{is_directive}
+use Rattle.c_lexer.proofs.Lines.{broken_within}
+use Rattle.c_lexer.specs.Machine.{of_mark, begin, after_mark, in_mark, escape_step, char_held, char_escape, in_text, text_escape, broken_at, end_directive, end_line, in_comment, step, least, KeepsOrder}
 
 either : (c : Bool) (x y : Taken) (at : ℕ) → KeepsOrder at x → KeepsOrder at y → KeepsOrder at (cond c x y)
 either true x y at h k = h
@@ -67,17 +67,18 @@ text_escape_keeps s Over b at h = in_text_keeps s b at h
 text_escape_keeps s Wrong b at h = omega arith
 
 -- a line is continued within it
-slice_within : (t : List ℕ) (s at n : ℕ) → continued_at (slice_range t s at) ≡ Some n → s ≤ at → n ≤ at - s
-slice_within t s at n k h = let x = continued_within (slice_range t s at) n k in let y = length-take (at - s) (drop s t) in let z = min-le_left (at - s) (length (drop s t)) in omega arith
+slice_within : (t : List ℕ) (s at n : ℕ) → broken_at (slice_range t s at) ≡ Some n → s ≤ at → n ≤ at - s
+slice_within t s at n k h = let x = broken_within (slice_range t s at) n k in let y = length-take (at - s) (drop s t) in let z = min-le_left (at - s) (length (drop s t)) in omega arith
 
 directive_keeps : (s end at : ℕ) (w : List ℕ) (o : Option ℕ) → ((n : ℕ) → o ≡ Some n → s + 1 + n ≤ at) → s + 1 ≤ at → KeepsOrder at (end_directive s end w o)
-directive_keeps s end at w None f h = either (is_include w) _ _ at (omega arith) (omega arith)
-directive_keeps s end at w (Some n) f h = either (is_include (take n w)) _ _ at (f n refl) (omega arith)
+directive_keeps s end at w None f h = either (is_directive w) _ _ at (omega arith) (omega arith)
+directive_keeps s end at w (Some n) f h = either (is_directive (take n w)) _ _ at (f n refl) (omega arith)
 
 comment_keeps : (s : ℕ) (c : Closing) (b at : ℕ) → s ≤ at → KeepsOrder at (in_comment s c b at)
 comment_keeps s Open b at h = omega arith
 comment_keeps s Starred b at h = either (b == 47) _ _ at (omega arith) (omega arith)
 comment_keeps s Continued b at h = omega arith
+comment_keeps s Returned b at h = either (b == 47) _ _ at (omega arith) (omega arith)
 comment_keeps s Joined b at h = either (b == 47) _ _ at (omega arith) (omega arith)
 
 line_keeps : (s end at : ℕ) (o : Option ℕ) → ((n : ℕ) → o ≡ Some n → s + n ≤ at) → s ≤ at → KeepsOrder at (end_line s end o)
@@ -96,6 +97,6 @@ step_keeps t (CharEscape s e) b at h = char_escape_keeps s (escape_step e b) b a
 step_keeps t (CharHeld s) b at h = char_held_keeps s b at h
 step_keeps t (InText s) b at h = in_text_keeps s b at h
 step_keeps t (TextEscape s e) b at h = text_escape_keeps s (escape_step e b) b at h
-step_keeps t (InDirective s end) b at h = either (b == 10) _ _ at (directive_keeps s end at (slice_range t (s + 1) at) (continued_at (slice_range t (s + 1) at)) (λ n k. let x = slice_within t (s + 1) at n k h in (let y : s + 1 + n ≤ at = omega arith in y)) h) (omega arith)
+step_keeps t (InDirective s end) b at h = either (b == 10) _ _ at (directive_keeps s end at (slice_range t (s + 1) at) (broken_at (slice_range t (s + 1) at)) (λ n k. let x = slice_within t (s + 1) at n k h in (let y : s + 1 + n ≤ at = omega arith in y)) h) (omega arith)
 step_keeps t (InComment s c) b at h = comment_keeps s c b at h
-step_keeps t (InLine s end) b at h = either (b == 10) _ _ at (line_keeps s end at (continued_at (slice_range t s at)) (λ n k. let x = slice_within t s at n k h in (let y : s + n ≤ at = omega arith in y)) h) (omega arith)
+step_keeps t (InLine s end) b at h = either (b == 10) _ _ at (line_keeps s end at (broken_at (slice_range t s at)) (λ n k. let x = slice_within t s at n k h in (let y : s + n ≤ at = omega arith in y)) h) (omega arith)

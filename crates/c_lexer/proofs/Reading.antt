@@ -1,10 +1,9 @@
 -- A text that is spelled by good pieces is read as exactly what they are.
-use Rattle.std.proofs.Common.{◌≡◌, ◌≤◌, ◌+◌, ◌*◌, ℕ, Bool, true, false, not, ◌&&◌, ◌||◌, ◌==◌, nat_le, cond, List, [], ◌∷◌, ◌++◌, length, Option, Some, None, refl, arith, ap, sym, ◌∙◌, subst, append_assoc, take, zero-add}
+use Rattle.std.proofs.Common.{◌≡◌, ◌≤◌, ◌+◌, ◌*◌, ℕ, Bool, true, false, not, ◌&&◌, ◌||◌, ◌==◌, nat_le, cond, List, [], ◌∷◌, ◌++◌, length, Option, Some, None, refl, arith, ap, sym, ◌∙◌, subst, zero-add}
 use Rattle.std.specs.Prelude.{slice_range, is_some}
 use Rattle.std.specs.List.{list_all}
 use Rattle.std.specs.Option.{option_map}
 use Rattle.std.proofs.lemmas.Bool.{eqb-true}
-use Rattle.std.proofs.lemmas.List.{take_at}
 use Rattle.std.proofs.lemmas.Bool.Decides.{nat_tests}
 use Rattle.c_lexer.specs.declared.mark.Mark.{Mark}
 use Rattle.c_lexer.specs.declared.mark.Mark.TheVariants.{OpenBracket, CloseBracket, OpenParenthesis, CloseParenthesis, OpenBrace, CloseBrace, Dot, Arrow, PlusPlus, MinusMinus, Ampersand, Star, Plus, Minus, Tilde, Exclamation, Slash, Percent, ShiftLeft, ShiftRight, Less, Greater, LessEquals, GreaterEquals, EqualsEquals, ExclamationEquals, Caret, Bar, AmpersandAmpersand, BarBar, Question, Colon, Semicolon, Ellipsis, Equals, StarEquals, SlashEquals, PercentEquals, PlusEquals, MinusEquals, ShiftLeftEquals, ShiftRightEquals, AmpersandEquals, CaretEquals, BarEquals, Comma}
@@ -26,14 +25,14 @@ use Rattle.c_lexer.specs.Bytes.{between, is_space, is_newline, is_octal_digit, i
 use Rattle.c_lexer.specs.Numbers.{continues, is_run, ends_with_power, value_from, integer_of}
 use Rattle.c_lexer.specs.Characters.{Character, Plain, Simple, OneDigit, TwoDigits, ThreeDigits, Hexadecimal, written, written_all, IsCharacter, TakesDigits, AreCharacters}
 use Rattle.c_lexer.specs.Marks.{mark_text, mark_at, is_slash, is_dot}
-use Rattle.c_lexer.specs.Pieces.{Piece, Space, Word, Number, Char, Text, Sign, Directive, Line, Block, spelled, text, comes_to_newline, ends_line, runs_on, is_include, Fits, Begins, Longest, first_behind, first_behind_all, Good, word_kind, span}
-use Rattle.c_lexer.specs.Machine.{begin, of_mark, found, mark, word, escape_step, char_escape, text_escape, line_end, continued_at, end_directive, end_line, closing_step, step, finish, Lexed, Read, Faulty, go_on, run}
+use Rattle.c_lexer.specs.Pieces.{Piece, Space, Word, Number, Char, Text, Sign, Directive, Line, Block, spelled, text, NewlineNext, runs_on, is_directive, Fits, Begins, Longest, first_behind, first_behind_all, Good, word_kind, span}
+use Rattle.c_lexer.specs.Machine.{begin, of_mark, found, mark, word, escape_step, char_escape, text_escape, line_end, broken_at, end_directive, end_line, closing_step, step, finish, Lexed, Read, go_on, run}
 use Rattle.c_lexer.proofs.MarkLemmas.{none_longer, longer_newline}
 use Rattle.c_lexer.proofs.NumberLemmas.{value_up}
-use Rattle.c_lexer.proofs.Truths.{both_true, all_of_more, or_first, or_second, not_true, second_of}
-use Rattle.c_lexer.proofs.Lines.{has_no_newline, NewlineNext, one_line, no_newline, to_newline, not_continued, continued_there}
+use Rattle.c_lexer.proofs.Truths.{both_true, all_of_more, or_first, or_second, not_true}
+use Rattle.c_lexer.proofs.Lines.{has_no_newline, no_newline, not_broken}
 use Rattle.c_lexer.proofs.Closings.{closes_from, goes_on, none_left, closes_on, last_slash, comment_on}
-use Rattle.c_lexer.proofs.PieceLemmas.{past, past_is, stands_along, past_character, past_characters, ends, ends_all, Stands, stands_past, slice_is, stands_behind, end_from}
+use Rattle.c_lexer.proofs.PieceLemmas.{past, past_character, past_characters, ends, ends_all, Stands, stands_past, slice_is, stands_behind, end_from}
 
 -- ---- all that is read
 
@@ -232,18 +231,6 @@ mark_run t first Comma at out r = refl
 
 -- ---- comments and directives
 
--- a line that ends in front of these bytes: with the text, at its newline, or at a `\` that continues it
-line_cases : (P : List ℕ → Type 0) (r : List ℕ) → ends_line r ≡ true → ((q : List ℕ) → NewlineNext q → P q) → ((g q : List ℕ) → NewlineNext q → list_all is_space g ≡ true → has_no_newline g ≡ true → P (92 ∷ g ++ q)) → P r
-line_cases P [] h newline backslash = newline [] tt
-line_cases P (b ∷ r) h newline backslash = go (b == 10) refl
-  where
-    go : (c : Bool) → (b == 10) ≡ c → P (b ∷ r)
-    go true e = newline (b ∷ r) e
-    go false e =
-        let q = both_true (b == 92) (comes_to_newline r) (second_of (b == 10) _ e h) in
-        let k = to_newline r q.1 in
-        subst (λ (i : ℕ). P (i ∷ r)) (sym (eqb-true b 92 q.0)) (subst (λ (v : List ℕ). P (92 ∷ v)) (sym k.bytes) (backslash k.gap k.rest k.next k.white k.line))
-
 -- its bytes are passed over
 line_passes : (t w : List ℕ) → has_no_newline w ≡ true → (s e at : ℕ) (out : List Ended) (r : List ℕ) → scan t (InLine s e) at out (w ++ r) ≡ scan t (InLine s (end_from e at w)) (past at w) out r
 line_passes t [] h s e at out r = refl
@@ -263,79 +250,36 @@ at_newline : (t : List ℕ) (s : State) (at : ℕ) (out : List Ended) (r : List 
 at_newline t s at out [] n next last h = ap (λ (m : Taken). go_on add_all m out all_read) last
 at_newline t s at out (b ∷ r) n next last h = taken t s b at out r n (ap (λ (i : ℕ). step t s i at) (eqb-true b 10 next) ∙ h)
 
-line_newline : (t w : List ℕ) (s e at : ℕ) (out : List Ended) (r : List ℕ) (o : Option ℕ) → NewlineNext r → slice_range t s at ≡ w → continued_at w ≡ o → scan t (InLine s e) at out r ≡ go_past t at (end_line s e o) out r
-line_newline t w s e at out r o next h k = let x = ap (end_line s e) (ap continued_at h ∙ k) in at_newline t (InLine s e) at out r (end_line s e o) next x x
+line_newline : (t w : List ℕ) (s e at : ℕ) (out : List Ended) (r : List ℕ) (o : Option ℕ) → NewlineNext r → slice_range t s at ≡ w → broken_at w ≡ o → scan t (InLine s e) at out r ≡ go_past t at (end_line s e o) out r
+line_newline t w s e at out r o next h k = let x = ap (end_line s e) (ap broken_at h ∙ k) in at_newline t (InLine s e) at out r (end_line s e o) next x x
 
-directive_newline : (t w : List ℕ) (s e at : ℕ) (out : List Ended) (r : List ℕ) (o : Option ℕ) → NewlineNext r → slice_range t (s + 1) at ≡ w → continued_at w ≡ o
+directive_newline : (t w : List ℕ) (s e at : ℕ) (out : List Ended) (r : List ℕ) (o : Option ℕ) → NewlineNext r → slice_range t (s + 1) at ≡ w → broken_at w ≡ o
     → scan t (InDirective s e) at out r ≡ go_past t at (end_directive s e w o) out r
 directive_newline t w s e at out r o next h k =
-    let x = ap (λ (v : List ℕ). end_directive s e v (continued_at v)) h ∙ ap (end_directive s e w) k in at_newline t (InDirective s e) at out r (end_directive s e w o) next x x
+    let x = ap (λ (v : List ℕ). end_directive s e v (broken_at v)) h ∙ ap (end_directive s e w) k in at_newline t (InDirective s e) at out r (end_directive s e w o) next x x
 
 past_line : (t : List ℕ) (at : ℕ) (x : Ended) (out : List Ended) (r : List ℕ) → NewlineNext r → go_past t at (Go (Between true) x) out r ≡ scan t (Between false) at (add_all x out) r
 past_line t at x out [] next = refl
 past_line t at x out (b ∷ r) next = subst (λ (i : ℕ). go_past t at (Go (Between true) x) out (i ∷ r) ≡ scan t (Between false) at (add_all x out) (i ∷ r)) (sym (eqb-true b 10 next)) refl
 
-abbrev stopped : ℕ → Lexed (List Ended)
-stopped place = Faulty 2 place
-
-past_fault : (t : List ℕ) (at place : ℕ) (out : List Ended) (r : List ℕ) → go_past t at (Fault 2 place) out r ≡ stopped place
-past_fault t at place out [] = refl
-past_fault t at place out (b ∷ r) = refl
-
 -- two bytes further
 abbrev pub two_on : Option ℕ → Option ℕ
 two_on o = option_map (λ n. n + 1) (option_map (λ n. n + 1) o)
 
-line_reads : (t w : List ℕ) (s : ℕ) (out : List Ended) (r : List ℕ) → runs_on w r ≡ true → ends_line r ≡ true → Stands t s (47 ∷ 47 ∷ w ++ r)
+line_reads : (t w : List ℕ) (s : ℕ) (out : List Ended) (r : List ℕ) → runs_on w r ≡ true → NewlineNext r → Stands t s (47 ∷ 47 ∷ w ++ r)
     → scan t (InLine s (s + 1 + 1)) (s + 1 + 1) out (w ++ r) ≡ scan t (Between false) (past (s + 1 + 1) w) (add_all (ended.Comment (span s (end_from (s + 1 + 1) (s + 1 + 1) w))) out) r
-line_reads t w s out r runs ends stands = line_cases Reads r ends newline backslash runs stands
-  where
-    Reads : List ℕ → Type 0
-    Reads v =
-        runs_on w v ≡ true → Stands t s (47 ∷ 47 ∷ w ++ v)
-        → scan t (InLine s (s + 1 + 1)) (s + 1 + 1) out (w ++ v) ≡ scan t (Between false) (past (s + 1 + 1) w) (add_all (ended.Comment (span s (end_from (s + 1 + 1) (s + 1 + 1) w))) out) v
+line_reads t w s out r runs next stands =
+    line_passes t w (no_newline w r runs) s (s + 1 + 1) (s + 1 + 1) out r
+    ∙ line_newline t (47 ∷ 47 ∷ w) s _ _ out r None next (slice_is t s (47 ∷ 47 ∷ w) r stands) (ap two_on (not_broken w r next runs))
+    ∙ past_line t (past (s + 1 + 1) w) (ended.Comment (span s (end_from (s + 1 + 1) (s + 1 + 1) w))) out r next
 
-    newline : (q : List ℕ) → NewlineNext q → Reads q
-    newline q next runs stands =
-        line_passes t w (no_newline w q runs) s (s + 1 + 1) (s + 1 + 1) out q
-        ∙ line_newline t (47 ∷ 47 ∷ w) s _ _ out q None next (slice_is t s (47 ∷ 47 ∷ w) q stands) (ap two_on (not_continued w q next runs))
-        ∙ past_line t (past (s + 1 + 1) w) (ended.Comment (span s (end_from (s + 1 + 1) (s + 1 + 1) w))) out q next
-
-    backslash : (g q : List ℕ) → NewlineNext q → list_all is_space g ≡ true → has_no_newline g ≡ true → Reads (92 ∷ g ++ q)
-    backslash g q next white line runs stands =
-        let all = append_assoc w (92 ∷ g) q in
-        let place : s + (length w + 1 + 1) ≡ past (s + 1 + 1) w = (let h = past_is w (s + 1 + 1) in omega arith) in
-        ap (scan t (InLine s (s + 1 + 1)) (s + 1 + 1) out) (sym all)
-        ∙ line_passes t (w ++ 92 ∷ g) (one_line w g (no_newline w _ runs) line) s (s + 1 + 1) (s + 1 + 1) out q
-        ∙ line_newline t (47 ∷ 47 ∷ w ++ 92 ∷ g) s _ _ out q (Some (length w + 1 + 1)) next (slice_is t s (47 ∷ 47 ∷ w ++ 92 ∷ g) q (stands_along t s _ _ (ap (λ (v : List ℕ). 47 ∷ 47 ∷ v) (sym all)) stands)) (ap two_on (continued_there w g white))
-        ∙ past_fault t (past (s + 1 + 1) (w ++ 92 ∷ g)) (s + (length w + 1 + 1)) out q ∙ ap stopped place
-
-directive_reads : (t w : List ℕ) (s : ℕ) (out : List Ended) (r : List ℕ) → is_include w ≡ true → runs_on w r ≡ true → ends_line r ≡ true → Stands t (s + 1) (w ++ r)
+directive_reads : (t w : List ℕ) (s : ℕ) (out : List Ended) (r : List ℕ) → is_directive w ≡ true → runs_on w r ≡ true → NewlineNext r → Stands t (s + 1) (w ++ r)
     → scan t (InDirective s (s + 1)) (s + 1) out (w ++ r) ≡ scan t (Between false) (past (s + 1) w) (add_all (found k.Directive s (end_from (s + 1) (s + 1) w)) out) r
-directive_reads t w s out r include runs ends stands = line_cases Reads r ends newline backslash runs stands
-  where
-    Reads : List ℕ → Type 0
-    Reads v =
-        runs_on w v ≡ true → Stands t (s + 1) (w ++ v)
-        → scan t (InDirective s (s + 1)) (s + 1) out (w ++ v) ≡ scan t (Between false) (past (s + 1) w) (add_all (found k.Directive s (end_from (s + 1) (s + 1) w)) out) v
-
-    newline : (q : List ℕ) → NewlineNext q → Reads q
-    newline q next runs stands =
-        directive_passes t w (no_newline w q runs) s (s + 1) (s + 1) out q
-        ∙ directive_newline t w s _ _ out q None next (slice_is t (s + 1) w q stands) (not_continued w q next runs)
-        ∙ ap (λ (n : Taken). go_past t (past (s + 1) w) n out q) (cond_true (is_include w) (Go (Between true) (found k.Directive s (end_from (s + 1) (s + 1) w))) (Fault 6 s) include)
-        ∙ past_line t (past (s + 1) w) (found k.Directive s (end_from (s + 1) (s + 1) w)) out q next
-
-    backslash : (g q : List ℕ) → NewlineNext q → list_all is_space g ≡ true → has_no_newline g ≡ true → Reads (92 ∷ g ++ q)
-    backslash g q next white line runs stands =
-        let all = append_assoc w (92 ∷ g) q in
-        let place : s + 1 + length w ≡ past (s + 1) w = (let h = past_is w (s + 1) in omega arith) in
-        let own : is_include (take (length w) (w ++ 92 ∷ g)) ≡ true = ap is_include (take_at w (92 ∷ g) (length w) refl) ∙ include in
-        ap (scan t (InDirective s (s + 1)) (s + 1) out) (sym all)
-        ∙ directive_passes t (w ++ 92 ∷ g) (one_line w g (no_newline w _ runs) line) s (s + 1) (s + 1) out q
-        ∙ directive_newline t (w ++ 92 ∷ g) s _ _ out q (Some (length w)) next (slice_is t (s + 1) (w ++ 92 ∷ g) q (stands_along t (s + 1) _ _ (sym all) stands)) (continued_there w g white)
-        ∙ ap (λ (n : Taken). go_past t (past (s + 1) (w ++ 92 ∷ g)) n out q) (cond_true (is_include (take (length w) (w ++ 92 ∷ g))) (Fault 2 (s + 1 + length w)) (Fault 6 s) own)
-        ∙ past_fault t (past (s + 1) (w ++ 92 ∷ g)) (s + 1 + length w) out q ∙ ap stopped place
+directive_reads t w s out r include runs next stands =
+    directive_passes t w (no_newline w r runs) s (s + 1) (s + 1) out r
+    ∙ directive_newline t w s _ _ out r None next (slice_is t (s + 1) w r stands) (not_broken w r next runs)
+    ∙ ap (λ (n : Taken). go_past t (past (s + 1) w) n out r) (cond_true (is_directive w) (Go (Between true) (found k.Directive s (end_from (s + 1) (s + 1) w))) (Fault 6 s) include)
+    ∙ past_line t (past (s + 1) w) (found k.Directive s (end_from (s + 1) (s + 1) w)) out r next
 
 block_run : (t w : List ℕ) (c : Closing) → closes_from c w ≡ true → (s at : ℕ) (out : List Ended) (r : List ℕ) → scan t (InComment s c) at out (w ++ r) ≡ scan t (Between false) (past at w) (add_all (ended.Comment (span s (past at w))) out) r
 block_run t [] c h s at out r = absurd (let y : true ≡ false = sym h ∙ none_left c in cc)

@@ -1,5 +1,5 @@
 -- What reading a text gives is what its pieces are, or its first fault.
-use Rattle.std.proofs.Common.{Bool, Result, Err, ◌≡◌, ◌+◌, ℕ, true, List, [], ◌∷◌, ◌++◌, Ok, refl, ap, sym, ◌∙◌, subst, append_assoc}
+use Rattle.std.proofs.Common.{◌⊎◌, inl, inr, arith, Bool, Result, Err, ◌≡◌, ◌+◌, ℕ, true, List, [], ◌∷◌, ◌++◌, Ok, refl, ap, sym, ◌∙◌, subst, append_assoc}
 use Rattle.std.proofs.lemmas.List.{append-nil}
 use Rattle.c_types.specs.declared.refusal.Refusal.{Refusal}
 use Rattle.c_lexer.specs.declared.token.Token.{Token}
@@ -14,7 +14,7 @@ use Rattle.c_lexer.specs.declared.state.Ended.TheVariants as ended
 use Rattle.c_lexer.specs.declared.state.Taken.{Taken}
 use Rattle.c_lexer.specs.declared.state.Taken.TheVariants.{Go, Fault}
 use Rattle.c_lexer.specs.Pieces.{Piece, Space, Word, Number, Char, Text, Sign, Directive, Line, Block, spelled, text, Good, Spells, first_behind_all, behind, behind_all, word_kind, token, span, token_of, comment_of, all_of, scanned_of}
-use Rattle.c_lexer.specs.Faults.{refusal_of, reason_of, HasNoPiece, IsFirstFault}
+use Rattle.c_lexer.specs.Faults.{refusal_of, reason_of, reach_of, HasNoPiece, IsFirstFault}
 use Rattle.c_lexer.specs.Machine.{Lexed, Read, Faulty, go_on, run, step, finish, add_token, add_comment, add_ended}
 use Rattle.c_lexer.specs.Answers.{answer, nothing, scanning, part, read_tokens, read_comments, IsReading}
 use Rattle.c_lexer.proofs.PieceLemmas.{ends, ends_is, ends_all, Stands, stands_text, end_is}
@@ -29,23 +29,23 @@ ends_all_is (p ∷ ps) at = ap (ends_all ps) (ends_is p at) ∙ ends_all_is ps (
 
 -- ---- the tokens and the comments of all that is read
 
-abbrev only_tokens : List Ended → List Token
+abbrev pub only_tokens : List Ended → List Token
 only_tokens [] = []
 only_tokens (ended.Token found ∷ es) = found ∷ only_tokens es
 only_tokens (_ ∷ es) = only_tokens es
 
-abbrev only_comments : List Ended → List Span
+abbrev pub only_comments : List Ended → List Span
 only_comments [] = []
 only_comments (ended.Comment found ∷ es) = found ∷ only_comments es
 only_comments (_ ∷ es) = only_comments es
 
-abbrev record_of : List Token → List Span → Scanned
+abbrev pub record_of : List Token → List Span → Scanned
 record_of ts cs = record { tokens = ts; comments = cs }
 
-abbrev both : List Ended → Scanned
+abbrev pub both : List Ended → Scanned
 both out = record_of (only_tokens out) (only_comments out)
 
-abbrev selected : Lexed (List Ended) → Lexed Scanned
+abbrev pub selected : Lexed (List Ended) → Lexed Scanned
 selected (Read z) = Read (both z)
 selected (Faulty reason place) = Faulty reason place
 
@@ -75,13 +75,13 @@ comments_keep (ended.Token x) out = sym (comments_end out (ended.Token x) ∙ ap
 comments_keep (ended.Dots a b) out = sym (comments_end (out ++ ended.Token a ∷ []) (ended.Token b) ∙ append-nil (only_comments (out ++ ended.Token a ∷ [])) ∙ comments_end out (ended.Token a) ∙ append-nil (only_comments out))
 comments_keep (ended.Comment c) out = sym (comments_end out (ended.Comment c))
 
-same_parts : (ts us : List Token) (cs ds : List Span) → ts ≡ us → cs ≡ ds → record_of ts cs ≡ record_of us ds
+pub same_parts : (ts us : List Token) (cs ds : List Span) → ts ≡ us → cs ≡ ds → record_of ts cs ≡ record_of us ds
 same_parts ts us cs ds e f = ap (λ (x : List Token). record_of x cs) e ∙ ap (record_of us) f
 
-keep : (e : Ended) (out : List Ended) → add_ended e (both out) ≡ both (add_all e out)
+pub keep : (e : Ended) (out : List Ended) → add_ended e (both out) ≡ both (add_all e out)
 keep e out = same_parts _ _ _ _ (tokens_keep e out) (comments_keep e out)
 
-select_run : (bs t : List ℕ) (s : State) (at : ℕ) (out : List Ended) → run add_ended t s at (both out) bs ≡ selected (scan t s at out bs)
+pub select_run : (bs t : List ℕ) (s : State) (at : ℕ) (out : List Ended) → run add_ended t s at (both out) bs ≡ selected (scan t s at out bs)
 select_run [] t s at out = go (finish t s at)
   where
     go : (n : Taken) → go_on add_ended n (both out) (λ z (more : Scanned). Read more) ≡ selected (go_on add_all n out (λ z (more : List Ended). Read more))
@@ -165,39 +165,47 @@ first_fault t reason place s h =
       rest = s.rest;
       spells = s.spells;
       good = s.good;
-      stuck = none;
-      refusal = ap (λ (n : ℕ). refusal_of n t place) (sym s.reason_is) ∙ ap (λ (n : ℕ). refusal_of (reason_of (first_behind_all true s.pieces) s.byte s.rest) t n) (sym s.place_is ∙ ends_all_is s.pieces 0);
+      stuck = none s.none;
+      refusal = ap (λ (n : ℕ). refusal_of n t place) (sym s.reason_is) ∙ ap (refusal_of (reason_of first s.byte s.rest) t) (sym s.place_is ∙ ap (λ (n : ℕ). n + reach_of first s.byte s.rest) (ends_all_is s.pieces 0));
     }
   where
+    first : Bool
+    first = first_behind_all true s.pieces
+
+    at : ℕ
+    at = ends_all s.pieces 0
+
     stands : Stands t 0 (text s.pieces (s.byte ∷ s.rest))
     stands = same_bytes t s.pieces (s.byte ∷ s.rest) s.spells
 
-    there : scan t (Between (first_behind_all true s.pieces)) place (gather s.pieces 0 []) (s.byte ∷ s.rest) ≡ Faulty reason place
-    there =
-        ap (λ (n : ℕ). scan t (Between (first_behind_all true s.pieces)) n (gather s.pieces 0 []) (s.byte ∷ s.rest)) (sym s.place_is) ∙ sym (reads t true s.pieces (s.byte ∷ s.rest) s.good 0 [] stands)
-        ∙ ap (λ (x : List ℕ). scan t (Between true) 0 [] x) (sym s.spells) ∙ h
+    there : scan t (Between first) at (gather s.pieces 0 []) (s.byte ∷ s.rest) ≡ Faulty reason place
+    there = sym (reads t true s.pieces (s.byte ∷ s.rest) s.good 0 [] stands) ∙ ap (λ (x : List ℕ). scan t (Between true) 0 [] x) (sym s.spells) ∙ h
 
-    none : HasNoPiece (first_behind_all true s.pieces) (s.byte ∷ s.rest)
-    none p r e f l =
-        no_fault t (first_behind_all true s.pieces) p r f l place (gather s.pieces 0 [])
-        (subst (λ (n : ℕ). Stands t n (spelled p r)) s.place_is (stands_text t s.pieces 0 (spelled p r) (same_bytes t s.pieces (spelled p r) (s.spells ∙ ap (text s.pieces) e)))) reason
-        (ap (λ (x : List ℕ). scan t (Between (first_behind_all true s.pieces)) place (gather s.pieces 0 []) x) (sym e) ∙ there)
+    same : (n m : ℕ) → n ≡ 0 → m + n ≡ place → place ≡ m
+    same n m h k = omega arith
+
+    none : (reach_of first s.byte s.rest ≡ 0) ⊎ HasNoPiece first (s.byte ∷ s.rest) → HasNoPiece first (s.byte ∷ s.rest)
+    none (inr f) = f
+    none (inl z) = λ p r e f l.
+        no_fault t first p r f l at (gather s.pieces 0 []) (stands_text t s.pieces 0 (spelled p r) (same_bytes t s.pieces (spelled p r) (s.spells ∙ ap (text s.pieces) e))) reason
+        (ap (scan t (Between first) at (gather s.pieces 0 [])) (sym e) ∙ there ∙ ap (faulty reason) (same _ at z s.place_is))
 
 -- a byte at which no piece begins is where reading stops
-stops_there : (first : Bool) (byte place : ℕ) (rest : List ℕ) → HasNoPiece first (byte ∷ rest) → (n : Lexed (List Ended)) → Outcome place first n (byte ∷ rest) → n ≡ Faulty (reason_of first byte rest) place
+stops_there : (first : Bool) (byte place : ℕ) (rest : List ℕ) → HasNoPiece first (byte ∷ rest) → (n : Lexed (List Ended)) → Outcome place first n (byte ∷ rest) → n ≡ Faulty (reason_of first byte rest) (place + reach_of first byte rest)
 stops_there first byte place rest none (Read z) ([], e, g) = absurd cc
 stops_there first byte place rest none (Read z) (p ∷ ps, e, g) = absurd (none p (text ps []) e g.0 g.1)
 stops_there first byte place rest none (Faulty reason at) s = go s.pieces s.spells s.good s.place_is s.reason_is
   where
-    go : (ps : List Piece) → byte ∷ rest ≡ text ps (s.byte ∷ s.rest) → Good first ps (s.byte ∷ s.rest) → ends_all ps place ≡ at → reason_of (first_behind_all first ps) s.byte s.rest ≡ reason
-        → faulty reason at ≡ faulty (reason_of first byte rest) place
+    go : (ps : List Piece) → byte ∷ rest ≡ text ps (s.byte ∷ s.rest) → Good first ps (s.byte ∷ s.rest) → ends_all ps place + reach_of (first_behind_all first ps) s.byte s.rest ≡ at → reason_of (first_behind_all first ps) s.byte s.rest ≡ reason
+        → faulty reason at ≡ faulty (reason_of first byte rest) (place + reach_of first byte rest)
     go [] e g p r =
         let x : byte ≡ s.byte = cc in
         let y : rest ≡ s.rest = cc in
-        ap (λ (i : ℕ). faulty i at) (sym r ∙ ap (λ (i : ℕ). reason_of first i s.rest) (sym x) ∙ ap (reason_of first byte) (sym y)) ∙ ap (faulty (reason_of first byte rest)) (sym p)
+        ap (λ (i : ℕ). faulty i at) (sym r) ∙ ap (faulty (reason_of first s.byte s.rest)) (sym p)
+        ∙ ap (λ (i : ℕ). faulty (reason_of first i s.rest) (place + reach_of first i s.rest)) (sym x) ∙ ap (λ (v : List ℕ). faulty (reason_of first byte v) (place + reach_of first byte v)) (sym y)
     go (p ∷ ps) e g a r = absurd (none p (text ps (s.byte ∷ s.rest)) e g.0 g.1)
 
-fault_stops : (t : List ℕ) (fault : Refusal) (f : IsFirstFault t fault) → scan t (Between true) 0 [] t ≡ Faulty (reason_of (first_behind_all true f.pieces) f.byte f.rest) (ends_all f.pieces 0)
+fault_stops : (t : List ℕ) (fault : Refusal) (f : IsFirstFault t fault) → scan t (Between true) 0 [] t ≡ Faulty (reason_of (first_behind_all true f.pieces) f.byte f.rest) (ends_all f.pieces 0 + reach_of (first_behind_all true f.pieces) f.byte f.rest)
 fault_stops t fault f =
     let stands = same_bytes t f.pieces (f.byte ∷ f.rest) f.spells in
     ap (λ (x : List ℕ). scan t (Between true) 0 [] x) f.spells ∙ reads t true f.pieces (f.byte ∷ f.rest) f.good 0 [] stands
@@ -208,7 +216,7 @@ fault_stops t fault f =
 pub scan_fault_back : (t : List ℕ) (fault : Refusal) → IsFirstFault t fault → scanning t ≡ Err fault
 scan_fault_back t fault f =
     ap (answer t) (scan_run t ∙ ap selected (fault_stops t fault f))
-    ∙ ap (λ (n : ℕ). refused (refusal_of (reason_of (first_behind_all true f.pieces) f.byte f.rest) t n)) (ends_all_is f.pieces 0) ∙ ap refused (sym f.refusal)
+    ∙ ap (λ (n : ℕ). refused (refusal_of (reason_of (first_behind_all true f.pieces) f.byte f.rest) t (n + reach_of (first_behind_all true f.pieces) f.byte f.rest))) (ends_all_is f.pieces 0) ∙ ap refused (sym f.refusal)
 
 -- ---- what reading gives
 

@@ -15,15 +15,15 @@ use Rattle.c_types.specs.Words.{is_letter, is_digit, is_word_byte}
 use Rattle.c_lexer.specs.Bytes.{is_run_byte}
 use Rattle.c_lexer.specs.Numbers.{continues, integer_of}
 use Rattle.c_lexer.specs.Marks.{mark_text, longer, is_slash, is_dot}
-use Rattle.c_lexer.specs.Pieces.{Piece, Word, Number, Sign, Directive, Line, spelled, text, is_include, Fits, Longest, first_behind_all, Good}
-use Rattle.c_lexer.specs.Machine.{after_mark, escape_step, char_escape, text_escape, continued_at, end_directive, end_line, step, finish}
+use Rattle.c_lexer.specs.Pieces.{Piece, Word, Number, Sign, Directive, Line, spelled, text, is_directive, Fits, Longest, first_behind_all, Good}
+use Rattle.c_lexer.specs.Machine.{after_mark, escape_step, char_escape, text_escape, broken_at, end_directive, end_line, step, finish}
 use Rattle.c_lexer.proofs.MarkLemmas.{mark_last}
 use Rattle.c_lexer.specs.Machine.{Lexed, Read, Faulty, go_on, run}
 use Rattle.c_lexer.proofs.Lines.{has_no_newline}
 use Rattle.c_lexer.proofs.Reading.{add_all, scan, two_on}
 use Rattle.c_lexer.proofs.Fronts.{Front, onward, text_more, good_more, Part, Ready, StuckAt, Goes, stuck_part, part_slice, part_slice_behind}
 use Rattle.c_lexer.proofs.PieceLemmas.{Stands}
-use Rattle.c_lexer.proofs.Growth.{digit_reason, dot_doubled, line_is, line_stuck, directive_stuck, directive_refused, goes}
+use Rattle.c_lexer.proofs.Growth.{digit_fault, dot_doubled, line_is, line_stuck, directive_stuck, whole_refused, broken_refused, goes}
 
 -- all these bytes are pieces
 abbrev pub Spelled : Bool → List ℕ → Type 0
@@ -65,15 +65,15 @@ run_newline : (power : Bool) → is_run_byte power 10 ≡ false
 run_newline true = refl
 run_newline false = refl
 
-line_closes : (s end at : ℕ) (P : Front) (ps : List Piece) (w : List ℕ) → Part s at ps (47 ∷ 47 ∷ w) P → has_no_newline w ≡ true → (o : Option ℕ) → continued_at w ≡ o → Closes (end_line s end (two_on o)) P
+line_closes : (s end at : ℕ) (P : Front) (ps : List Piece) (w : List ℕ) → Part s at ps (47 ∷ 47 ∷ w) P → has_no_newline w ≡ true → (o : Option ℕ) → broken_at w ≡ o → Closes (end_line s end (two_on o)) P
 line_closes s end at P ps w i none None k = closed (Line w) s at P ps (47 ∷ 47 ∷ w) i refl tt (line_is w [] tt none k)
 line_closes s end at P ps w i none (Some n) k = line_stuck s at P ps w n i none k [] tt
 
-directive_closes : (s end at : ℕ) (P : Front) (ps : List Piece) (w : List ℕ) → Part s at ps (35 ∷ w) P → first_behind_all P.first ps ≡ true → has_no_newline w ≡ true → (o : Option ℕ) → continued_at w ≡ o → Closes (end_directive s end w o) P
+directive_closes : (s end at : ℕ) (P : Front) (ps : List Piece) (w : List ℕ) → Part s at ps (35 ∷ w) P → first_behind_all P.first ps ≡ true → has_no_newline w ≡ true → (o : Option ℕ) → broken_at w ≡ o → Closes (end_directive s end w o) P
 directive_closes s end at P ps w i first none None k =
-    closing (is_include w) _ _ _ (λ g. closed (Directive w) s at P ps (35 ∷ w) i refl (first, g) (line_is w [] tt none k)) (λ g. directive_refused s at P ps w i first [])
+    closing (is_directive w) _ _ _ (λ g. closed (Directive w) s at P ps (35 ∷ w) i refl (first, g) (line_is w [] tt none k)) (λ g. whole_refused s at P ps w i first none k g [] tt)
 directive_closes s end at P ps w i first none (Some n) k =
-    closing (is_include (take n w)) _ _ _ (λ g. directive_stuck s at P ps w n i first none k g [] tt) (λ g. directive_refused s at P ps w i first [])
+    closing (is_directive (take n w)) _ _ _ (λ g. directive_stuck s at P ps w n i first none k g [] tt) (λ g. broken_refused s at P ps w n i first none k g [] tt)
 
 closes_at_end : (t : List ℕ) (s : State) (at : ℕ) (P : Front) → Ready s at P → Stands t P.base (P.bytes []) → Closes (finish t s at) P
 closes_at_end t (Between first) at P (ps, i, f) e = (ps, i.0 [], i.1 [])
@@ -82,7 +82,7 @@ closes_at_end t (InNumber s power) at P (ps, x, w, i, digit, run, last) e =
     closing (is_run_byte power 10) _ _ _ (λ h. absurd (let y = run_newline power in let z : true ≡ false = sym h ∙ y in cc))
     (λ h. closing (is_some (integer_of (slice_range t s at))) _ _ _
     (λ g. closed (Number (x ∷ w)) s at P ps (x ∷ w) i refl (both (is_digit x) (continues false w) digit run, ap (λ (v : List ℕ). is_some (integer_of v)) (sym (part_slice t s at ps (x ∷ w) P [] i e)) ∙ g) tt)
-    (λ g. stuck_part s at ps x w P 5 i (λ q. digit_reason _ x (w ++ q) digit) []))
+    (λ g. stuck_part s at ps x w P 5 i (λ q. digit_fault _ x (w ++ q) digit) []))
 closes_at_end t (InMark s m) at P (ps, i) e =
     let whole = closed (Sign m) s at P ps (mark_text m) i refl tt (mark_last m, (λ q. tt)) in
     closing (is_slash m && 10 == 42) _ _ _ (λ h. whole) (λ h. closing (is_slash m && 10 == 47) _ _ _ (λ g. whole) (λ g. closing (is_dot m && 10 == 46) _ _ _ (λ d. whole) (λ d. mark_closes s at (longer m 10) _ whole)))
@@ -92,16 +92,16 @@ closes_at_end t (Dots s) at P (ps, i) e =
       i.0 [] ∙ sym (text_more ps (Sign Dot) (46 ∷ [])) ∙ sym (text_more qs (Sign Dot) []),
       good_more P.first qs (Sign Dot) [] (good_more P.first ps (Sign Dot) (46 ∷ []) (i.1 []) tt (dot_doubled [] tt)) tt (mark_last Dot, (λ q. tt)),
     )
-closes_at_end t (CharOpened s) at P (ps, i) e = stuck_part s at ps 39 [] P 4 i (λ q. refl) []
-closes_at_end t (CharEscape s x) at P (ps, w, i, h) e = subst (λ (n : Taken). Closes n P) (sym (char_newline s x at)) (stuck_part s at ps 39 w P 4 i (λ q. refl) [])
-closes_at_end t (CharHeld s) at P (ps, c, w, i, k, f) e = stuck_part s at ps 39 w P 4 i (λ q. refl) []
-closes_at_end t (InText s) at P (ps, cs, v, i, k, f) e = stuck_part s at ps 34 v P 4 i (λ q. refl) []
-closes_at_end t (TextEscape s x) at P (ps, cs, v, w, i, k, f, h) e = subst (λ (n : Taken). Closes n P) (sym (text_newline s x at)) (stuck_part s at ps 34 (v ++ w) P 4 i (λ q. refl) [])
+closes_at_end t (CharOpened s) at P (ps, i) e = stuck_part s at ps 39 [] P 4 i (λ q. (refl, refl)) []
+closes_at_end t (CharEscape s x) at P (ps, w, i, h) e = subst (λ (n : Taken). Closes n P) (sym (char_newline s x at)) (stuck_part s at ps 39 w P 4 i (λ q. (refl, refl)) [])
+closes_at_end t (CharHeld s) at P (ps, c, w, i, k, f) e = stuck_part s at ps 39 w P 4 i (λ q. (refl, refl)) []
+closes_at_end t (InText s) at P (ps, cs, v, i, k, f) e = stuck_part s at ps 34 v P 4 i (λ q. (refl, refl)) []
+closes_at_end t (TextEscape s x) at P (ps, cs, v, w, i, k, f, h) e = subst (λ (n : Taken). Closes n P) (sym (text_newline s x at)) (stuck_part s at ps 34 (v ++ w) P 4 i (λ q. (refl, refl)) [])
 closes_at_end t (InDirective s end) at P (ps, w, i, first, none) e =
-    subst (λ (v : List ℕ). Closes (end_directive s end v (continued_at v)) P) (sym (part_slice_behind t s at ps 35 w P [] i e)) (directive_closes s end at P ps w i first none (continued_at w) refl)
-closes_at_end t (InComment s star) at P (ps, w, i, o) e = stuck_part s at ps 47 (42 ∷ w) P 3 i (λ q. refl) []
+    subst (λ (v : List ℕ). Closes (end_directive s end v (broken_at v)) P) (sym (part_slice_behind t s at ps 35 w P [] i e)) (directive_closes s end at P ps w i first none (broken_at w) refl)
+closes_at_end t (InComment s star) at P (ps, w, i, o) e = stuck_part s at ps 47 (42 ∷ w) P 3 i (λ q. (refl, refl)) []
 closes_at_end t (InLine s end) at P (ps, w, i, none) e =
-    subst (λ (v : List ℕ). Closes (end_line s end (continued_at v)) P) (sym (part_slice t s at ps (47 ∷ 47 ∷ w) P [] i e)) (line_closes s end at P ps w i none (continued_at w) refl)
+    subst (λ (v : List ℕ). Closes (end_line s end (broken_at v)) P) (sym (part_slice t s at ps (47 ∷ 47 ∷ w) P [] i e)) (line_closes s end at P ps w i none (broken_at w) refl)
 
 -- ---- whole texts
 

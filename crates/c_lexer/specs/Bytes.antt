@@ -16,6 +16,9 @@ is_blank b = b == 32 || b == 9
 abbrev pub is_newline : ℕ → Bool
 is_newline b = b == 10
 
+abbrev pub is_return : ℕ → Bool
+is_return b = b == 13
+
 abbrev pub is_octal_digit : ℕ → Bool
 is_octal_digit b = between 48 55 b
 

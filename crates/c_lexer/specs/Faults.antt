@@ -1,10 +1,10 @@
 -- The first lexical fault of a text, and its place.
-use Rattle.std.specs.Prelude.{◌≡◌, ◌+◌, ℕ, Bool, true, false, cond, not, ◌&&◌, ◌||◌, ◌==◌, List, [], ◌∷◌, take, count_by}
+use Rattle.std.specs.Prelude.{◌≡◌, ◌+◌, ℕ, Bool, true, false, cond, not, ◌&&◌, ◌||◌, ◌==◌, List, [], ◌∷◌, length, take, count_by}
 use Rattle.std.specs.List.{suffix_len}
 use Rattle.c_types.specs.declared.refusal.Refusal.{Refusal}
 use Rattle.c_types.specs.Words.{is_digit}
 use Rattle.c_lexer.specs.Bytes.{is_newline}
-use Rattle.c_lexer.specs.Pieces.{Piece, spelled, text, Fits, Longest, Good, first_behind_all, behind_all}
+use Rattle.c_lexer.specs.Pieces.{Piece, spelled, text, Fits, Longest, Good, own_line, is_directive, first_behind_all, behind_all}
 
 -- lines and columns are counted from 1, lines by newlines and columns by bytes
 abbrev pub line_of : List ℕ → ℕ
@@ -20,13 +20,21 @@ abbrev pub begins_star : List ℕ → Bool
 begins_star [] = false
 begins_star (b ∷ _) = b == 42
 
+abbrev pub begins_slash : List ℕ → Bool
+begins_slash [] = false
+begins_slash (b ∷ _) = b == 47
+
 -- why no piece begins with this byte, in front of these
 abbrev pub reason_of : Bool → ℕ → List ℕ → ℕ
 reason_of first b r =
     cond (b == 47 && begins_star r) 3
     (cond (b == 39 || b == 34) 4
     (cond (is_digit b) 5
-    (cond (b == 35 && first) 6 2)))
+    (cond (b == 35 && first && not (is_directive (own_line r))) 6 2)))
+
+-- how far behind this byte the fault lies: the line of a comment `//` or a directive is at fault where it breaks off
+abbrev pub reach_of : Bool → ℕ → List ℕ → ℕ
+reach_of first b r = cond ((b == 47 && begins_slash r) || (b == 35 && first && is_directive (own_line r))) (1 + length (own_line r)) 0
 
 -- no piece begins these bytes
 abbrev pub HasNoPiece : Bool → List ℕ → Type 0
@@ -40,4 +48,4 @@ pub record IsFirstFault (t : List ℕ) (fault : Refusal) : Type 0 where
   pub spells : t ≡ text pieces (byte ∷ rest)
   pub good : Good true pieces (byte ∷ rest)
   pub stuck : HasNoPiece (first_behind_all true pieces) (byte ∷ rest)
-  pub refusal : fault ≡ refusal_of (reason_of (first_behind_all true pieces) byte rest) t (behind_all pieces 0)
+  pub refusal : fault ≡ refusal_of (reason_of (first_behind_all true pieces) byte rest) t (behind_all pieces 0 + reach_of (first_behind_all true pieces) byte rest)

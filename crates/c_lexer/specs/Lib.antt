@@ -2,6 +2,8 @@ pub mod Answers
 pub mod Bytes
 pub mod Characters
 pub mod Faults
+pub mod Includes
+pub mod Keywords
 pub mod Machine
 pub mod Marks
 pub mod Numbers

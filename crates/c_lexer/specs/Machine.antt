@@ -1,6 +1,6 @@
 -- What each byte does to the state of reading.
-use Rattle.std.specs.Prelude.{◌+◌, ◌*◌, ◌≤◌, ℕ, Bool, true, false, cond, ◌&&◌, ◌||◌, ◌==◌, nat_le, List, [], ◌∷◌, ◌++◌, Option, Some, None, is_some, take, slice_range}
-use Rattle.std.specs.List.{list_all}
+use Rattle.std.specs.Prelude.{◌+◌, ◌*◌, ◌≤◌, ℕ, Bool, true, false, cond, ◌&&◌, ◌||◌, ◌==◌, nat_le, not, List, [], ◌∷◌, ◌++◌, Option, Some, None, is_some, take, drop, slice_range}
+use Rattle.std.specs.List.{list_all, prefix_len}
 use Rattle.std.specs.Option.{option_map}
 use Rattle.c_lexer.specs.declared.mark.Mark.{Mark}
 use Rattle.c_lexer.specs.declared.mark.Mark.TheVariants.{Ellipsis}
@@ -9,6 +9,7 @@ use Rattle.c_lexer.specs.declared.token.TokenKind.TheVariants as k
 use Rattle.c_lexer.specs.declared.token.Token.{Token}
 use Rattle.c_lexer.specs.declared.token.Span.{Span}
 use Rattle.c_lexer.specs.declared.token.Scanned.{Scanned}
+use Rattle.c_lexer.specs.declared.line.Tail.{Tail}
 use Rattle.c_lexer.specs.declared.state.State.{State}
 use Rattle.c_lexer.specs.declared.state.State.TheVariants.{Between, InWord, InNumber, InMark, Dots, CharOpened, CharEscape, CharHeld, InText, TextEscape, InDirective, InComment, InLine}
 use Rattle.c_lexer.specs.declared.state.Closing.{Closing}
@@ -22,11 +23,11 @@ use Rattle.c_lexer.specs.declared.state.Ended.TheVariants as ends
 use Rattle.c_lexer.specs.declared.state.Taken.{Taken}
 use Rattle.c_lexer.specs.declared.state.Taken.TheVariants.{Go, Fault}
 use Rattle.c_types.specs.Words.{is_letter, is_digit, is_word_byte}
-use Rattle.c_lexer.specs.Bytes.{is_space, is_newline, is_octal_digit, is_hexadecimal_digit, is_power, is_run_byte, is_simple_escape, is_character_byte, digit_value}
+use Rattle.c_lexer.specs.Bytes.{is_space, is_newline, is_return, is_octal_digit, is_hexadecimal_digit, is_power, is_run_byte, is_simple_escape, is_text_byte, is_character_byte, digit_value}
 use Rattle.c_lexer.specs.Numbers.{integer_of}
 use Rattle.c_lexer.specs.Characters.{three_digits}
-use Rattle.c_lexer.specs.Marks.{mark_at, longer, is_slash, is_dot}
-use Rattle.c_lexer.specs.Pieces.{token, span, word_kind, is_include}
+use Rattle.c_lexer.specs.Marks.{mark_at, longer, is_slash, is_dot, is_whole_mark}
+use Rattle.c_lexer.specs.Pieces.{token, span, word_kind, is_directive}
 
 abbrev pub of_mark : Option Mark → Ended → ℕ → Taken
 of_mark (Some m) ended at = Go (InMark at m) ended
@@ -96,26 +97,45 @@ text_escape start Wrong b at = Fault 4 start
 abbrev pub line_end : ℕ → ℕ → ℕ → ℕ
 line_end end b at = cond (b == 13) end (at + 1)
 
--- of a line without its newline: how many bytes stand before the `\` by which it is continued
-abbrev pub continued_at : List ℕ → Option ℕ
-continued_at [] = None
-continued_at (b ∷ w) = cond (b == 92 && list_all is_space w) (Some 0) (option_map (λ n. n + 1) (continued_at w))
+-- a line breaks off at this byte, by whether up to its newline all bytes are white space, or carriage returns
+abbrev pub breaks_before : ℕ → Bool → Bool → Bool
+breaks_before b white returns = (b == 92 && white) || (is_return b && not returns)
 
--- the end of a directive, by its bytes behind the `#` and where a `\` continues them
+abbrev pub breaks_line : ℕ → List ℕ → Bool
+breaks_line b w = breaks_before b (list_all is_space w) (list_all is_return w)
+
+-- of a line without its newline: how many bytes stand before the one at which it breaks off
+abbrev pub broken_at : List ℕ → Option ℕ
+broken_at [] = None
+broken_at (b ∷ w) = cond (breaks_line b w) (Some 0) (option_map (λ n. n + 1) (broken_at w))
+
+-- this byte, at this place, before a tail
+abbrev pub broken_here : ℕ → ℕ → Tail → Option ℕ
+broken_here b at tail = cond (breaks_before b tail.white tail.returns) (Some at) tail.broken
+
+abbrev pub onto : ℕ → ℕ → Tail → Tail
+onto b at tail = record { broken = broken_here b at tail; white = is_space b && tail.white; returns = is_return b && tail.returns }
+
+-- the end of a directive, by its bytes behind the `#` and where they break off
 abbrev pub end_directive : ℕ → ℕ → List ℕ → Option ℕ → Taken
-end_directive start end w None = cond (is_include w) (Go (Between true) (found k.Directive start end)) (Fault 6 start)
-end_directive start end w (Some n) = cond (is_include (take n w)) (Fault 2 (start + 1 + n)) (Fault 6 start)
+end_directive start end w None = cond (is_directive w) (Go (Between true) (found k.Directive start end)) (Fault 6 start)
+end_directive start end w (Some n) = cond (is_directive (take n w)) (Fault 2 (start + 1 + n)) (Fault 6 start)
 
--- the end of a comment `//`, by where a `\` continues it
+-- the end of a comment `//`, by where it breaks off
 abbrev pub end_line : ℕ → ℕ → Option ℕ → Taken
 end_line start end None = Go (Between true) (ends.Comment (span start end))
 end_line start end (Some n) = Fault 2 (start + n)
+
+-- what a byte does behind a `\` and white space in a comment
+abbrev pub continued_step : ℕ → Closing
+continued_step b = cond (b == 10) closing.Joined (cond (b == 13) closing.Returned (cond (is_space b) closing.Continued closing.Open))
 
 -- what a byte other than `*` and a closing `/` does to what may close a comment
 abbrev pub closing_else : Closing → ℕ → Closing
 closing_else closing.Open b = closing.Open
 closing_else closing.Starred b = cond (b == 92) closing.Continued closing.Open
-closing_else closing.Continued b = cond (b == 10) closing.Joined (cond (is_space b) closing.Continued closing.Open)
+closing_else closing.Continued b = continued_step b
+closing_else closing.Returned b = cond (b == 92) closing.Continued (continued_step b)
 closing_else closing.Joined b = cond (b == 92) closing.Continued closing.Open
 
 abbrev pub closing_step : Closing → ℕ → Closing
@@ -123,6 +143,7 @@ closing_step c b = cond (b == 42) closing.Starred (closing_else c b)
 
 abbrev pub in_comment : ℕ → Closing → ℕ → ℕ → Taken
 in_comment start closing.Starred b at = cond (b == 47) (Go (Between false) (ends.Comment (span start (at + 1)))) (Go (InComment start (closing_step closing.Starred b)) ends.Nothing)
+in_comment start closing.Returned b at = cond (b == 47) (Fault 3 start) (Go (InComment start (closing_step closing.Returned b)) ends.Nothing)
 in_comment start closing.Joined b at = cond (b == 47) (Fault 3 start) (Go (InComment start (closing_step closing.Joined b)) ends.Nothing)
 in_comment start c b at = Go (InComment start (closing_step c b)) ends.Nothing
 
@@ -144,10 +165,10 @@ char_opened start b =
 
 abbrev pub in_directive : List ℕ → ℕ → ℕ → ℕ → ℕ → Taken
 in_directive t start end b at =
-    cond (b == 10) (end_directive start end (slice_range t (start + 1) at) (continued_at (slice_range t (start + 1) at))) (Go (InDirective start (line_end end b at)) ends.Nothing)
+    cond (b == 10) (end_directive start end (slice_range t (start + 1) at) (broken_at (slice_range t (start + 1) at))) (Go (InDirective start (line_end end b at)) ends.Nothing)
 
 abbrev pub in_line : List ℕ → ℕ → ℕ → ℕ → ℕ → Taken
-in_line t start end b at = cond (b == 10) (end_line start end (continued_at (slice_range t start at))) (Go (InLine start (line_end end b at)) ends.Nothing)
+in_line t start end b at = cond (b == 10) (end_line start end (broken_at (slice_range t start at))) (Go (InLine start (line_end end b at)) ends.Nothing)
 
 abbrev pub step : List ℕ → State → ℕ → ℕ → Taken
 step t (Between first) b at = begin first ends.Nothing b at
@@ -163,6 +184,32 @@ step t (TextEscape start e) b at = text_escape start (escape_step e b) b at
 step t (InDirective start end) b at = in_directive t start end b at
 step t (InComment start c) b at = in_comment start c b at
 step t (InLine start end) b at = in_line t start end b at
+
+-- a byte that leaves the state as it is and ends nothing
+abbrev pub stays : State → ℕ → Bool
+stays (Between first) b = b == 32
+stays (InWord start) b = is_word_byte b
+stays (InText start) b = is_text_byte b
+stays (InComment start closing.Open) b = not (b == 42)
+stays _ b = false
+
+-- the place behind this byte and those behind it that stay
+abbrev pub behind_stays : List ℕ → State → ℕ → ℕ
+behind_stays t s start = start + 1 + prefix_len (stays s) (drop (start + 1) t)
+
+-- a word begins with this byte
+abbrev pub begins_word : State → ℕ → Bool
+begins_word (Between first) b = is_letter b
+begins_word _ b = false
+
+-- a mark with which no byte goes on begins with this byte
+abbrev pub begins_mark : State → ℕ → Bool
+begins_mark (Between first) b = is_whole_mark b
+begins_mark _ b = false
+
+-- the token of the word that begins at this place
+abbrev pub word_from : List ℕ → ℕ → Token
+word_from t start = let end = start + 1 + prefix_len is_word_byte (drop (start + 1) t) in token (word_kind (slice_range t start end)) start end
 
 -- the least place at which a state can stand: behind the first byte of a directive or of two dots, else from its first byte on
 abbrev pub least : State → ℕ

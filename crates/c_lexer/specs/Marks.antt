@@ -105,6 +105,29 @@ abbrev pub is_dot : Mark → Bool
 is_dot Dot = true
 is_dot _ = false
 
+-- no byte goes on with it
+abbrev pub is_alone : Mark → Bool
+is_alone OpenBracket = true
+is_alone CloseBracket = true
+is_alone OpenParenthesis = true
+is_alone CloseParenthesis = true
+is_alone OpenBrace = true
+is_alone CloseBrace = true
+is_alone Tilde = true
+is_alone Question = true
+is_alone Colon = true
+is_alone Semicolon = true
+is_alone Comma = true
+is_alone _ = false
+
+abbrev pub is_alone_mark : Option Mark → Bool
+is_alone_mark (Some m) = is_alone m
+is_alone_mark None = false
+
+-- a mark with which no byte goes on
+abbrev pub is_whole_mark : ℕ → Bool
+is_whole_mark b = is_alone_mark (mark_at b)
+
 abbrev pub grown : Option Mark → List ℕ → Option Mark
 grown None bs = None
 grown (Some m) [] = Some m

@@ -13,6 +13,7 @@ use Rattle.c_lexer.specs.Bytes.{is_space, is_blank, is_newline, is_run_byte, is_
 use Rattle.c_lexer.specs.Numbers.{is_run, ends_with_power, integer_of}
 use Rattle.c_lexer.specs.Characters.{Character, written, written_all, IsCharacter, AreCharacters}
 use Rattle.c_lexer.specs.Marks.{mark_text}
+use Rattle.c_lexer.specs.Includes.{leaves_open}
 
 pub data Piece : Type 0 where
   Space : ℕ → Piece
@@ -50,22 +51,42 @@ abbrev pub comes_to_newline : List ℕ → Bool
 comes_to_newline [] = true
 comes_to_newline (b ∷ r) = is_newline b || (is_space b && comes_to_newline r)
 
--- a line ends here: with the text, at its newline, or at a `\` by which it is continued
+-- nothing but carriage returns stands before the next newline or the end of the text
+abbrev pub returns_to_newline : List ℕ → Bool
+returns_to_newline [] = true
+returns_to_newline (b ∷ r) = is_newline b || (b == 13 && returns_to_newline r)
+
+-- a line breaks off at this byte, in front of those: at a `\` by which it is continued, or at a carriage
+-- return behind which it goes on, since compilers end it there
+abbrev pub breaks_off : ℕ → List ℕ → Bool
+breaks_off b r = (b == 92 && comes_to_newline r) || (b == 13 && not (returns_to_newline r))
+
+-- a line ends here: with the text, at its newline, or where it breaks off
 abbrev pub ends_line : List ℕ → Bool
 ends_line [] = true
-ends_line (b ∷ r) = is_newline b || (b == 92 && comes_to_newline r)
+ends_line (b ∷ r) = is_newline b || breaks_off b r
+
+-- the bytes of a line before its end
+abbrev pub own_line : List ℕ → List ℕ
+own_line [] = []
+own_line (b ∷ r) = cond (ends_line (b ∷ r)) [] (b ∷ own_line r)
+
+-- the newline of a line is next, or the end of the text
+abbrev pub NewlineNext : List ℕ → Type 0
+NewlineNext [] = Unit {0}
+NewlineNext (b ∷ r) = is_newline b ≡ true
 
 -- a line ends nowhere in these bytes, in front of those
 abbrev pub runs_on : List ℕ → List ℕ → Bool
 runs_on [] r = true
 runs_on (b ∷ w) r = not (ends_line (b ∷ w ++ r)) && runs_on w r
 
--- continued line ends, possibly none, and then a `/`; each is a `\`, white space and a newline, and the
--- flag says that these bytes begin between the two
+-- continued line ends, possibly none, and then a `/`; each is a `\`, white space and a newline or a
+-- carriage return, and the flag says that these bytes begin between the two
 abbrev pub slash_follows : Bool → List ℕ → Bool
 slash_follows inside [] = false
 slash_follows false (b ∷ r) = b == 47 || (b == 92 && slash_follows true r)
-slash_follows true (b ∷ r) = cond (is_newline b) (slash_follows false r) (is_space b && slash_follows true r)
+slash_follows true (b ∷ r) = cond (is_newline b) (slash_follows false r) (is_space b && (slash_follows true r || (b == 13 && slash_follows false r)))
 
 abbrev pub is_single : List ℕ → Bool
 is_single (b ∷ []) = true
@@ -84,6 +105,10 @@ begins_with_include w = starts_with nat_eq w (codes "include") && not (is_word_b
 abbrev pub is_include : List ℕ → Bool
 is_include w = begins_with_include (drop (prefix_len is_blank w) w)
 
+-- an `#include` line, behind its `#`, behind which no comment is open
+abbrev pub is_directive : List ℕ → Bool
+is_directive w = is_include w && not (leaves_open w)
+
 -- what a piece is; `first` says that nothing but white space stands before it on its line
 abbrev pub Fits : Bool → Piece → Type 0
 Fits first (Space b) = is_space b ≡ true
@@ -92,7 +117,7 @@ Fits first (Number w) = (is_run w ≡ true) × (is_some (integer_of w) ≡ true)
 Fits first (Char c) = IsCharacter is_character_byte c
 Fits first (Text cs) = AreCharacters is_text_byte cs (34 ∷ [])
 Fits first (Sign m) = Unit {0}
-Fits first (Directive w) = (first ≡ true) × (is_include w ≡ true)
+Fits first (Directive w) = (first ≡ true) × (is_directive w ≡ true)
 Fits first (Line w) = Unit {0}
 Fits first (Block w) = closes w ≡ true
 
@@ -100,9 +125,9 @@ Fits first (Block w) = closes w ≡ true
 abbrev pub Begins : List ℕ → List ℕ → Type 0
 Begins w t = (r : List ℕ) × (t ≡ w ++ r)
 
--- the line goes on through these bytes and ends where those begin
+-- these bytes are a whole line in front of those
 abbrev pub IsLine : List ℕ → List ℕ → Type 0
-IsLine w r = (runs_on w r ≡ true) × (ends_line r ≡ true)
+IsLine w r = (runs_on w r ≡ true) × NewlineNext r
 
 -- the piece is the longest there: it ends where no byte goes on with it
 abbrev pub Longest : Piece → List ℕ → Type 0

@@ -17,6 +17,21 @@ pub(crate) fn is_blank(byte: u8) -> bool
     byte == b' ' || byte == b'\t'
 }
 
+/// Whether the byte is a carriage return.
+pub(crate) fn is_return(byte: u8) -> bool
+    ensures { result ≡ bytes.is_return byte }
+{
+    byte == b'\r'
+}
+
+/// Whether the byte stands for itself in a text.
+#[inline(always)]
+pub(crate) fn is_text_byte(byte: u8) -> bool
+    ensures { result ≡ bytes.is_text_byte byte }
+{
+    byte != b'\n' && byte != b'"' && byte != b'\\'
+}
+
 /// Whether the byte is an octal digit.
 pub fn is_octal_digit(byte: u8) -> bool
     ensures { result ≡ bytes.is_octal_digit byte }

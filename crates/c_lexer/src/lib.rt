@@ -17,6 +17,7 @@ mod token;
 mod word;
 
 pub use byte::{digit_value, is_hexadecimal_digit, is_octal_digit};
+pub use c_types::ReadStop;
 pub use mark::{Mark, mark_of};
 pub use number::{Integer, integer_constant};
 pub use place::refusal_at;

@@ -1,27 +1,53 @@
-ghost use Rattle.std.specs.Prelude.{◌≡◌, ◌<◌, ◌+◌, length, drop};
-ghost use Rattle.std.specs.List.{list_all};
+ghost use Rattle.std.specs.Prelude.{◌≡◌, ◌<◌, length};
 ghost use Rattle.std.specs.Option.{IfSome};
-ghost use Rattle.c_lexer.specs.Bytes as bytes;
 ghost use Rattle.c_lexer.specs.Machine as spec;
 
-use crate::byte::is_space;
+use crate::byte::{is_return, is_space};
 
-fn is_white(line: &[u8]) -> bool
-    ensures { result ≡ list_all bytes.is_space line.now }
-{
-    line.iter().all(|byte| is_space(*byte))
+/// What is known of the bytes from a place of a line on to its end: where the line breaks off, and whether
+/// they are white space, and carriage returns, alone.
+#[derive(Clone, Copy)]
+pub(crate) struct Tail {
+    pub broken: Option<usize>,
+    pub white: bool,
+    pub returns: bool,
 }
 
-/// Of a line without its newline: how many bytes stand before the backslash by which it is continued,
-/// behind which there is nothing but white space.
-pub(crate) fn continued_at(line: &[u8]) -> Option<usize>
-    ensures value { result ≡ spec.continued_at line.now }
+fn broken_here(byte: u8, at: usize, tail: Tail) -> Option<usize>
+    ensures { result ≡ spec.broken_here byte at tail }
+{
+    if (byte == b'\\' && tail.white) || (is_return(byte) && !tail.returns) {
+        Some(at)
+    } else {
+        tail.broken
+    }
+}
+
+fn onto(byte: u8, at: usize, tail: Tail) -> Tail
+    ensures { result ≡ spec.onto byte at tail }
+{
+    Tail {
+        broken: broken_here(byte, at, tail),
+        white: is_space(byte) && tail.white,
+        returns: is_return(byte) && tail.returns,
+    }
+}
+
+/// Of a line without its newline: how many bytes stand before the one at which it breaks off, a backslash
+/// behind which there is nothing but white space, or a carriage return behind which there is more than
+/// carriage returns.
+pub(crate) fn broken_at(line: &[u8]) -> Option<usize>
+    ensures value { result ≡ spec.broken_at line.now }
     ensures bound { IfSome result (λ count. count < length line.now) }
 {
-    for i in 0..line.len() {
-        if line[i] == b'\\' && is_white(&line[i + 1..]) {
-            return Some(i);
-        }
+    let mut tail = Tail {
+        broken: None,
+        white: true,
+        returns: true,
+    };
+    for passed in 0..line.len() {
+        let i = line.len() - 1 - passed;
+        tail = onto(line[i], i, tail);
     }
-    None
+    tail.broken
 }

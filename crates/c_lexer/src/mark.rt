@@ -115,6 +115,37 @@ pub(crate) fn longer(mark: Mark, byte: u8) -> Option<Mark>
     }
 }
 
+/// Whether the byte is a mark with which no byte goes on.
+#[inline(always)]
+pub(crate) fn is_whole_mark(byte: u8) -> bool
+    ensures { result ≡ marks.is_whole_mark byte }
+{
+    match mark_at(byte) {
+        Some(mark) => is_alone(mark),
+        None => false,
+    }
+}
+
+#[inline(always)]
+fn is_alone(mark: Mark) -> bool
+    ensures { result ≡ marks.is_alone mark }
+{
+    matches!(
+        mark,
+        Mark::OpenBracket
+            | Mark::CloseBracket
+            | Mark::OpenParenthesis
+            | Mark::CloseParenthesis
+            | Mark::OpenBrace
+            | Mark::CloseBrace
+            | Mark::Tilde
+            | Mark::Question
+            | Mark::Colon
+            | Mark::Semicolon
+            | Mark::Comma
+    )
+}
+
 /// The mark that these bytes are, other than `...`. Takes no memory.
 pub fn mark_of(bytes: &[u8]) -> Option<Mark>
     ensures { result ≡ marks.mark_of bytes.now }

@@ -1,16 +1,19 @@
-ghost use Rattle.std.specs.Prelude.{◌≡◌, List, Ok, Err, All, IfOk, OnOk};
+ghost use Rattle.std.specs.Prelude.{◌≡◌, ◌≤◌, ◌<◌, length, List, Ok, Err, All, IfOk, OnOk};
 ghost use Rattle.c_types.specs.Stop.{Gives};
 ghost use Rattle.c_types.specs.declared.refusal.Refusal.{Refusal};
 ghost use Rattle.c_lexer.specs.Faults.{IsFirstFault};
 ghost use Rattle.c_lexer.specs.Pieces.{Piece, Spells, scanned_of, tokens_of, comments_of, IsWithin};
-ghost use Rattle.c_lexer.specs.Machine.{add_ended as the_add_ended};
+ghost use Rattle.c_lexer.specs.Machine.{add_ended as the_add_ended, stays as the_stays, behind_stays, word_from};
+ghost use Rattle.std.specs.List.{prefix_len};
+ghost use Rattle.c_types.specs.Words.{is_word_byte};
 ghost use Rattle.c_lexer.specs.Answers.{scanning, read_tokens, read_comments, IsReading};
 
 use crate::place::refusal_at;
 use crate::state::{Ended, State, Taken};
-use crate::step::{finish, step};
+use crate::step::{begins_mark, begins_word, finish, mark, stays, step};
 use crate::token::{Scanned, Span, Token};
-use c_types::{List, Memory, ReadStop};
+use crate::word::word_kind;
+use c_types::{List, Memory, ReadStop, is_word_byte};
 use std::alloc::Global;
 
 fn add_ended(out: &mut Scanned, ended: Ended) -> Result<(), Memory>
@@ -27,6 +30,45 @@ fn add_ended(out: &mut Scanned, ended: Ended) -> Result<(), Memory>
     }
 }
 
+fn count_word(bytes: &[u8]) -> usize
+    ensures value { result ≡ prefix_len is_word_byte bytes.now }
+    ensures bound { result ≤ length bytes.now }
+{
+    bytes.iter().take_while(|byte| is_word_byte(**byte)).count()
+}
+
+fn count_staying(state: State, bytes: &[u8]) -> usize
+    ensures value { result ≡ prefix_len (the_stays state) bytes.now }
+    ensures bound { result ≤ length bytes.now }
+{
+    bytes.iter().take_while(|byte| stays(state, **byte)).count()
+}
+
+/// The place behind this byte, which stays, and those behind it that stay.
+fn behind_staying(text: &[u8], state: State, start: usize) -> usize
+    requires { start < length text.now }
+    ensures value { result ≡ behind_stays text.now state start }
+    ensures order { start < result }
+    ensures within { result ≤ length text.now }
+{
+    start + 1 + count_staying(state, &text[start + 1..])
+}
+
+/// The token of the word that begins at this place.
+fn word_at(text: &[u8], start: usize) -> Token
+    requires { start < length text.now }
+    ensures value { result ≡ word_from text.now start }
+    ensures within { result.end ≤ length text.now }
+{
+    let end = start + 1 + count_word(&text[start + 1..]);
+    let kind = word_kind(&text[start..end]);
+    Token {
+        kind,
+        start: start as u64,
+        end: end as u64,
+    }
+}
+
 fn scan_pieces(alloc: Global, text: &[u8]) -> Result<Scanned, ReadStop>
     ensures { Gives (λ scanned. scanned) result (scanning text.now) }
 {
@@ -35,14 +77,30 @@ fn scan_pieces(alloc: Global, text: &[u8]) -> Result<Scanned, ReadStop>
         comments: List::new(alloc),
     };
     let mut state = State::Between(true);
-    for i in 0..text.len() {
-        match step(text, state, text[i], i as u64) {
-            Taken::Fault(reason, place) => {
-                return Err(ReadStop::Refused(refusal_at(reason, text, place)));
-            }
-            Taken::Go(next, ended) => {
-                state = next;
-                add_ended(&mut out, ended)?;
+    let mut i = 0;
+    while i < text.len() {
+        if begins_word(state, text[i]) {
+            let token = word_at(text, i);
+            state = State::Between(false);
+            i = token.end as usize;
+            out.tokens.push(token)?;
+        } else if stays(state, text[i]) {
+            i = behind_staying(text, state, i);
+        } else if begins_mark(state, text[i]) {
+            let token = mark(i as u64, i as u64 + 1);
+            state = State::Between(false);
+            i += 1;
+            out.tokens.push(token)?;
+        } else {
+            match step(text, state, text[i], i as u64) {
+                Taken::Fault(reason, place) => {
+                    return Err(ReadStop::Refused(refusal_at(reason, text, place)));
+                }
+                Taken::Go(next, ended) => {
+                    state = next;
+                    add_ended(&mut out, ended)?;
+                    i += 1;
+                }
             }
         }
     }
@@ -57,7 +115,8 @@ fn scan_pieces(alloc: Global, text: &[u8]) -> Result<Scanned, ReadStop>
 
 /// The tokens and the comments of a text in order (ISO/IEC 9899:2011, 6.4; docs/SUBSET.md); the text of
 /// each is its slice. A text that is no list of pieces is refused at its first lexical fault: the first
-/// byte at which no piece begins, with reason 2 to 6.
+/// byte at which no piece begins, or the byte at which the comment `//` or the directive that begins there
+/// breaks off, with reason 2 to 6.
 pub fn scan(alloc: Global, text: &[u8]) -> Result<Scanned, ReadStop>
     // What reading gives, or want of memory; each token and each comment has a byte at least.
     ensures read { Gives (λ scanned. scanned) result (scanning text.now) }

@@ -5,11 +5,11 @@ ghost use Rattle.c_lexer.specs.Characters.{three_digits};
 
 use crate::byte::{
     digit_value, is_character_byte, is_hexadecimal_digit, is_octal_digit, is_power, is_run_byte,
-    is_simple_escape, is_space,
+    is_simple_escape, is_space, is_text_byte,
 };
-use crate::directive::is_include;
-use crate::line::continued_at;
-use crate::mark::{Mark, longer, mark_at};
+use crate::directive::is_directive;
+use crate::line::broken_at;
+use crate::mark::{Mark, is_whole_mark, longer, mark_at};
 use crate::number::integer_constant;
 use crate::state::{Closing, Ended, Escape, Progress, State, Taken};
 use crate::token::{Span, Token, TokenKind};
@@ -102,7 +102,7 @@ fn in_mark(start: u64, mark: Mark, byte: u8, at: u64) -> Taken
     }
 }
 
-fn mark(start: u64, end: u64) -> Token
+pub(crate) fn mark(start: u64, end: u64) -> Token
     ensures { result ≡ spec.mark start end }
 {
     let kind = TokenKind::Mark;
@@ -250,19 +250,19 @@ fn line_end(end: u64, byte: u8, at: u64) -> u64
     if byte == b'\r' { end } else { at + 1 }
 }
 
-fn end_directive(start: u64, end: u64, line: &[u8], continued: Option<usize>) -> Taken
-    requires within { IfSome continued (λ count. count ≤ length line.now) }
+fn end_directive(start: u64, end: u64, line: &[u8], broken: Option<usize>) -> Taken
+    requires within { IfSome broken (λ count. count ≤ length line.now) }
     requires room { start + 1 + length line.now < 18446744073709551616 }
-    ensures { result ≡ spec.end_directive start end line.now continued }
+    ensures { result ≡ spec.end_directive start end line.now broken }
 {
-    let own = match continued {
+    let own = match broken {
         Some(count) => &line[..count],
         None => line,
     };
-    if !is_include(own) {
+    if !is_directive(own) {
         return Taken::Fault(6, start);
     }
-    match continued {
+    match broken {
         Some(count) => Taken::Fault(2, start + 1 + count as u64),
         None => Taken::Go(
             State::Between(true),
@@ -282,7 +282,7 @@ fn in_directive(text: &[u8], start: u64, end: u64, byte: u8, at: u64) -> Taken
         return Taken::Go(State::InDirective(start, end), Ended::Nothing);
     }
     let line = &text[start as usize + 1..at as usize];
-    end_directive(start, end, line, continued_at(line))
+    end_directive(start, end, line, broken_at(line))
 }
 
 fn closing_step(closing: Closing, byte: u8) -> Closing
@@ -300,15 +300,19 @@ fn closing_step(closing: Closing, byte: u8) -> Closing
                 Closing::Open
             }
         }
-        Closing::Continued => {
-            if byte == b'\n' {
-                Closing::Joined
-            } else if is_space(byte) {
-                Closing::Continued
-            } else {
-                Closing::Open
-            }
-        }
+        Closing::Returned if byte == b'\\' => Closing::Continued,
+        Closing::Continued | Closing::Returned => continued_step(byte),
+    }
+}
+
+fn continued_step(byte: u8) -> Closing
+    ensures { result ≡ spec.continued_step byte }
+{
+    match byte {
+        b'\n' => Closing::Joined,
+        b'\r' => Closing::Returned,
+        _ if is_space(byte) => Closing::Continued,
+        _ => Closing::Open,
     }
 }
 
@@ -321,7 +325,7 @@ fn in_comment(start: u64, closing: Closing, byte: u8, at: u64) -> Taken
             let end = at + 1;
             Taken::Go(State::Between(false), Ended::Comment(Span { start, end }))
         }
-        Closing::Joined if byte == b'/' => Taken::Fault(3, start),
+        Closing::Joined | Closing::Returned if byte == b'/' => Taken::Fault(3, start),
         _ => Taken::Go(
             State::InComment(start, closing_step(closing, byte)),
             Ended::Nothing,
@@ -329,11 +333,11 @@ fn in_comment(start: u64, closing: Closing, byte: u8, at: u64) -> Taken
     }
 }
 
-fn end_line(start: u64, end: u64, continued: Option<usize>) -> Taken
-    requires { IfSome continued (λ count. start + count < 18446744073709551616) }
-    ensures { result ≡ spec.end_line start end continued }
+fn end_line(start: u64, end: u64, broken: Option<usize>) -> Taken
+    requires { IfSome broken (λ count. start + count < 18446744073709551616) }
+    ensures { result ≡ spec.end_line start end broken }
 {
-    match continued {
+    match broken {
         Some(count) => Taken::Fault(2, start + count as u64),
         None => Taken::Go(State::Between(true), Ended::Comment(Span { start, end })),
     }
@@ -349,7 +353,43 @@ fn in_line(text: &[u8], start: u64, end: u64, byte: u8, at: u64) -> Taken
         let end = line_end(end, byte, at);
         return Taken::Go(State::InLine(start, end), Ended::Nothing);
     }
-    end_line(start, end, continued_at(&text[start as usize..at as usize]))
+    end_line(start, end, broken_at(&text[start as usize..at as usize]))
+}
+
+/// Whether the byte leaves the state as it is and ends nothing.
+#[inline(always)]
+pub(crate) fn stays(state: State, byte: u8) -> bool
+    ensures { result ≡ spec.stays state byte }
+{
+    match state {
+        State::Between(_) => byte == b' ',
+        State::InWord(_) => is_word_byte(byte),
+        State::InText(_) => is_text_byte(byte),
+        State::InComment(_, Closing::Open) => byte != b'*',
+        _ => false,
+    }
+}
+
+/// Whether a word begins with the byte.
+#[inline(always)]
+pub(crate) fn begins_word(state: State, byte: u8) -> bool
+    ensures { result ≡ spec.begins_word state byte }
+{
+    match state {
+        State::Between(_) => is_letter(byte),
+        _ => false,
+    }
+}
+
+/// Whether the byte is a mark with which no byte goes on, and begins there.
+#[inline(always)]
+pub(crate) fn begins_mark(state: State, byte: u8) -> bool
+    ensures { result ≡ spec.begins_mark state byte }
+{
+    match state {
+        State::Between(_) => is_whole_mark(byte),
+        _ => false,
+    }
 }
 
 /// What the byte at this place does to the state.

@@ -3,4 +3,5 @@
 
 mod whole;
 
+pub use c_grammar::{Production, Syntax};
 pub use whole::parse;

@@ -129,4 +129,4 @@ weighed first (l.Line w) f = tt
 weighed first (l.Block w) f = tt
 
 pub weights : (pieces : List Piece) (t : List ℕ) → Spells pieces t → Along IsWeighed (word_of t (tokens_of pieces)) 0 (classes_of t (tokens_of pieces) ++ c.End ∷ [])
-weights pieces t s = along IsWeighed (unmarked c.End [] refl (record { counts = refl; binds = refl })) pieces t s (each_token IsWeighedHere (λ first p r f m b. weighed first p f) pieces t s)
+weights pieces t s = along IsWeighed (unmarked c.End [] refl (record { counts = refl; binds = refl })) pieces t s (each_token IsWeighedHere (λ first p r f m. weighed first p f) pieces t s)

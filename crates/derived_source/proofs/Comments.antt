@@ -1,16 +1,10 @@
 -- The comments of a text are comments.
-use Rattle.std.proofs.Common.{◌≡◌, ℕ, Bool, true, false, cond, List, [], ◌∷◌, ◌++◌, map, refl, sym, subst, inl, inr}
+use Rattle.std.proofs.Common.{ℕ, Bool, true, false, cond, List, [], ◌∷◌, ◌++◌, map, refl, sym, subst, inl, inr}
 use Rattle.std.specs.Prelude.{filter}
-use Rattle.std.specs.List.{list_all}
-use Rattle.c_types.specs.Words.{is_letter, is_digit, is_word_byte}
-use Rattle.c_lexer.specs.declared.mark.Mark.TheVariants as m
 use Rattle.c_lexer.specs.declared.token.Span.{Span}
-use Rattle.c_lexer.specs.Bytes.{is_space}
-use Rattle.c_lexer.specs.Numbers.{continues}
 use Rattle.c_lexer.specs.Pieces.{Piece, text, spelled, behind, comment_of, all_of, tokens_of, comments_of, first_behind, Good, Fits, Longest, Spells}
 use Rattle.c_lexer.specs.Pieces as l
 use Rattle.c_lexer.proofs.PieceLemmas.{Stands}
-use Rattle.c_lexer.proofs.Truths.{both_true}
 use Rattle.c_statements.specs.declared.anchors.Anchor.{Anchor}
 use Rattle.c_source.specs.Tops.{Top}
 use Rattle.comment_places.specs.Notes.{notes_of, place_in, next_token}
@@ -18,42 +12,21 @@ use Rattle.c_statements.specs.Context.{same_place}
 use Rattle.c_resolved.specs.Verbatims.{IsComment}
 use Rattle.c_resolved.specs.Within.{Each}
 use Rattle.printed_syntax.specs.Reread.{comment_bytes, comment_at}
-use Rattle.printed_syntax.proofs.Neighbours.{differs}
 use Rattle.printed_syntax.proofs.Tokens.{comments_here, next}
-use Rattle.derived_source.proofs.Lines.{begins_with, one_line}
-
--- ---- no piece begins with `\`
-
-no_backslash : (first : Bool) (p : Piece) (r : List ℕ) → Fits first p → begins_with 92 (spelled p r) ≡ false
-no_backslash first (l.Space b) r f = differs is_space 92 b refl f
-no_backslash first (l.Word []) r f = absurd cc
-no_backslash first (l.Word (b ∷ w)) r f = differs is_letter 92 b refl (both_true (is_letter b) (list_all is_word_byte w) f).0
-no_backslash first (l.Number []) r f = absurd (let x = f.0 in cc)
-no_backslash first (l.Number (b ∷ w)) r f = differs is_digit 92 b refl (both_true (is_digit b) (continues false w) (f.0)).0
-no_backslash first (l.Char x) r f = refl
-no_backslash first (l.Text xs) r f = refl
-no_backslash first (l.Sign m.Dot) r f = refl
-no_backslash first (l.Sign _) r f = refl
-no_backslash first (l.Directive w) r f = refl
-no_backslash first (l.Line w) r f = refl
-no_backslash first (l.Block w) r f = refl
-
-pub text_first : (first : Bool) (ps : List Piece) → Good first ps [] → begins_with 92 (text ps []) ≡ false
-text_first first [] g = refl
-text_first first (p ∷ ps) g = no_backslash first p (text ps []) (g.0)
+use Rattle.derived_source.proofs.Lines.{one_line}
 
 -- ---- comments
 
-piece_comments : (first : Bool) (p : Piece) (r : List ℕ) → Fits first p → Longest p r → begins_with 92 r ≡ false → Each IsComment (comment_bytes p)
-piece_comments first (l.Line w) r f m n = ((refl, inl (refl, one_line w r m n)), tt)
-piece_comments first (l.Block w) r f m n = ((refl, inr (refl, f)), tt)
-piece_comments first (l.Space b) r f m n = tt
-piece_comments first (l.Word w) r f m n = tt
-piece_comments first (l.Number w) r f m n = tt
-piece_comments first (l.Char x) r f m n = tt
-piece_comments first (l.Text xs) r f m n = tt
-piece_comments first (l.Sign x) r f m n = tt
-piece_comments first (l.Directive w) r f m n = tt
+piece_comments : (first : Bool) (p : Piece) (r : List ℕ) → Fits first p → Longest p r → Each IsComment (comment_bytes p)
+piece_comments first (l.Line w) r f m = ((refl, inl (refl, one_line w r m)), tt)
+piece_comments first (l.Block w) r f m = ((refl, inr (refl, f)), tt)
+piece_comments first (l.Space b) r f m = tt
+piece_comments first (l.Word w) r f m = tt
+piece_comments first (l.Number w) r f m = tt
+piece_comments first (l.Char x) r f m = tt
+piece_comments first (l.Text xs) r f m = tt
+piece_comments first (l.Sign x) r f m = tt
+piece_comments first (l.Directive w) r f m = tt
 
 of_map : (t : List ℕ) (xs ys : List Span) → Each IsComment (map (comment_at t) xs) → Each IsComment (map (comment_at t) ys) → Each IsComment (map (comment_at t) (xs ++ ys))
 of_map t [] ys g h = h
@@ -63,7 +36,7 @@ spans_from : (t : List ℕ) (first : Bool) (ps : List Piece) (at : ℕ) → Good
 spans_from t first [] at g s = tt
 spans_from t first (p ∷ ps) at g s =
     of_map t (comment_of p at) (all_of comment_of ps (behind p at))
-    (subst (λ xs. Each IsComment xs) (sym (comments_here t p at (text ps []) s)) (piece_comments first p (text ps []) (g.0) (g.1) (text_first (first_behind first p) ps (g.2))))
+    (subst (λ xs. Each IsComment xs) (sym (comments_here t p at (text ps []) s)) (piece_comments first p (text ps []) (g.0) (g.1)))
     (spans_from t (first_behind first p) ps (behind p at) (g.2) (next t p at (text ps []) s))
 
 by_test : (t : List ℕ) (x : Span) (ys : List Span) (b : Bool) → IsComment (comment_at t x) → Each IsComment (map (comment_at t) ys) → Each IsComment (map (comment_at t) (cond b (x ∷ ys) ys))

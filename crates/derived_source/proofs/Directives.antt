@@ -1,5 +1,5 @@
 -- The directives of a text are `#include` lines.
-use Rattle.std.proofs.Common.{◌≡◌, ◌+◌, ℕ, Bool, true, false, cond, not, ◌==◌, suc, List, [], ◌∷◌, ◌++◌, drop, get_or, Option, Some, None, refl, ap, sym, ◌∙◌, arith}
+use Rattle.std.proofs.Common.{◌≡◌, ◌+◌, ℕ, Bool, true, false, cond, not, ◌&&◌, ◌==◌, suc, List, [], ◌∷◌, ◌++◌, drop, get_or, Option, Some, None, refl, ap, sym, ◌∙◌, arith}
 use Rattle.std.specs.Prelude.{codes, slice_range, nat_eq}
 use Rattle.std.specs.List.{prefix_len, starts_with}
 use Rattle.std.proofs.lemmas.Bool.Decides.{Decides-eqb}
@@ -12,8 +12,10 @@ use Rattle.c_lexer.specs.declared.mark.Mark.{Mark}
 use Rattle.c_lexer.specs.declared.mark.Mark.TheVariants as m
 use Rattle.c_lexer.specs.Marks.{mark_of}
 use Rattle.c_lexer.specs.Bytes.{is_blank}
-use Rattle.c_lexer.specs.Pieces.{Piece, text, bare, onto_bare, begins_with_include, is_include, word_kind, tokens_of, Fits, Longest, Spells}
+use Rattle.c_lexer.specs.Pieces.{Piece, text, bare, onto_bare, begins_with_include, is_include, is_directive, word_kind, tokens_of, Fits, Longest, Spells}
 use Rattle.c_lexer.specs.Pieces as l
+use Rattle.c_lexer.specs.Includes.{leaves_open}
+use Rattle.c_lexer.proofs.OpenLines.{leaves_bare}
 use Rattle.c_lexer.proofs.Truths.{both_true}
 use Rattle.c_grammar.specs.declared.class.Class.{Class}
 use Rattle.c_grammar.specs.declared.class.Class.TheVariants as c
@@ -23,7 +25,7 @@ use Rattle.c_resolved.specs.Verbatims.{IsDirective, IsOneLine}
 use Rattle.c_resolved.specs.Within.{Each}
 use Rattle.printed_syntax.specs.Reread.{Spelling, spelling_of}
 use Rattle.derived_source.specs.Directives.{IsDirectiveToken}
-use Rattle.derived_source.proofs.Lines.{begins_with, one_line}
+use Rattle.derived_source.proofs.Lines.{one_line}
 use Rattle.derived_source.proofs.Numbered.{each_token, Along, along}
 use Rattle.derived_source.proofs.Classes.{apart, from_keyword}
 
@@ -76,9 +78,19 @@ include_bare (b ∷ w) h = by_blank (is_blank b) refl (λ g. include_bare w g)
         let g = both_true (starts_with nat_eq (b ∷ w) (codes "include")) _ (sym (other_on b w e) ∙ h) in
         word_there (b ∷ w) (drop 7 (b ∷ w)) ((starts_is Decides-eqb (b ∷ w) (codes "include") true (sym (g.0))).0 refl) h
 
+-- ---- no comment is open behind it either
+
+both : (x y : Bool) → x ≡ true → y ≡ true → (x && y) ≡ true
+both x y h k = rw (h, k) refl
+
+directive_bare : (w : List ℕ) → is_directive w ≡ true → is_directive (bare w) ≡ true
+directive_bare w h =
+    let m = both_true (is_include w) (not (leaves_open w)) h in
+    both (is_include (bare w)) (not (leaves_open (bare w))) (include_bare w (m.0)) (ap not (leaves_bare w) ∙ m.1)
+
 -- ---- directives
 
-directive_is : (w : List ℕ) → IsOneLine w → is_include w ≡ true → IsDirective (35 ∷ w)
+directive_is : (w : List ℕ) → IsOneLine w → is_directive w ≡ true → IsDirective (35 ∷ w)
 directive_is [] o h = absurd cc
 directive_is (b ∷ w) o h = (refl, o, h)
 
@@ -89,16 +101,16 @@ of_word : (w v : List ℕ) (b : Bool) → IsDirectiveToken (cond b k.Keyword k.N
 of_word w v true = tt
 of_word w v false = tt
 
-piece_lines : (first : Bool) (p : Piece) (r : List ℕ) → Fits first p → Longest p r → begins_with 92 r ≡ false → Each IsLineHere (spelling_of p)
-piece_lines first (l.Directive w) r f m n = (directive_is (bare w) (one_line w r m n) (include_bare w (f.1)), tt)
-piece_lines first (l.Word w) r f m n = (of_word w w (is_keyword w), tt)
-piece_lines first (l.Number w) r f m n = (tt, tt)
-piece_lines first (l.Char x) r f m n = (tt, tt)
-piece_lines first (l.Text xs) r f m n = (tt, tt)
-piece_lines first (l.Sign x) r f m n = (tt, tt)
-piece_lines first (l.Space b) r f m n = tt
-piece_lines first (l.Line w) r f m n = tt
-piece_lines first (l.Block w) r f m n = tt
+piece_lines : (first : Bool) (p : Piece) (r : List ℕ) → Fits first p → Longest p r → Each IsLineHere (spelling_of p)
+piece_lines first (l.Directive w) r f m = (directive_is (bare w) (one_line w r m) (directive_bare w (f.1)), tt)
+piece_lines first (l.Word w) r f m = (of_word w w (is_keyword w), tt)
+piece_lines first (l.Number w) r f m = (tt, tt)
+piece_lines first (l.Char x) r f m = (tt, tt)
+piece_lines first (l.Text xs) r f m = (tt, tt)
+piece_lines first (l.Sign x) r f m = (tt, tt)
+piece_lines first (l.Space b) r f m = tt
+piece_lines first (l.Line w) r f m = tt
+piece_lines first (l.Block w) r f m = tt
 
 pub directives : (pieces : List Piece) (t : List ℕ) → Spells pieces t → Each (λ (x : Token). IsDirectiveToken x.kind (slice_range t x.start x.end)) (tokens_of pieces)
 directives pieces t s = each_token IsLineHere piece_lines pieces t s
@@ -109,27 +121,27 @@ directives pieces t s = each_token IsLineHere piece_lines pieces t s
 abbrev pub IsLine : Class → List ℕ → Type 0
 IsLine class w = class ≡ c.Directive → IsDirective w
 
-abbrev is_directive : Class → Bool
-is_directive c.Directive = true
-is_directive _ = false
+abbrev directive_class : Class → Bool
+directive_class c.Directive = true
+directive_class _ = false
 
-mark_no_directive : (o : Option Mark) → is_directive (class_of_found o) ≡ false
+mark_no_directive : (o : Option Mark) → directive_class (class_of_found o) ≡ false
 mark_no_directive None = refl
 mark_no_directive (Some m.Dot) = refl
 mark_no_directive (Some _) = refl
 
 line_there : (kind : TokenKind) (w : List ℕ) → IsDirectiveToken kind w → IsLine (class_of_bytes kind w) w
 line_there k.Directive w h e = h
-line_there k.Mark w h e = apart is_directive (class_of_found (mark_of w)) c.Directive (mark_no_directive (mark_of w)) refl e
+line_there k.Mark w h e = apart directive_class (class_of_found (mark_of w)) c.Directive (mark_no_directive (mark_of w)) refl e
 line_there k.Keyword w h e = from_keyword w c.Directive refl e
-line_there k.Name w h e = apart is_directive c.Name c.Directive refl refl e
-line_there k.Number w h e = apart is_directive c.Number c.Directive refl refl e
-line_there k.Char w h e = apart is_directive c.Character c.Directive refl refl e
-line_there k.Text w h e = apart is_directive c.Text c.Directive refl refl e
+line_there k.Name w h e = apart directive_class c.Name c.Directive refl refl e
+line_there k.Number w h e = apart directive_class c.Number c.Directive refl refl e
+line_there k.Char w h e = apart directive_class c.Character c.Directive refl refl e
+line_there k.Text w h e = apart directive_class c.Text c.Directive refl refl e
 
 class_lines : (t : List ℕ) (xs : List Token) → Each (λ (x : Token). IsDirectiveToken x.kind (slice_range t x.start x.end)) xs → Each (λ x. IsLine (class_of t x) (slice_range t x.start x.end)) xs
 class_lines t [] h = tt
 class_lines t (x ∷ xs) h = (line_there x.kind (slice_range t x.start x.end) (h.0), class_lines t xs (h.1))
 
 pub lines : (pieces : List Piece) (t : List ℕ) → Spells pieces t → Along IsLine (word_of t (tokens_of pieces)) 0 (classes_of t (tokens_of pieces) ++ c.End ∷ [])
-lines pieces t s = along IsLine (λ e. apart is_directive c.End c.Directive refl refl e) pieces t s (class_lines t (tokens_of pieces) (directives pieces t s))
+lines pieces t s = along IsLine (λ e. apart directive_class c.End c.Directive refl refl e) pieces t s (class_lines t (tokens_of pieces) (directives pieces t s))

@@ -1,13 +1,13 @@
 -- A line, without the carriage returns at its end, is one line.
-use Rattle.std.proofs.Common.{◌≡◌, ◌+◌, ℕ, Bool, true, false, cond, not, ◌&&◌, ◌==◌, List, [], ◌∷◌, ◌++◌, Option, Some, None, refl, ap, sym, ◌∙◌, true≢false}
+use Rattle.std.proofs.Common.{◌≡◌, ◌+◌, ℕ, Bool, true, false, cond, not, ◌&&◌, ◌==◌, List, [], ◌∷◌, ◌++◌, Option, Some, None, refl, ap, sym, ◌∙◌}
 use Rattle.std.specs.Option.{option_map}
 use Rattle.std.proofs.lemmas.Bool.{eqb-true}
 use Rattle.std.specs.List.{list_all}
-use Rattle.c_lexer.specs.Bytes.{is_space, is_newline}
-use Rattle.c_lexer.specs.Machine.{continued_at}
-use Rattle.c_lexer.specs.Pieces.{bare, onto_bare, runs_on, comes_to_newline, IsLine}
-use Rattle.c_lexer.proofs.Lines.{has_no_newline, NewlineNext, no_newline, not_continued, runs_to_newline}
-use Rattle.c_lexer.proofs.Truths.{both_true, second_of}
+use Rattle.c_lexer.specs.Bytes.{is_space, is_newline, is_return}
+use Rattle.c_lexer.specs.Machine.{breaks_before, breaks_line, broken_at}
+use Rattle.c_lexer.specs.Pieces.{bare, onto_bare, runs_on, NewlineNext, IsLine}
+use Rattle.c_lexer.proofs.Lines.{has_no_newline, no_newline, not_broken, runs_to_newline}
+use Rattle.c_lexer.proofs.Truths.{both_true}
 use Rattle.c_resolved.specs.Verbatims.{IsOneLine}
 use Rattle.printed_syntax.proofs.Tokens.{bare_front}
 
@@ -25,7 +25,7 @@ bare_twice (b ∷ w) = by_rest (bare w) (bare_twice w)
     by_rest [] e = by_return (b == 13) refl
     by_rest (d ∷ v) e = ap (onto_bare b) e
 
--- ---- it has no newline, and no `\` continues it
+-- ---- it has no newline, and doesn't break off
 
 front_all : (f : ℕ → Bool) (v u : List ℕ) → list_all f (v ++ u) ≡ true → list_all f v ≡ true
 front_all f [] u h = refl
@@ -57,34 +57,38 @@ parts false (Some n) h = absurd cc
 joined : (x : Bool) (o : Option ℕ) → x ≡ false → o ≡ None → cond x (Some 0) (option_map (λ n. n + 1) o) ≡ None
 joined x o h g = rw (h, g) refl
 
-bare_whole : (w : List ℕ) → continued_at w ≡ None → continued_at (bare w) ≡ None
+returns_bare : (w : List ℕ) → list_all is_return w ≡ list_all is_return (bare w)
+returns_bare [] = refl
+returns_bare (b ∷ w) = by_rest (bare w) (returns_bare w)
+  where
+    by_return : (x : Bool) → (b == 13) ≡ x → (is_return b && true) ≡ list_all is_return (cond x [] (b ∷ []))
+    by_return true e = rw e refl
+    by_return false e = refl
+
+    by_rest : (v : List ℕ) → list_all is_return w ≡ list_all is_return v → list_all is_return (b ∷ w) ≡ list_all is_return (onto_bare b v)
+    by_rest [] e = ap (λ x. is_return b && x) e ∙ by_return (b == 13) refl
+    by_rest (d ∷ v) e = ap (λ x. is_return b && x) e
+
+breaks_bare : (b : ℕ) (w : List ℕ) → breaks_line b (bare w) ≡ breaks_line b w
+breaks_bare b w = ap (λ x. breaks_before b x (list_all is_return (bare w))) (sym (space_bare w)) ∙ ap (breaks_before b (list_all is_space w)) (sym (returns_bare w))
+
+bare_whole : (w : List ℕ) → broken_at w ≡ None → broken_at (bare w) ≡ None
 bare_whole [] h = refl
 bare_whole (b ∷ w) h =
-    let m = parts (b == 92 && list_all is_space w) (continued_at w) h in
-    by_rest (bare w) (ap (λ x. b == 92 && x) (sym (space_bare w)) ∙ m.0) (bare_whole w (m.1))
+    let m = parts (breaks_line b w) (broken_at w) h in
+    by_rest (bare w) (breaks_bare b w ∙ m.0) (bare_whole w (m.1))
   where
-    by_return : (x : Bool) → (b == 92 && true) ≡ false → continued_at (cond x [] (b ∷ [])) ≡ None
+    by_return : (x : Bool) → breaks_line b [] ≡ false → broken_at (cond x [] (b ∷ [])) ≡ None
     by_return true e = refl
-    by_return false e = joined (b == 92 && true) None e refl
+    by_return false e = joined (breaks_line b []) None e refl
 
-    by_rest : (v : List ℕ) → (b == 92 && list_all is_space v) ≡ false → continued_at v ≡ None → continued_at (onto_bare b v) ≡ None
+    by_rest : (v : List ℕ) → breaks_line b v ≡ false → broken_at v ≡ None → broken_at (onto_bare b v) ≡ None
     by_rest [] e g = by_return (b == 13) e
-    by_rest (d ∷ v) e g = joined (b == 92 && list_all is_space (d ∷ v)) (continued_at (d ∷ v)) e g
+    by_rest (d ∷ v) e g = joined (breaks_line b (d ∷ v)) (broken_at (d ∷ v)) e g
 
 before_newline : (w r : List ℕ) → NewlineNext r → runs_on w r ≡ true → IsOneLine (bare w)
 before_newline w r n h =
-    record { whole = runs_to_newline (bare w) (10 ∷ []) refl (bare_line w (no_newline w r h)) (bare_whole w (not_continued w r n h)); ended = bare_twice w }
+    record { whole = runs_to_newline (bare w) (10 ∷ []) refl (bare_line w (no_newline w r h)) (bare_whole w (not_broken w r n h)); ended = bare_twice w }
 
--- ---- a line that no `\` ends is one
-
-abbrev pub begins_with : ℕ → List ℕ → Bool
-begins_with n [] = false
-begins_with n (b ∷ w) = b == n
-
-pub one_line : (w r : List ℕ) → IsLine w r → begins_with 92 r ≡ false → IsOneLine (bare w)
-one_line w [] h g = before_newline w [] tt (h.0)
-one_line w (d ∷ r) h g = by_newline (d == 10) refl
-  where
-    by_newline : (x : Bool) → (d == 10) ≡ x → IsOneLine (bare w)
-    by_newline true f = before_newline w (d ∷ r) f (h.0)
-    by_newline false f = absurd (true≢false (sym (both_true (d == 92) (comes_to_newline r) (second_of (d == 10) _ f (h.1))).0 ∙ g))
+pub one_line : (w r : List ℕ) → IsLine w r → IsOneLine (bare w)
+one_line w r h = before_newline w r (h.1) (h.0)

@@ -1,5 +1,5 @@
 -- What is known of each piece of a text is known of its tokens by their numbers.
-use Rattle.std.proofs.Common.{◌≡◌, ◌+◌, ℕ, zero, suc, Bool, true, false, List, [], ◌∷◌, ◌++◌, map, length, Some, slice_get, refl, ap, sym, subst, ◌∙◌, arith}
+use Rattle.std.proofs.Common.{◌≡◌, ◌+◌, ℕ, zero, suc, Bool, true, List, [], ◌∷◌, ◌++◌, map, length, Some, slice_get, refl, ap, sym, subst, ◌∙◌, arith}
 use Rattle.std.specs.Prelude.{Ok, slice_range, All}
 use Rattle.std.proofs.lemmas.Bool.{le-leb}
 use Rattle.std.proofs.lemmas.List.Elements.{All-head, All-tail}
@@ -14,19 +14,17 @@ use Rattle.c_source.specs.Words.{bytes_of, word_of}
 use Rattle.c_resolved.specs.Within.{Each}
 use Rattle.printed_syntax.specs.Reread.{Spelling, spelling_of, spellings, read_at}
 use Rattle.printed_syntax.proofs.Tokens.{tokens_read}
-use Rattle.derived_source.proofs.Lines.{begins_with}
-use Rattle.derived_source.proofs.Comments.{text_first}
 
 -- ---- of each piece, in front of these bytes
 
-module _ (P : Spelling → Type 0) (here : (first : Bool) (p : Piece) (r : List ℕ) → Fits first p → Longest p r → begins_with 92 r ≡ false → Each P (spelling_of p)) where
+module _ (P : Spelling → Type 0) (here : (first : Bool) (p : Piece) (r : List ℕ) → Fits first p → Longest p r → Each P (spelling_of p)) where
   both : (xs ys : List Spelling) → Each P xs → Each P ys → Each P (xs ++ ys)
   both [] ys g h = h
   both (x ∷ xs) ys g h = (g.0, both xs ys (g.1) h)
 
   each : (first : Bool) (ps : List Piece) → Good first ps [] → Each P (spellings ps)
   each first [] g = tt
-  each first (p ∷ ps) g = both (spelling_of p) (spellings ps) (here first p (text ps []) (g.0) (g.1) (text_first (first_behind first p) ps (g.2))) (each (first_behind first p) ps (g.2))
+  each first (p ∷ ps) g = both (spelling_of p) (spellings ps) (here first p (text ps []) (g.0) (g.1)) (each (first_behind first p) ps (g.2))
 
   unmapped : (t : List ℕ) (xs : List Token) → Each P (map (read_at t) xs) → Each (λ x. P (read_at t x)) xs
   unmapped t [] h = tt

@@ -51,5 +51,5 @@ words pieces t s n =
     let d = length-append (classes_of t tokens) (c.End ∷ []) in
     let e = length-map tokens (class_of t) in
     along_stand (word_of t tokens) (classes_of t tokens ++ c.End ∷ []) 0
-    (along IsClassed (record { kind = None; there = tt; classed = refl }) pieces t s (each_token IsClassedHere (λ first p r f m b. found first p f) pieces t s))
+    (along IsClassed (record { kind = None; there = tt; classed = refl }) pieces t s (each_token IsClassedHere (λ first p r f m. found first p f) pieces t s))
     (omega (arith, d, e, n))

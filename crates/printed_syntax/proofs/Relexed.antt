@@ -10,7 +10,7 @@ use Rattle.c_lexer.specs.declared.mark.Mark.TheVariants.{Slash}
 use Rattle.c_lexer.specs.Bytes.{is_newline, is_space, is_octal_digit, is_simple_escape, is_text_byte, is_character_byte, NotFirst}
 use Rattle.c_lexer.specs.Characters.{Character, Plain, Simple, ThreeDigits, written, written_all, three_digits, IsCharacter, TakesDigits, AreCharacters}
 use Rattle.c_lexer.specs.Marks.{longer, is_slash, is_dot}
-use Rattle.c_lexer.specs.Pieces.{Spells, Good, Longest, Fits, Begins, text, comes_to_newline, runs_on}
+use Rattle.c_lexer.specs.Pieces.{Spells, Good, Longest, Fits, Begins, text, comes_to_newline, returns_to_newline, runs_on}
 use Rattle.c_lexer.specs.Pieces as l
 use Rattle.c_lexer.proofs.MarkLemmas.{longest_mark, mark_last, no_dots}
 use Rattle.c_tree.specs.TextPieces.{Piece, suffix, spelled, escaped, escaped_bytes, is_printing, octal}
@@ -163,9 +163,13 @@ comes_to_it : (w r : List ℕ) → comes_to_newline (w ++ 10 ∷ r) ≡ comes_to
 comes_to_it [] r = refl
 comes_to_it (b ∷ w) r = ap (λ x. is_newline b || (is_space b && x)) (comes_to_it w r)
 
+returns_to_it : (w r : List ℕ) → returns_to_newline (w ++ 10 ∷ r) ≡ returns_to_newline (w ++ 10 ∷ [])
+returns_to_it [] r = refl
+returns_to_it (b ∷ w) r = ap (λ x. is_newline b || (b == 13 && x)) (returns_to_it w r)
+
 runs_to_it : (w r : List ℕ) → runs_on w (10 ∷ r) ≡ runs_on w (10 ∷ [])
 runs_to_it [] r = refl
-runs_to_it (b ∷ w) r = (λ i. not (is_newline b || (b == 92 && comes_to_it w r i)) && runs_to_it w r i)
+runs_to_it (b ∷ w) r = (λ i. not (is_newline b || ((b == 92 && comes_to_it w r i) || (b == 13 && not (returns_to_it w r i)))) && runs_to_it w r i)
 
 whole_line : (w r : List ℕ) → IsOneLine w → EndsLine r → l.IsLine w r
 whole_line w [] h e = absurd e

@@ -1,4 +1,4 @@
-use Rattle.std.proofs.Common.{◌≡◌, ◌≤◌, true, drop}
+use Rattle.std.proofs.Common.{◌≡◌, ◌≤◌, ◌-◌, true, drop, length}
 use Rattle.c_lexer.specs.declared.state.State.TheVariants.{Between}
 use Rattle.c_lexer.specs.Answers.{nothing}
 use Rattle.c_lexer.specs.Machine as spec
@@ -9,4 +9,8 @@ abbrev pub invariant-loop-i : goal.invariant-loop-i
 invariant-loop-i l = record {
   same : spec.run spec.add_ended l.text (Between true) 0 nothing l.text ≡ spec.run spec.add_ended l.text l.state l.i l.out (drop l.i l.text);
   order : spec.least l.state ≤ l.i;
+  within : l.i ≤ length l.text;
 }
+
+abbrev pub decreases-loop-i : goal.decreases-loop-i
+decreases-loop-i l = length l.text - l.i
