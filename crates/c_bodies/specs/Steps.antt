@@ -1,5 +1,5 @@
 -- One item of a switch's body: the sections that are closed before it and read behind it, and its violations.
-use Rattle.std.specs.Prelude.{ℕ, Bool, true, false, cond, not, ◌&&◌, List, [], ◌∷◌, Option, Some, None}
+use Rattle.std.specs.Prelude.{ℕ, Bool, true, false, cond, not, ◌&&◌, ◌||◌, List, [], ◌∷◌, ◌++◌, Option, Some, None}
 use Rattle.c_bodies.specs.declared.reading.Reading as declared
 use Rattle.c_grammar.specs.declared.syntax.Syntax.{Syntax, out-Syntax}
 use Rattle.c_source.specs.ItemViews.{item_of}
@@ -8,9 +8,11 @@ use Rattle.c_kinds.specs.Scopes.{Faults, fault_if}
 use Rattle.c_source.specs.Items.{Label, label_first, Item, Declares, States, Items, Then, item_first}
 use Rattle.c_statements.specs.Context.{Context, Walk, Around, env_at}
 use Rattle.c_statements.specs.Labels.{has_case}
-use Rattle.c_statements.specs.Sections.{Reading, extended, closed}
-use Rattle.c_statements.specs.Statements.{begun, plain_items, item_items}
-use Rattle.c_statements.specs.Violations.{is_null, item_faults, list_faults, outside_faults}
+use Rattle.c_statements.specs.Sections.{Reading, extended, closed, front}
+pub use Rattle.c_statements.specs.Statements.{begins, is_element}
+use Rattle.c_statements.specs.Statements.{begun, plain_items, item_items, outside_item, outside_items, sections_from}
+use Rattle.c_statements.specs.Violations.{item_faults, list_faults, outside_faults}
+use Rattle.c_tree.specs.declared.tree.Item as tree
 use Rattle.c_tree.specs.declared.tree.Section.{Section}
 
 -- the first token of the first label
@@ -18,26 +20,32 @@ abbrev pub first_of : List Label → Option ℕ
 first_of [] = None
 first_of (l ∷ ls) = Some (label_first l)
 
--- whether it begins a section
-abbrev pub begins : Item → Bool
-begins (Declares first after d) = false
-begins (States ls p) = has_case ls
-
 -- the section that is read; none in front of the first
 abbrev pub reading_of : declared.Reading → Option Reading
 reading_of r = cond r.begun (Some (record { cases = r.cases; default = r.default; list = r.list })) None
 
-abbrev pub closed_before : Option Reading → Item → List Section
-closed_before r x = cond (begins x) (closed r) []
+-- the items in front of the first section, where none was begun
+abbrev pub outside_of : declared.Reading → List tree.Item
+outside_of r = cond r.begun [] r.list
+
+-- what is closed where a section is begun
+abbrev pub closed_now : declared.Reading → List Section
+closed_now r = front (outside_of r) ++ closed (reading_of r)
+
+abbrev pub closed_before : declared.Reading → Item → List Section
+closed_before r x = cond (begins x) (closed_now r) []
+
+-- the items in front of the first section behind an item
+abbrev pub outside_behind : Context → declared.Reading → Item → Walk → List tree.Item
+outside_behind ctx r x w = cond (r.begun || begins x) [] (r.list ++ outside_item ctx x w)
+
+-- the sections to come
+abbrev pub sections_behind : Context → declared.Reading → Items → List tree.Item → Walk → List Section
+sections_behind ctx r xs notes w = front (outside_of r ++ cond r.begun [] (outside_items ctx xs w)) ++ sections_from ctx (reading_of r) xs notes w
 
 abbrev pub reading_behind : Context → Option Reading → Item → Walk → Option Reading
 reading_behind ctx r (Declares first after d) w = extended r (item_items ctx (Declares first after d) w)
 reading_behind ctx r (States ls p) w = cond (has_case ls) (begun ctx (env_at ctx w) ls (plain_items ctx p w)) (extended r (item_items ctx (States ls p) w))
-
--- whether it is an element where it stands in front of the first section
-abbrev pub is_element : Item → Bool
-is_element (Declares first after d) = true
-is_element (States ls p) = not (is_null ls p)
 
 abbrev pub is_outside : Bool → Item → Bool
 is_outside begun x = not begun && not (begins x) && is_element x

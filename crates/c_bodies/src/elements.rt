@@ -47,7 +47,7 @@ fn is_null(words: &Words, x: &Syntax) -> bool
 
 /// Whether an item is an element in front of the first section: a null statement without labels is none.
 #[tactic(auto, using(crate::proofs::FirstTokens::firsts))]
-fn is_element(words: &Words, x: &Syntax) -> bool
+pub fn is_element(words: &Words, x: &Syntax) -> bool
     ensures { result ≡ steps.is_element (item_of (words_of words.now) x.now) }
 {
     match item_layer(words, x) {

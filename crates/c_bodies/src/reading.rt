@@ -1,7 +1,7 @@
 use c_tree::{Expression, Item};
 use c_types::List;
 
-/// What is read of a section of a switch, or what stands in front of the first, of which nothing is kept.
+/// What is read of a section of a switch, or what stands in front of the first.
 #[derive(Drop)]
 pub struct Reading {
     /// Whether it is a section.

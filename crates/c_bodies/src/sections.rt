@@ -10,7 +10,7 @@ ghost use Rattle.c_statements.specs.Statements as statements;
 use crate::notes::add_notes;
 use crate::reading::Reading;
 use crate::state::FunctionContext;
-use c_statements::Anchor;
+use c_statements::{Anchor, or_placeholder};
 use c_tree::{Expression, Item, Section};
 use c_types::{List, Memory};
 use std::alloc::Global;
@@ -92,9 +92,27 @@ fn ended(cases: List<Expression>, default: bool, list: List<Item>) -> Section
     }
 }
 
-/// Puts the section that was read behind the others.
-fn add_ended(read: Reading, done: &mut List<Section>) -> Result<(), Memory>
-    ensures { OnOk result (done.new ≡ done.old ++ spec.closed (steps.reading_of read)) }
+/// Puts items that stand in front of the first section behind the others, in a list without labels.
+fn add_front(alloc: Global, items: List<Item>, done: &mut List<Section>) -> Result<(), Memory>
+    ensures { OnOk result (done.new ≡ done.old ++ spec.front items) }
+{
+    if items.is_empty() {
+        drop(items);
+        return Ok(());
+    }
+    let mut list = items;
+    list.push(Item::Evaluate(or_placeholder(None)))?;
+    done.push(Section {
+        cases: List::new(alloc),
+        default: false,
+        list,
+        ends: false,
+    })
+}
+
+/// Puts what was read behind the others.
+fn add_ended(alloc: Global, read: Reading, done: &mut List<Section>) -> Result<(), Memory>
+    ensures { OnOk result (done.new ≡ done.old ++ steps.closed_now read) }
 {
     let Reading {
         begun,
@@ -105,16 +123,17 @@ fn add_ended(read: Reading, done: &mut List<Section>) -> Result<(), Memory>
     if begun {
         return done.push(ended(cases, default, list));
     }
-    Ok(())
+    drop(cases);
+    add_front(alloc, list, done)
 }
 
 /// Ends what is being read, and begins a section.
 pub fn close(alloc: Global, sections: &mut Sections) -> Result<(), Memory>
-    ensures done { OnOk result (sections.new.done ≡ sections.old.done ++ spec.closed (steps.reading_of sections.old.current)) }
+    ensures done { OnOk result (sections.new.done ≡ sections.old.done ++ steps.closed_now sections.old.current) }
     ensures current { OnOk result (sections.new.current ≡ record { begun = true; cases = []; default = false; list = [] }) }
 {
     let read = mem::replace(&mut sections.current, nothing(alloc, true));
-    add_ended(read, &mut sections.done)
+    add_ended(alloc, read, &mut sections.done)
 }
 
 /// The sections, of which the last gets the comments at the end of the list.
@@ -124,14 +143,14 @@ pub fn finish(
     first: u32,
     sections: Sections,
 ) -> Result<List<Section>, Memory>
-    ensures { IfOk result (λ ss. ss ≡ sections.done ++ statements.sections_of (steps.reading_of sections.current) (context.notes_at (views.context_of ctx.now) (Anchor.AtEnd first))) }
+    ensures { IfOk result (λ ss. ss ≡ sections.done ++ (spec.front (steps.outside_of sections.current) ++ statements.sections_of (steps.reading_of sections.current) (context.notes_at (views.context_of ctx.now) (Anchor.AtEnd first)))) }
 {
     let Sections { done, current } = sections;
     let mut done = done;
     let mut current = current;
     if current.begun {
         add_notes(alloc, ctx, Anchor::AtEnd(first), &mut current.list)?;
-        add_ended(current, &mut done)?;
     }
+    add_ended(alloc, current, &mut done)?;
     Ok(done)
 }

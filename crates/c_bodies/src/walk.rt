@@ -17,7 +17,7 @@ ghost use Rattle.c_statements.specs.Sections as the_sections;
 ghost use Rattle.c_statements.specs.Statements as spec;
 ghost use Rattle.c_statements.specs.Violations as violations;
 
-use crate::elements::{first_of_item, is_outside, is_token};
+use crate::elements::{first_of_item, is_element, is_outside, is_token};
 use crate::items::{
     Lists, push_block, push_choice, push_do, push_for, push_if, push_switch, push_while,
 };
@@ -545,7 +545,7 @@ fn section_node<'n, 'a>(
     read: &mut Sections,
 ) -> Result<(), Memory>
     ensures walk { OnOk result ((xs : items.Items) → spec.behind_items (views.context_of ctx.now) xs (views.walk_of state.new) ≡ spec.behind_items (views.context_of ctx.now) (steps.with_node (words_of ctx.now.words) x.now xs) (views.walk_of state.old)) }
-    ensures sections { OnOk result ((xs : items.Items) (notes : List Item) → read.new.done ++ spec.sections_from (views.context_of ctx.now) (steps.reading_of read.new.current) xs notes (views.walk_of state.new) ≡ read.old.done ++ spec.sections_from (views.context_of ctx.now) (steps.reading_of read.old.current) (steps.with_node (words_of ctx.now.words) x.now xs) notes (views.walk_of state.old)) }
+    ensures sections { OnOk result ((xs : items.Items) (notes : List Item) → read.new.done ++ steps.sections_behind (views.context_of ctx.now) read.new.current xs notes (views.walk_of state.new) ≡ read.old.done ++ steps.sections_behind (views.context_of ctx.now) read.old.current (steps.with_node (words_of ctx.now.words) x.now xs) notes (views.walk_of state.old)) }
     ensures cases { OnOk result ((xs : items.Items) → cases.list_entries (views.context_of ctx.now) xs (views.walk_of state.new) state.new.cases ≡ cases.list_entries (views.context_of ctx.now) (steps.with_node (words_of ctx.now.words) x.now xs) (views.walk_of state.old) state.old.cases) }
     ensures faults { OnOk result ((xs : items.Items) → steps.section_faults (views.context_of ctx.now) (views.around_of around) read.new.current.begun xs (views.walk_of state.new) state.new.faults ≡ steps.section_faults (views.context_of ctx.now) (views.around_of around) read.old.current.begun (steps.with_node (words_of ctx.now.words) x.now xs) (views.walk_of state.old) state.old.faults) }
 {
@@ -567,7 +567,7 @@ fn sections_of<'n, 'a>(
     nodes: &[Syntax],
 ) -> Result<List<Section>, Memory>
     ensures walk { OnOk result (views.walk_of state.new ≡ spec.behind_items (views.context_of ctx.now) (items_of (words_of ctx.now.words) nodes.now) (views.walk_of state.old)) }
-    ensures value { IfOk result (λ ss. ss ≡ spec.sections_from (views.context_of ctx.now) None (items_of (words_of ctx.now.words) nodes.now) (context.notes_at (views.context_of ctx.now) (Anchor.AtEnd first)) (views.walk_of state.old)) }
+    ensures value { IfOk result (λ ss. ss ≡ the_sections.front (spec.outside_items (views.context_of ctx.now) (items_of (words_of ctx.now.words) nodes.now) (views.walk_of state.old)) ++ spec.sections_from (views.context_of ctx.now) None (items_of (words_of ctx.now.words) nodes.now) (context.notes_at (views.context_of ctx.now) (Anchor.AtEnd first)) (views.walk_of state.old)) }
     ensures cases { OnOk result (state.new.cases ≡ cases.list_entries (views.context_of ctx.now) (items_of (words_of ctx.now.words) nodes.now) (views.walk_of state.old) state.old.cases) }
     ensures faults { OnOk result (state.new.faults ≡ violations.outside_faults (views.context_of ctx.now) (views.around_of around) (items_of (words_of ctx.now.words) nodes.now) (views.walk_of state.old) state.old.faults) }
 {
@@ -588,9 +588,10 @@ fn section_item<'n, 'a>(
     x: &Syntax,
     read: &mut Sections,
 ) -> Result<(), Memory>
-    ensures done { OnOk result (read.new.done ≡ read.old.done ++ steps.closed_before (steps.reading_of read.old.current) (item_of (words_of ctx.now.words) x.now)) }
+    ensures done { OnOk result (read.new.done ≡ read.old.done ++ steps.closed_before read.old.current (item_of (words_of ctx.now.words) x.now)) }
     ensures current { OnOk result (steps.reading_of read.new.current ≡ steps.reading_behind (views.context_of ctx.now) (steps.reading_of read.old.current) (item_of (words_of ctx.now.words) x.now) (views.walk_of state.old)) }
     ensures begun { OnOk result (read.new.current.begun ≡ (read.old.current.begun || steps.begins (item_of (words_of ctx.now.words) x.now))) }
+    ensures outside { OnOk result (steps.outside_of read.new.current ≡ steps.outside_behind (views.context_of ctx.now) read.old.current (item_of (words_of ctx.now.words) x.now) (views.walk_of state.old)) }
     ensures walk { OnOk result (views.walk_of state.new ≡ spec.behind_item (views.context_of ctx.now) (item_of (words_of ctx.now.words) x.now) (views.walk_of state.old)) }
     ensures cases { OnOk result (state.new.cases ≡ cases.item_entries (views.context_of ctx.now) (item_of (words_of ctx.now.words) x.now) (views.walk_of state.old) state.old.cases) }
     ensures faults { OnOk result (state.new.faults ≡ steps.section_item_faults (views.context_of ctx.now) (views.around_of around) read.old.current.begun (item_of (words_of ctx.now.words) x.now) (views.walk_of state.old) state.old.faults) }
@@ -599,8 +600,10 @@ fn section_item<'n, 'a>(
         ItemLayer::States(labels, plain) => {
             if has_case(&ctx.words, labels) {
                 section(alloc, ctx, around, state, labels, plain, read)
-            } else {
+            } else if read.current.begun || is_element(&ctx.words, x) {
                 extend(alloc, ctx, around, state, x, read)
+            } else {
+                pass_over(alloc, ctx, around, state, x, read)
             }
         }
         ItemLayer::Declares(_, _, _) => extend(alloc, ctx, around, state, x, read),
@@ -619,9 +622,10 @@ fn section<'n, 'a>(
     read: &mut Sections,
 ) -> Result<(), Memory>
     requires { the_labels.has_case (labels_of (words_of ctx.now.words) labels.now) ≡ true }
-    ensures done { OnOk result (read.new.done ≡ read.old.done ++ steps.closed_before (steps.reading_of read.old.current) (items.States (labels_of (words_of ctx.now.words) labels.now) (plain_of (words_of ctx.now.words) plain.now))) }
+    ensures done { OnOk result (read.new.done ≡ read.old.done ++ steps.closed_before read.old.current (items.States (labels_of (words_of ctx.now.words) labels.now) (plain_of (words_of ctx.now.words) plain.now))) }
     ensures current { OnOk result (steps.reading_of read.new.current ≡ steps.reading_behind (views.context_of ctx.now) (steps.reading_of read.old.current) (items.States (labels_of (words_of ctx.now.words) labels.now) (plain_of (words_of ctx.now.words) plain.now)) (views.walk_of state.old)) }
     ensures begun { OnOk result (read.new.current.begun ≡ (read.old.current.begun || steps.begins (items.States (labels_of (words_of ctx.now.words) labels.now) (plain_of (words_of ctx.now.words) plain.now)))) }
+    ensures outside { OnOk result (steps.outside_of read.new.current ≡ steps.outside_behind (views.context_of ctx.now) read.old.current (items.States (labels_of (words_of ctx.now.words) labels.now) (plain_of (words_of ctx.now.words) plain.now)) (views.walk_of state.old)) }
     ensures walk { OnOk result (views.walk_of state.new ≡ spec.behind_item (views.context_of ctx.now) (items.States (labels_of (words_of ctx.now.words) labels.now) (plain_of (words_of ctx.now.words) plain.now)) (views.walk_of state.old)) }
     ensures cases { OnOk result (state.new.cases ≡ cases.item_entries (views.context_of ctx.now) (items.States (labels_of (words_of ctx.now.words) labels.now) (plain_of (words_of ctx.now.words) plain.now)) (views.walk_of state.old) state.old.cases) }
     ensures faults { OnOk result (state.new.faults ≡ steps.section_item_faults (views.context_of ctx.now) (views.around_of around) read.old.current.begun (items.States (labels_of (words_of ctx.now.words) labels.now) (plain_of (words_of ctx.now.words) plain.now)) (views.walk_of state.old) state.old.faults) }
@@ -641,10 +645,12 @@ fn extend<'n, 'a>(
     x: &Syntax,
     read: &mut Sections,
 ) -> Result<(), Memory>
-    requires { steps.begins (item_of (words_of ctx.now.words) x.now) ≡ false }
-    ensures done { OnOk result (read.new.done ≡ read.old.done ++ steps.closed_before (steps.reading_of read.old.current) (item_of (words_of ctx.now.words) x.now)) }
+    requires further { steps.begins (item_of (words_of ctx.now.words) x.now) ≡ false }
+    requires kept { (read.now.current.begun || steps.is_element (item_of (words_of ctx.now.words) x.now)) ≡ true }
+    ensures done { OnOk result (read.new.done ≡ read.old.done ++ steps.closed_before read.old.current (item_of (words_of ctx.now.words) x.now)) }
     ensures current { OnOk result (steps.reading_of read.new.current ≡ steps.reading_behind (views.context_of ctx.now) (steps.reading_of read.old.current) (item_of (words_of ctx.now.words) x.now) (views.walk_of state.old)) }
     ensures begun { OnOk result (read.new.current.begun ≡ (read.old.current.begun || steps.begins (item_of (words_of ctx.now.words) x.now))) }
+    ensures outside { OnOk result (steps.outside_of read.new.current ≡ steps.outside_behind (views.context_of ctx.now) read.old.current (item_of (words_of ctx.now.words) x.now) (views.walk_of state.old)) }
     ensures walk { OnOk result (views.walk_of state.new ≡ spec.behind_item (views.context_of ctx.now) (item_of (words_of ctx.now.words) x.now) (views.walk_of state.old)) }
     ensures cases { OnOk result (state.new.cases ≡ cases.item_entries (views.context_of ctx.now) (item_of (words_of ctx.now.words) x.now) (views.walk_of state.old) state.old.cases) }
     ensures faults { OnOk result (state.new.faults ≡ steps.section_item_faults (views.context_of ctx.now) (views.around_of around) read.old.current.begun (item_of (words_of ctx.now.words) x.now) (views.walk_of state.old) state.old.faults) }
@@ -653,4 +659,29 @@ fn extend<'n, 'a>(
     let first = first_of_item(&ctx.words, x);
     add_item(alloc, ctx, around, state, x, &mut read.current.list)?;
     report_at(state, outside, first, 29)
+}
+
+/// Reads a null statement in front of the first section, which is no item.
+#[cycle(walk)]
+#[tactic(auto, using(crate::proofs::SwitchSteps::passing))]
+fn pass_over<'n, 'a>(
+    alloc: Global,
+    ctx: &FunctionContext<'n, 'a>,
+    around: Around,
+    state: &mut State<'a>,
+    x: &Syntax,
+    read: &mut Sections,
+) -> Result<(), Memory>
+    requires further { steps.begins (item_of (words_of ctx.now.words) x.now) ≡ false }
+    requires passed { (read.now.current.begun || steps.is_element (item_of (words_of ctx.now.words) x.now)) ≡ false }
+    ensures done { OnOk result (read.new.done ≡ read.old.done ++ steps.closed_before read.old.current (item_of (words_of ctx.now.words) x.now)) }
+    ensures current { OnOk result (steps.reading_of read.new.current ≡ steps.reading_behind (views.context_of ctx.now) (steps.reading_of read.old.current) (item_of (words_of ctx.now.words) x.now) (views.walk_of state.old)) }
+    ensures begun { OnOk result (read.new.current.begun ≡ (read.old.current.begun || steps.begins (item_of (words_of ctx.now.words) x.now))) }
+    ensures outside { OnOk result (steps.outside_of read.new.current ≡ steps.outside_behind (views.context_of ctx.now) read.old.current (item_of (words_of ctx.now.words) x.now) (views.walk_of state.old)) }
+    ensures walk { OnOk result (views.walk_of state.new ≡ spec.behind_item (views.context_of ctx.now) (item_of (words_of ctx.now.words) x.now) (views.walk_of state.old)) }
+    ensures cases { OnOk result (state.new.cases ≡ cases.item_entries (views.context_of ctx.now) (item_of (words_of ctx.now.words) x.now) (views.walk_of state.old) state.old.cases) }
+    ensures faults { OnOk result (state.new.faults ≡ steps.section_item_faults (views.context_of ctx.now) (views.around_of around) read.old.current.begun (item_of (words_of ctx.now.words) x.now) (views.walk_of state.old) state.old.faults) }
+{
+    let mut none = List::new(alloc);
+    add_item(alloc, ctx, around, state, x, &mut none)
 }

@@ -111,7 +111,7 @@ array_want_fault kind constant external first x vs = use_fault first x vs
 -- an argument for a conversion of `printf`
 abbrev pub sized_fault : Bool → ℕ → Typed → Faults → Faults
 sized_fault wide first (Value v) vs = fault_if (not (same_truth wide (is_wide v.kind))) first 40 vs
-sized_fault wide first x vs = use_fault first x vs
+sized_fault wide first x vs = number_fault first x vs
 
 abbrev pub argument_fault : Want → ℕ → Typed → Faults → Faults
 argument_fault (want.Number kind constant) first x vs = number_fault first x vs

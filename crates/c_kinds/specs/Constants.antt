@@ -1,13 +1,13 @@
 -- Constant expressions (ISO/IEC 9899:2011, 6.6).
-use Rattle.std.specs.Prelude.{ℕ, ℤ, Bool, true, false, cond, ◌&&◌, is_some, Option, None, option_map}
+use Rattle.std.specs.Prelude.{ℕ, ℤ, Bool, true, false, cond, not, ◌&&◌, is_some, Option, None, option_map}
 use Rattle.c_types.specs.declared.kinds.IntKind.{IntKind}
 use Rattle.c_tree.specs.declared.tree.Expression.{Expression}
 use Rattle.c_tree.specs.ExpressionTrees.{ExpressionTree, NodeTree, Typed, Number, Character, EnumName, Unary, Cast, Binary, Conditional, expression_tree}
 use Rattle.c_tree.specs.Constants.{constant_value}
 use Rattle.c_kinds.specs.declared.typed.Typed as typed
 use Rattle.c_kinds.specs.declared.typed.Typed.TheVariants.{Value}
-use Rattle.c_kinds.specs.Scopes.{Faults, fault}
-use Rattle.c_kinds.specs.Values.{expression}
+use Rattle.c_kinds.specs.Scopes.{Faults, fault_if}
+use Rattle.c_kinds.specs.Values.{expression, use_fault}
 
 abbrev mutual
   -- made of numbers, characters, enum constants, marks, casts to number types and `?:`
@@ -32,6 +32,6 @@ abbrev pub constant_of : typed.Typed → Option (Expression × ℤ)
 constant_of (Value v) = with_value (expression v)
 constant_of _ = None
 
--- a constant expression is needed here
+-- a value is used here, and it has to be a constant expression's
 abbrev pub constant_fault : ℕ → typed.Typed → Faults → Faults
-constant_fault first x vs = cond (is_some (constant_of x)) vs (fault first 34 vs)
+constant_fault first x vs = fault_if (not (is_some (constant_of x))) first 34 (use_fault first x vs)

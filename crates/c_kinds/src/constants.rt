@@ -8,7 +8,7 @@ ghost use Rattle.c_kinds.specs.declared.typed.Typed.TheVariants.{Text};
 ghost use Rattle.c_source.specs.Views.{words_of};
 ghost use Rattle.c_tree.specs.ExpressionTrees.{expression_tree};
 
-use crate::faults::report;
+use crate::faults::{report, report_use};
 use crate::typed::{Fault, Typed};
 use crate::values::{character_constant, expression, number};
 use c_constants::constant_value;
@@ -86,7 +86,7 @@ fn value_of_constant(x: Typed) -> Option<(Expression, i128)>
     }
 }
 
-/// A constant expression and its value, with the violation where it is none, or traps.
+/// A constant expression and its value, with the violations where it has none or isn't constant.
 pub fn constant_of(
     faults: &mut Stack<Fault>,
     first: u32,
@@ -95,6 +95,10 @@ pub fn constant_of(
     ensures value { IfOk result (λ c. c ≡ constants.constant_of x) }
     ensures faults { OnOk result (faults.new ≡ constants.constant_fault first x faults.old) }
 {
+    if let Err(e) = report_use(faults, first, &x) {
+        drop(x);
+        return Err(e);
+    }
     match value_of_constant(x) {
         Some(c) => Ok(Some(c)),
         None => {

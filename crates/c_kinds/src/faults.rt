@@ -125,7 +125,7 @@ fn report_sized(faults: &mut Stack<Fault>, wide: bool, first: u32, x: &Typed) ->
 {
     match x {
         Typed::Value(v) => report_if(faults, !same_truth(wide, is_wide(v.kind)), first, 40),
-        _ => report_use(faults, first, x),
+        _ => report_number(faults, first, x),
     }
 }
 

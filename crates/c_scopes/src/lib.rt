@@ -19,6 +19,7 @@ mod tangle;
 mod violations;
 
 pub use blocks::{Block, block_of};
+pub use c_statements::Measures;
 pub use constants::constant_initial;
 pub use counted::{Counts, counts_of};
 pub use enums::read_enum;

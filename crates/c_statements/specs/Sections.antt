@@ -1,9 +1,10 @@
 -- The sections of a switch (ISO/IEC 9899:2011, 6.8.4.2).
 use Rattle.std.specs.Prelude.{Bool, true, false, cond, not, ◌&&◌, ◌||◌, List, [], ◌∷◌, ◌++◌, Option, Some, None}
 use Rattle.c_tree.specs.declared.tree.Expression.{Expression}
-use Rattle.c_tree.specs.declared.tree.Item.{Item, out-Item}
+use Rattle.c_tree.specs.declared.tree.Item.{Item, Evaluate, out-Item}
 use Rattle.c_tree.specs.declared.tree.Item.TheOpen as Open
 use Rattle.c_tree.specs.declared.tree.Section.{Section, roll-Section, out-Section}
+use Rattle.c_statements.specs.Declarations.{placeholder}
 
 -- a section that is being read
 pub record Reading : Type 0 where
@@ -14,7 +15,7 @@ pub record Reading : Type 0 where
 abbrev pub section : List Expression → Bool → List Item → Bool → Section
 section cases default list ends = roll-Section (record { cases = cases; default = default; list = list; ends = ends })
 
--- these items at the end of the section; items in front of the first section are violations, or null statements, and give nothing
+-- these items at the end of the section; items in front of the first section are in none
 abbrev pub extended : Option Reading → List Item → Option Reading
 extended (Some s) xs = Some (record { cases = s.cases; default = s.default; list = s.list ++ xs })
 extended None xs = None
@@ -43,6 +44,11 @@ ended s = cond (has_label s && ends_in_break s.list) (section s.cases s.default 
 abbrev pub closed : Option Reading → List Section
 closed (Some s) = ended s ∷ []
 closed None = []
+
+-- items in front of the first section stay in the switch, in a list without labels; behind the expression, no `break` ends it
+abbrev pub front : List Item → List Section
+front [] = []
+front (x ∷ xs) = section [] false ((x ∷ xs) ++ Evaluate placeholder ∷ []) false ∷ []
 
 -- ---- sections with an empty list
 

@@ -1,5 +1,5 @@
 -- The items that statements are (ISO/IEC 9899:2011, 6.8).
-use Rattle.std.specs.Prelude.{true, false, List, [], ◌∷◌, ◌++◌, Option, Some, None, option_map}
+use Rattle.std.specs.Prelude.{Bool, true, false, cond, not, ◌||◌, List, [], ◌∷◌, ◌++◌, Option, Some, None, option_map}
 use Rattle.c_tree.specs.declared.tree.Expression.{Expression}
 use Rattle.c_tree.specs.declared.tree.Item as item
 use Rattle.c_tree.specs.declared.tree.Test as test
@@ -14,7 +14,7 @@ use Rattle.c_kinds.specs.Typing.{typed}
 use Rattle.c_statements.specs.Context.{Context, Walk, env_at, enter, leave, Before, AtEnd, AtSection, notes_at, number_in}
 use Rattle.c_statements.specs.Declarations.{placeholder, value_at, kinded, all_declared, locals}
 use Rattle.c_statements.specs.Labels.{has_case, labels_items, section_marks, section_cases, has_default}
-use Rattle.c_statements.specs.Sections.{Reading, extended, closed, passed_on}
+use Rattle.c_statements.specs.Sections.{Reading, extended, closed, front, passed_on}
 
 -- ---- what is declared behind a statement
 
@@ -81,6 +81,23 @@ abbrev pub sections_of : Option Reading → List item.Item → List Section
 sections_of (Some s) notes = closed (extended (Some s) notes)
 sections_of None notes = []
 
+-- ---- a statement in front of the first section
+
+-- a null statement without labels
+abbrev pub is_null : List Label → Plain → Bool
+is_null [] (From first after Null) = true
+is_null _ _ = false
+
+-- whether an item is an element there
+abbrev pub is_element : items.Item → Bool
+is_element (Declares first after d) = true
+is_element (States ls p) = not (is_null ls p)
+
+-- whether it begins a section
+abbrev pub begins : items.Item → Bool
+begins (Declares first after d) = false
+begins (States ls p) = has_case ls
+
 abbrev pub a_switch : Expression → List Section → List item.Item
 a_switch e sections = item.Switch (selector.Source e) (passed_on [] false sections) ∷ []
 
@@ -122,8 +139,17 @@ abbrev mutual
 
   -- the sections of a switch, and what stands in front of them
   pub switch_sections : Context → Body → Walk → List Section
-  switch_sections ctx (Braces first after xs) w = sections_from ctx None xs (notes_at ctx (AtEnd first)) (enter w)
-  switch_sections ctx (Lone first after x) w = sections_at ctx None x (notes_at ctx (AtEnd first)) (enter w)
+  switch_sections ctx (Braces first after xs) w = front (outside_items ctx xs (enter w)) ++ sections_from ctx None xs (notes_at ctx (AtEnd first)) (enter w)
+  switch_sections ctx (Lone first after x) w = front (outside_item ctx x (enter w)) ++ sections_at ctx None x (notes_at ctx (AtEnd first)) (enter w)
+
+  -- up to the first section
+  pub outside_items : Context → Items → Walk → List item.Item
+  outside_items ctx NoItem w = []
+  outside_items ctx (Then x xs) w = cond (begins x) [] (outside_item ctx x w ++ outside_items ctx xs (behind_item ctx x w))
+
+  pub outside_item : Context → items.Item → Walk → List item.Item
+  outside_item ctx (Declares first after d) w = notes_at ctx (Before first) ++ declaration_items ctx d w
+  outside_item ctx (States ls p) w = cond (has_case ls || is_null ls p) [] (labels_items ctx (env_at ctx w) ls ++ plain_items ctx p w)
 
   -- behind the section that is being read; the Notes stand at the end of the last
   pub sections_from : Context → Option Reading → Items → List item.Item → Walk → List Section

@@ -1,8 +1,8 @@
 -- The violations of statements (ISO/IEC 9899:2011, 6.8), in front of those that were found before.
-use Rattle.std.specs.Prelude.{ℕ, Bool, true, false, not, ◌||◌, List, [], Option, Some, None, option_map}
+use Rattle.std.specs.Prelude.{ℕ, true, false, not, ◌||◌, [], Option, Some, None, option_map}
 use Rattle.c_types.specs.declared.kinds.IntKind.{IntKind}
 use Rattle.c_source.specs.Terms.{Term}
-use Rattle.c_source.specs.Items.{Declaration, Label, Start, NoStart, StartValue, StartNames, Item, Declares, States, Plain, From, Statement, Null, Evaluate, If, IfElse, While, DoWhile, For, Switch, Block, Goto, Break, Continue, Return, Unread, Body, Braces, Lone, Items, NoItem, Then, stated_first}
+use Rattle.c_source.specs.Items.{Declaration, Start, NoStart, StartValue, StartNames, Item, Declares, States, Plain, From, Statement, Null, Evaluate, If, IfElse, While, DoWhile, For, Switch, Block, Goto, Break, Continue, Return, Unread, Body, Braces, Lone, Items, NoItem, Then, stated_first}
 use Rattle.c_kinds.specs.Scopes.{Env, Faults, fault, fault_if}
 use Rattle.c_kinds.specs.Values.{value_of}
 use Rattle.c_kinds.specs.Typing.{typed, faults, unused}
@@ -10,6 +10,7 @@ use Rattle.c_statements.specs.Context.{Context, Walk, env_at, enter, Around, in_
 use Rattle.c_statements.specs.Declarations.{kinded, locals_faults, value_faults}
 use Rattle.c_statements.specs.Labels.{has_case, labels_faults}
 use Rattle.c_statements.specs.Statements.{declared_by, behind_start, behind_item, behind_plain, behind_body}
+pub use Rattle.c_statements.specs.Statements.{is_null}
 use Rattle.c_statements.specs.Cases.{body_entries, switch_faults}
 
 -- an expression of which a value is dropped
@@ -34,11 +35,6 @@ return_faults (Some k) env at (Some t) vs = value_faults env t vs
 return_faults (Some k) env at None vs = fault at 25 vs
 return_faults None env at (Some t) vs = fault at 25 (faults env t vs)
 return_faults None env at None vs = vs
-
--- a null statement without labels
-abbrev pub is_null : List Label → Plain → Bool
-is_null [] (From first after Null) = true
-is_null _ _ = false
 
 abbrev mutual
   pub item_faults : Context → Around → Item → Walk → Faults → Faults

@@ -1,13 +1,17 @@
-ghost use Rattle.std.specs.Prelude.{◌≡◌, ◌+◌, [], IfOk, OnOk};
+//! Gotos and labels of flat forms, counted.
+
+ghost use Rattle.std.specs.Prelude.{◌≡◌, ◌+◌, [], length, IfOk, OnOk};
 ghost use Rattle.c_tree.specs.Everywhere.{total, total_of, total_in};
 ghost use Rattle.c_tree.specs.Trees.{trees_of, sections_of};
-ghost use Rattle.resolved_core.specs.Counts.{goto_of, flat_counts as the_flat_counts};
+ghost use Rattle.resolved_core.specs.Counts.{goto_of, bound_counts as the_bound_counts, flat_counts as the_flat_counts};
 ghost use Rattle.tree_views.specs.Views.{tree_at};
 
+use crate::labels::label_count;
+use crate::strays::without_strays;
 use c_tree::{Function, Item, Section};
 use c_types::{List, Memory, Name};
-use flat_bodies::flat_body;
-use flat_parts::has_jumps;
+use flat_bodies::{flat_body, labels_in};
+use flat_parts::{has_arrival, has_jumps};
 use std::alloc::Global;
 
 fn add_one(count: &mut u64) -> Result<(), Memory>
@@ -80,36 +84,61 @@ pub fn gotos_in(list: &List<Item>) -> Result<u64, Memory>
     Ok(count)
 }
 
-/// A function without variables and labels.
-fn frame(alloc: Global) -> Function
-    ensures slots { result.slots ≡ [] }
-    ensures labels { result.labels ≡ [] }
+/// So many labels without names.
+fn unnamed(alloc: Global, count: usize) -> Result<List<Name>, Memory>
+    ensures { IfOk result (λ it. length it ≡ count) }
 {
-    Function {
+    let mut out = List::new(alloc);
+    for _i in 0..count {
+        out.push(Name::from_string(String::new(alloc)))?;
+    }
+    Ok(out)
+}
+
+/// A function without variables, and with so many labels.
+fn frame(alloc: Global, labels: usize) -> Result<Function, Memory>
+    ensures slots { IfOk result (λ it. it.slots ≡ []) }
+    ensures labels { IfOk result (λ it. length it.labels ≡ labels) }
+{
+    Ok(Function {
         name: Name::from_string(String::new(alloc)),
         result: None,
         file_only: false,
         params: 0,
         slots: List::new(alloc),
-        labels: List::new(alloc),
+        labels: unnamed(alloc, labels)?,
         body: None,
         flat: false,
+    })
+}
+
+/// How many gotos and labels the flat form of a body has that holds no stray case label.
+fn bound_counts(alloc: Global, body: &List<Item>) -> Result<Option<(u64, u64)>, Memory>
+    ensures { IfOk result (λ it. it ≡ the_bound_counts (trees_of body.now)) }
+{
+    if has_jumps(body) {
+        let sources = labels_in(alloc, body)?.len();
+        let frame = frame(alloc, sources)?;
+        let flat = flat_body(alloc, &frame, body)?;
+        let gotos = gotos_in(&flat.items)?;
+        let labels = label_count(alloc, sources, flat.codes.as_slice())?;
+        Ok(Some((gotos, labels)))
+    } else {
+        Ok(None)
     }
 }
 
 /// How many gotos and how many labels the flat form of a function with this body has, whatever its
-/// variables and labels are; `None` where it has no jumps. Want of memory is the only failure. The flat
-/// form is made to be counted, so it takes the time and the memory of that.
+/// variables and labels are; `None` where it has no jumps. A label that stands twice counts once, and
+/// a case label outside of any switch for nothing. Want of memory is the only failure. The flat form
+/// is made to be counted, so it takes the time and the memory of that.
 pub fn flat_counts(alloc: Global, body: &List<Item>) -> Result<Option<(u64, u64)>, Memory>
     ensures { IfOk result (λ it. it ≡ the_flat_counts (trees_of body.now)) }
 {
-    if has_jumps(body) {
-        let frame = frame(alloc);
-        let flat = flat_body(alloc, &frame, body)?;
-        let gotos = gotos_in(&flat.items)?;
-        let labels = flat.codes.len() as u64;
-        Ok(Some((gotos, labels)))
+    if has_arrival(body) {
+        let bound = without_strays(alloc, body)?;
+        bound_counts(alloc, &bound)
     } else {
-        Ok(None)
+        bound_counts(alloc, body)
     }
 }

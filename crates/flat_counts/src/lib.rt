@@ -2,5 +2,7 @@
 #![tactic(auto)]
 
 mod counting;
+mod labels;
+mod strays;
 
 pub use counting::{flat_counts, gotos_in};

@@ -11,7 +11,7 @@ use c_types::List;
 
 /// Whether a case label or a default stands in a list that is bound to a switch around it.
 #[cycle(arrival)]
-fn has_arrival(list: &List<Item>) -> bool
+pub fn has_arrival(list: &List<Item>) -> bool
     ensures { result ≡ not (is_empty (arrivals (trees_of list.now))) }
 {
     items_have_arrival(list.as_slice())

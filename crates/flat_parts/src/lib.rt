@@ -10,7 +10,7 @@ mod jumps;
 mod named;
 mod selectors;
 
-pub use arrivals::{is_scattered, switch_has_default};
+pub use arrivals::{has_arrival, is_scattered, switch_has_default};
 pub use cases::{case_number, case_numbers};
 pub use endings::{Ending, ends_by, is_gone, keeps_break, kept_length, leaves};
 pub use exits::{has_break, has_continue, sections_have_continue};

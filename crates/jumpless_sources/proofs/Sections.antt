@@ -5,14 +5,15 @@ use Rattle.c_tree.specs.declared.tree.Section.{Section}
 use Rattle.c_tree.specs.ExpressionTrees.{ExpressionTree}
 use Rattle.c_tree.specs.Everywhere.{EverywhereIn}
 use Rattle.c_tree.specs.Trees.{Forest, Nil, Then, Sections, SectionTree, expression_trees, trees_of, section_tree, sections, sections_of}
-use Rattle.c_tree.proofs.TreeLaws.{trees-append}
+use Rattle.c_tree.proofs.TreeLaws.{trees-append, trees-none, trees-more, tree-Evaluate}
 use Rattle.c_tree.proofs.KeptLemmas.{everywhere_join}
-use Rattle.c_statements.specs.Sections.{Reading, extended, closed, passed_on}
+use Rattle.c_statements.specs.Sections.{Reading, extended, closed, passed_on, front}
 use Rattle.c_statements.specs.Statements as statements
 use Rattle.c_resolved.specs.Form.{ends_with_break}
 use Rattle.c_resolved.specs.Within.{Each}
 use Rattle.resolving_core.proofs.SectionTrees.{section_of, ended_tree, has_entry, without_end, passes, with_entries, passed_trees, passed_same, ended_same, sections_are}
 use Rattle.jumpless_sources.proofs.Still.{IsStill, IsStillList}
+use Rattle.c_statements.specs.Declarations.{placeholder}
 
 abbrev pub Still : List item.Item → Type 0
 Still xs = IsStillList (trees_of xs)
@@ -68,6 +69,17 @@ extended_still (Some r) xs h k = still_both r.list xs h k
 pub end_still : (o : Option Reading) (notes : List item.Item) → StillReading o → Still notes → StillSections (statements.sections_of o notes)
 end_still None notes h k = tt
 end_still (Some r) notes h k = closed_still (extended (Some r) notes) (extended_still (Some r) notes h k)
+
+pub still_if : (b : Bool) (xs : List item.Item) → Still xs → Still (cond b [] xs)
+still_if true xs h = subst IsStillList (sym trees-none) tt
+still_if false xs h = h
+
+pub front_still : (xs : List item.Item) → Still xs → StillSections (front xs)
+front_still [] h = tt
+front_still (x ∷ xs) h =
+    let nothing = item.Evaluate placeholder ∷ [] in
+    let n = subst IsStillList (sym (trees-more (item.Evaluate placeholder) [] ∙ (λ i. Then (tree-Evaluate placeholder i) (trees-none i)))) (tt, tt) in
+    closed_still (Some (record { cases = []; default = false; list = (x ∷ xs) ++ nothing })) (still_both (x ∷ xs) nothing h n)
 
 still_trees : (cs : List Section) → StillSections cs → Each StillTree (map section_tree cs)
 still_trees [] h = tt

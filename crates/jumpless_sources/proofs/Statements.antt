@@ -1,5 +1,5 @@
 -- The items of statements without jumps.
-use Rattle.std.proofs.Common.{ℕ, Bool, true, false, List, [], ◌∷◌, ◌++◌, map, length, Option, Some, None, option_map, ◌≡◌, refl, sym, ap, subst, ◌∙◌, true≢false}
+use Rattle.std.proofs.Common.{ℕ, Bool, true, false, List, [], ◌∷◌, ◌++◌, map, length, Option, Some, None, option_map, ◌≡◌, refl, sym, ap, subst, ◌∙◌, true≢false, cond, ◌||◌}
 use Rattle.c_tree.specs.declared.tree.Item as item
 use Rattle.c_tree.specs.declared.tree.Selector as selector
 use Rattle.c_tree.specs.Everywhere.{EverywhereOf}
@@ -14,13 +14,13 @@ use Rattle.c_statements.specs.declared.anchors.Anchor.TheVariants.{Before, AtEnd
 use Rattle.c_statements.specs.Context.{Context, Walk, env_at, env_in, enter, notes_at, number_in}
 use Rattle.c_statements.specs.Declarations.{kinded, declared, local, locals, initial, value_at}
 use Rattle.c_statements.specs.Labels.{has_case, mark, labels_items, section_marks}
-use Rattle.c_statements.specs.Sections.{Reading, extended, closed, passed_on}
+use Rattle.c_statements.specs.Sections.{Reading, extended, closed, passed_on, front}
 use Rattle.c_statements.specs.Statements as statements
-use Rattle.c_statements.specs.Statements.{behind_start, behind_item, behind_plain, behind_body, declared_by, declaration_items, dropped_at, test_at, start_items, begun, item_items, plain_items, statement_items, body_items, list_items, switch_sections, sections_from, sections_at}
+use Rattle.c_statements.specs.Statements.{behind_start, behind_item, behind_plain, behind_body, declared_by, declaration_items, dropped_at, test_at, start_items, begun, item_items, plain_items, statement_items, body_items, list_items, switch_sections, sections_from, sections_at, outside_item, outside_items, begins, is_null}
 use Rattle.resolving_core.proofs.Lists.{each_append}
 use Rattle.file_jumps.specs.Jumps.{labels_jump, item_jump, plain_jump, statement_jump, body_jump, list_jump, switch_jump, sections_jump, section_jump}
 use Rattle.jumpless_sources.proofs.Still.{IsStill, IsStillList}
-use Rattle.jumpless_sources.proofs.Sections.{Still, still_both, StillSections, StillReading, closed_still, extended_still, end_still, are_still}
+use Rattle.jumpless_sources.proofs.Sections.{Still, still_both, StillSections, StillReading, closed_still, extended_still, end_still, are_still, front_still, still_if}
 
 some_none : (n : ℕ) → ◌≡◌ {A = Option ℕ} (Some n) None → ⊥
 some_none n e = cc
@@ -166,8 +166,29 @@ module _ (ctx : Context) where
         (still_both (item_items ctx x w) (list_items ctx xs (behind_item ctx x w)) p.0 q.0, q.1)
 
     still_switch : (b : Body) (w : Walk) (rest : Option ℕ) → switch_jump b rest ≡ None → StillSections (switch_sections ctx b w) × (rest ≡ None)
-    still_switch (Braces first after xs) w rest e = still_from None xs (notes_at ctx (AtEnd first)) (enter w) rest tt (still_notes (AtEnd first)) e
-    still_switch (Lone first after x) w rest e = still_at x (notes_at ctx (AtEnd first)) (enter w) rest (still_notes (AtEnd first)) e
+    still_switch (Braces first after xs) w rest e =
+        let later = still_from None xs (notes_at ctx (AtEnd first)) (enter w) rest tt (still_notes (AtEnd first)) e in
+        let ys = outside_items ctx xs (enter w) in
+        (each_append _ (front ys) (sections_from ctx None xs (notes_at ctx (AtEnd first)) (enter w)) (front_still ys (still_outside xs (enter w) rest e)) later.0, later.1)
+    still_switch (Lone first after x) w rest e =
+        let later = still_at x (notes_at ctx (AtEnd first)) (enter w) rest (still_notes (AtEnd first)) e in
+        let ys = outside_item ctx x (enter w) in
+        (each_append _ (front ys) (sections_at ctx None x (notes_at ctx (AtEnd first)) (enter w)) (front_still ys (still_front x (enter w) rest e).0) later.0, later.1)
+
+    -- in front of the first section
+    still_outside : (xs : Items) (w : Walk) (rest : Option ℕ) → sections_jump xs rest ≡ None → Still (outside_items ctx xs w)
+    still_outside NoItem w rest e = still_none
+    still_outside (Then x xs) w rest e =
+        let p = still_front x w (sections_jump xs rest) e in
+        still_if (begins x) (outside_item ctx x w ++ outside_items ctx xs (behind_item ctx x w)) (still_both (outside_item ctx x w) (outside_items ctx xs (behind_item ctx x w)) p.0 (still_outside xs (behind_item ctx x w) rest p.1))
+
+    still_front : (x : Item) (w : Walk) (rest : Option ℕ) → section_jump x rest ≡ None → Still (outside_item ctx x w) × (rest ≡ None)
+    still_front (Declares first after d) w rest e = (still_declares first d w, e)
+    still_front (States ls p) w rest e = let q = still_plain p w rest e in (by (has_case ls) refl q.0, q.1)
+      where
+        by : (b : Bool) → has_case ls ≡ b → Still (plain_items ctx p w) → Still (cond (b || is_null ls p) [] (labels_items ctx (env_at ctx w) ls ++ plain_items ctx p w))
+        by true c h = still_none
+        by false c h = still_if (is_null ls p) (labels_items ctx (env_at ctx w) ls ++ plain_items ctx p w) (still_both (labels_items ctx (env_at ctx w) ls) (plain_items ctx p w) (still_names w ls c) h)
 
     still_from : (o : Option Reading) (xs : Items) (notes : List item.Item) (w : Walk) (rest : Option ℕ) → StillReading o → Still notes → sections_jump xs rest ≡ None
         → StillSections (sections_from ctx o xs notes w) × (rest ≡ None)

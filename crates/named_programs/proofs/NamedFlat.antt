@@ -35,6 +35,7 @@ use Rattle.c_resolved.specs.Resolved.{IsResolvedFunction}
 use Rattle.c_resolved.specs.Switches.{HasCases}
 use Rattle.c_resolved.specs.Spelling.{BodyIsSpelled, FunctionIsSpelled}
 use Rattle.resolved_core.specs.Counts.{counts_of, measured_form, flat_counts}
+use Rattle.resolved_core.proofs.Counted.{counted_plainly}
 use Rattle.resolved_core.proofs.LabelsGiven.{function_labels}
 use Rattle.whole_core.proofs.Flattened.{body_is}
 use Rattle.plain_resolved.specs.Guards.{HasNames}
@@ -173,7 +174,7 @@ module _ (p : Program) (f : Function) (resolved : IsResolvedFunction flat_counts
         let form = forms (with_known (names p)) (with_known (file_names p)) f old new there params trees in
         let l = form.labels ∙ ap (label_count f.slots (length f.labels)) (sym (body_is f form.old form.old_body) ∙ same) in
         let m = same_labels f.slots (length f.labels) (trees_of old) in
-        let limits = with_jumps (has_jumps (trees_of old)) (counts_of (measured_form (trees_of old))) (IsWithinLimits f) jumps (subst (λ a. IfSome (flat_counts a) (IsWithinLimits f)) same resolved.untangled) in
+        let limits = with_jumps (has_jumps (trees_of old)) (counts_of (measured_form (trees_of old))) (IsWithinLimits f) jumps (subst (λ a. IfSome (cond (has_jumps a) (Some (counts_of (measured_form a))) None) (IsWithinLimits f)) same (subst (λ o. IfSome o (IsWithinLimits f)) (counted_plainly flat_counts p.tops f resolved) resolved.untangled)) in
         let c = limits.counted in
         omega (arith, l, m, c)
 

@@ -1,5 +1,5 @@
 -- The plain form of a function with jumps of a resolved program has few counted tokens, since the function isn't too tangled.
-use Rattle.std.proofs.Common.{◌≡◌, ℕ, zero, suc, ◌+◌, ◌*◌, ◌≤◌, ◌<◌, Bool, true, false, cond, List, length, Some, None, sym, ap, ◌∙◌, arith}
+use Rattle.std.proofs.Common.{◌≡◌, ℕ, zero, suc, ◌+◌, ◌*◌, ◌≤◌, ◌<◌, Bool, true, false, cond, List, length, Some, None, sym, ap, ◌∙◌, arith, subst}
 use Rattle.std.specs.Prelude.{IfSome}
 use Rattle.c_tree.specs.declared.tree.Slot.{Slot}
 use Rattle.c_tree.specs.declared.tree.Function.{Function}
@@ -20,6 +20,7 @@ use Rattle.c_resolved.specs.Limits.{most_counted, IsWithinLimits}
 use Rattle.c_resolved.specs.PrintableStatements.{most}
 use Rattle.c_resolved.specs.Resolved.{IsResolvedFunction}
 use Rattle.resolved_core.specs.Counts.{counts_of, measured_form, flat_counts}
+use Rattle.resolved_core.proofs.Counted.{counted_plainly}
 use Rattle.resolved_core.proofs.GoodSource.{good_source}
 use Rattle.resolved_core.proofs.Measures.{same_labels}
 use Rattle.resolved_core.proofs.Ranged.{function_ranged}
@@ -48,7 +49,7 @@ module _ (ts : List Top) (f h : Function) (g : IsResolvedFunction flat_counts ts
   m = d.form
 
   pub limits : IsWithinLimits f (counts_of (measured_form (body_of f)))
-  limits = with_jumps (has_jumps (body_of f)) (counts_of (measured_form (body_of f))) (IsWithinLimits f) m.jumps g.untangled
+  limits = with_jumps (has_jumps (body_of f)) (counts_of (measured_form (body_of f))) (IsWithinLimits f) m.jumps (subst (λ o. IfSome o (IsWithinLimits f)) (counted_plainly flat_counts ts f g) g.untangled)
 
   labels_are : length m.flat_form.labels ≡ label_count f.slots (length f.labels) (body_of f)
   labels_are = m.is_flat.labels ∙ ap (label_count f.slots (length f.labels)) (sym (body_is f m.is_flat.old m.is_flat.old_body))

@@ -1,5 +1,5 @@
 -- Each function of the plain form of a resolved program, and each top besides, is resolved by itself.
-use Rattle.std.proofs.Common.{◌≡◌, ℕ, Bool, true, false, cond, List, [], ◌∷◌, Option, Some, None, refl, sym, ap, subst}
+use Rattle.std.proofs.Common.{◌≡◌, ℕ, Bool, true, false, cond, List, [], ◌∷◌, Option, Some, None, refl, sym, ap, subst, ◌∙◌}
 use Rattle.std.specs.Prelude.{ℤ, IfSome}
 use Rattle.std.specs.Option.{option_map_or}
 use Rattle.c_types.specs.declared.kinds.IntKind.{IntKind}
@@ -26,7 +26,8 @@ use Rattle.c_resolved.specs.Kinds.{ItemAgrees, KeepsConsts, ReturnFits}
 use Rattle.c_resolved.specs.Files.{IsConstantOf, HasNextValue, HaveValues, IsGlobal}
 use Rattle.c_resolved.specs.Limits.{FlatCounts}
 use Rattle.c_resolved.specs.Resolved.{IsResolvedFunction, IsResolvedTop, IsResolvedWith, names_in}
-use Rattle.resolved_core.specs.Counts.{flat_counts}
+use Rattle.resolved_core.specs.Counts.{flat_counts, without_strays}
+use Rattle.resolved_core.proofs.Counted.{jumps_stay}
 use Rattle.plain_resolved.proofs.FactsMoved.{plain_trees, left_trees}
 use Rattle.plain_resolved.proofs.ItemKinds.{HasKinds, Agrees, from_kinds}
 use Rattle.plain_resolved.proofs.NamesKept.{KeepsSlots, KeepsNames, names_kept, keeps_self, kinds_over}
@@ -85,7 +86,7 @@ module _ (counts : FlatCounts) (p : Program) (r : IsResolvedWith counts p) (us :
           consts = keep_consts (New h) f.result (body_of h) kinds plain;
           lengths = moved_lengths f h m params g.lengths;
           initialised = moved_initialised f h m params range;
-          untangled = counted_none (has_jumps (body_of h)) _ _ (no_jumps (body_of h) plain);
+          untangled = counted_none (has_jumps (without_strays (body_of h))) _ _ (jumps_stay (body_of h) ∙ no_jumps (body_of h) plain);
         }
 
     unmoved_function : (m : IsUnmovedForm f h) → IsResolvedFunction flat_counts us h
@@ -103,7 +104,7 @@ module _ (counts : FlatCounts) (p : Program) (r : IsResolvedWith counts p) (us :
           consts = keep_consts (New h) f.result (body_of h) kinds plain;
           lengths = unmoved_lengths f h m g.lengths;
           initialised = unmoved_initialised f h m g.initialised;
-          untangled = counted_none (has_jumps (body_of h)) _ _ (no_jumps (body_of h) plain);
+          untangled = counted_none (has_jumps (without_strays (body_of h))) _ _ (jumps_stay (body_of h) ∙ no_jumps (body_of h) plain);
         }
 
   declared_function : (f : Function) → f.body ≡ None → IsResolvedFunction counts p.tops f → IsResolvedFunction flat_counts us f
@@ -118,7 +119,7 @@ module _ (counts : FlatCounts) (p : Program) (r : IsResolvedWith counts p) (us :
         consts = subst (Everywhere (KeepsConsts (New f))) (sym nothing) tt;
         lengths = g.lengths;
         initialised = g.initialised;
-        untangled = counted_none (has_jumps (body_of f)) _ _ (no_jumps (body_of f) plain);
+        untangled = counted_none (has_jumps (without_strays (body_of f))) _ _ (jumps_stay (body_of f) ∙ no_jumps (body_of f) plain);
       }
 
   -- ---- constants and variables of the file

@@ -1,5 +1,5 @@
 -- The cases of a resolved switch are constants where its text is read, and none of them stands twice.
-use Rattle.std.proofs.Common.{◌≡◌, ◌+◌, ◌≤◌, ◌&&◌, ◌||◌, ℕ, suc, ℤ, pos, Bool, true, false, cond, List, [], ◌∷◌, ◌++◌, map, Option, Some, None, is_some, refl, ap, subst, ◌∙◌, arith, append_assoc}
+use Rattle.std.proofs.Common.{◌≡◌, ◌+◌, ◌≤◌, ◌&&◌, ◌||◌, ℕ, suc, ℤ, pos, Bool, true, false, not, List, [], ◌∷◌, ◌++◌, map, Option, Some, None, is_some, refl, ap, subst, ◌∙◌, arith, append_assoc}
 use Rattle.std.specs.Prelude.{option_map, IsSome, ◌≢◌, unwrap_or}
 use Rattle.std.specs.declared.cmp.Ordering.{Ordering}
 use Rattle.std.specs.declared.cmp.Ordering.TheVariants.{Less, Equal, Greater}
@@ -12,8 +12,9 @@ use Rattle.c_tree.specs.ExpressionTrees as t
 use Rattle.c_tree.specs.Constants.{HasKind, IsConstant, IsConstantNode, constant_value}
 use Rattle.c_tree.specs.Cases.{case_number}
 use Rattle.c_grammar.specs.ExpressionSyntax.{conditional_end}
-use Rattle.c_kinds.specs.Scopes.{Env, Faults, fault, fault_if}
-use Rattle.c_kinds.specs.Typing.{form_typed}
+use Rattle.c_source.specs.Terms.{At}
+use Rattle.c_kinds.specs.Scopes.{Env, Faults, fault_if}
+use Rattle.c_kinds.specs.Typing.{form_typed, constant_faults}
 use Rattle.c_kinds.specs.Constants.{is_constant, is_constant_node, constant_of}
 use Rattle.c_statements.specs.declared.entries.Entry.{Entry}
 use Rattle.c_statements.specs.declared.entries.Entry.TheVariants.{Value, Other}
@@ -25,7 +26,7 @@ use Rattle.c_resolved.specs.Switches.{IsConstantValue, AreLabels, section_labels
 use Rattle.printed_syntax.specs.StatementDerivations.{conditional_of}
 use Rattle.reread_core.specs.WrittenExpressions.{conditional_form}
 use Rattle.reread_core.proofs.Mirrors.{expression_in}
-use Rattle.reread_core.proofs.Readings.{Reads}
+use Rattle.reread_core.proofs.Readings.{Reads, used_clear}
 use Rattle.reread_core.proofs.DeclarationsRead.{constant_is}
 use Rattle.reread_core.proofs.SectionSources.{section_list, case_constants}
 
@@ -70,6 +71,10 @@ worth_is x h = by_value (constant_value x) h
 pub constant_here : (env : Env) (form : _) (x : ExpressionTree) → Reads env form x → IsConstantValue x → constant_of (form_typed env form) ≡ Some (expression_in x, worth x)
 constant_here env form x r h = ap constant_of (r.typed) ∙ constant_is x (worth x) (h.kind) (constant_same x (h.constant)) (worth_is x (h.untrapped))
 
+-- and it breaks no rule
+pub constant_clear : (env : Env) (first : ℕ) (form : _) (x : ExpressionTree) → Reads env form x → IsConstantValue x → (vs : Faults) → constant_faults env (At first form) vs ≡ vs
+constant_clear env first form x r h vs = λ i. fault_if (not (is_some (constant_here env form x r h i))) first 34 (used_clear env form x r (h.kind) first vs i)
+
 -- ---- the cases of a section
 
 module _ (env : Env) where
@@ -92,7 +97,7 @@ module _ (env : Env) where
       let y = conditional_end (at + 1) (conditional_of x) + 1 in
       let form = conditional_form (at + 1) (conditional_of x) in
       ap (λ l. labels_faults env true (section_list y xs default []) l)
-      ((λ i. cond (is_some (constant_here env form x (h.0) (h.1) i)) ((h.0).clear vs i) (fault (at + 1) 34 ((h.0).clear vs i))))
+      (constant_clear env (at + 1) form x (h.0) (h.1) vs)
       ∙ cases_clear xs y default (h.2) vs
 
   -- their entries

@@ -18,7 +18,8 @@ use Rattle.c_grammar.specs.StatementSyntax.{word_end, rest_end, size_end, value_
 use Rattle.c_source.specs.Terms.{At}
 use Rattle.c_source.specs.Items as s
 use Rattle.c_kinds.specs.declared.binding.Binding.TheVariants as binding
-use Rattle.c_kinds.specs.Scopes.{Env, Faults, fault, fault_if, is_bound}
+use Rattle.c_kinds.specs.Scopes.{Env, Faults, fault_if, is_bound}
+use Rattle.c_kinds.specs.Values.{use_fault}
 use Rattle.c_kinds.specs.Scopes as scopes
 use Rattle.c_source.specs.Words.{kind_of as kind_of_words}
 use Rattle.c_kinds.specs.Typing.{constant}
@@ -168,7 +169,7 @@ module _ (n : Names) (env : Env) (tokens : List Spelling) (words : AreWords env.
       let o : constant_of (constant (env.word (at + 1))) ≡ Some (expression_in x, pos c) = ap constant_of y ∙ constant_is x (pos c) tt refl refl in
       record {
         length_is = ap (λ z. lengths.Constant (option_map (λ v. v.1) z)) o;
-        clear = λ vs. ap (λ z. cond (is_some z) vs (fault (at + 1) 34 vs)) o;
+        clear = λ vs i. fault_if (not (is_some (o i))) (at + 1) 34 (use_fault (at + 1) (y i) vs);
         behind = (mark_here n.slots tokens env.word words (at + 1 + 1) (codes "]") ps (u.behind)).1;
       }
 

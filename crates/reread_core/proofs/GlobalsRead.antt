@@ -1,5 +1,5 @@
 -- The printed text of a variable of the file reads back as the variable (ISO/IEC 9899:2011, 6.9.2).
-use Rattle.std.proofs.Common.{◌≡◌, ◌+◌, ℕ, false, cond, List, [], ◌∷◌, map, Option, Some, None, is_some, refl, ap, sym, subst, ◌∙◌, bytes_eq}
+use Rattle.std.proofs.Common.{◌≡◌, ◌+◌, ℕ, false, List, [], ◌∷◌, map, Option, Some, None, is_some, refl, ap, sym, subst, ◌∙◌, bytes_eq}
 use Rattle.std.specs.Prelude.{codes, option_map, IfSome}
 use Rattle.c_types.specs.Words.{is_known}
 use Rattle.c_tree.specs.declared.tree.Slot.{Slot}
@@ -20,7 +20,7 @@ use Rattle.c_grammar.specs.ExpressionSyntax.{assignment_end, type_end}
 use Rattle.c_grammar.specs.StatementSyntax.{word_end, rest_end, size_end, value_end, declarator_end}
 use Rattle.c_source.specs.Terms.{At, Form}
 use Rattle.c_kinds.specs.declared.binding.Binding.TheVariants as binding
-use Rattle.c_kinds.specs.Scopes.{Env, Faults, fault, fault_if, is_bound}
+use Rattle.c_kinds.specs.Scopes.{Env, Faults, fault_if, is_bound}
 use Rattle.c_kinds.specs.Scopes as kinds
 use Rattle.c_kinds.specs.Constants.{constant_of}
 use Rattle.c_kinds.specs.Typing.{constant_faults, form_typed}
@@ -48,7 +48,7 @@ use Rattle.reread_core.proofs.Readings.{Reads}
 use Rattle.reread_core.proofs.FullExpressions.{assigned_full}
 use Rattle.reread_core.proofs.SameScopes.{scopes_agree, bind_same, new_unbound}
 use Rattle.reread_core.proofs.DeclarationsRead.{array_is, extent_is, length_read, well_shaped, kinds_of, words_read}
-use Rattle.reread_core.proofs.CaseConstants.{worth, constant_here}
+use Rattle.reread_core.proofs.CaseConstants.{worth, constant_here, constant_clear as constant_is_clear}
 use Rattle.reread_core.proofs.GoodGiven.{constant_operand}
 use Rattle.std.proofs.lemmas.Bool.{false≢true}
 use Rattle.c_tree.specs.TextItems.{kind_words}
@@ -101,7 +101,7 @@ module _ (ts : List Top) (ss : List Scope) (env : Env) (tokens : List Spelling) 
   constant_worth first form x r h = ap (option_map (λ c. c.1)) (constant_here env form x r (h.0))
 
   pub constant_clear : (first : ℕ) (form : Form) (x : ExpressionTree) → Reads env form x → IsConstantOf ts x → (vs : Faults) → constant_faults env (At first form) vs ≡ vs
-  constant_clear first form x r h vs = (λ i. cond (is_some (constant_here env form x r (h.0) i)) (r.clear vs i) (fault first 34 (r.clear vs i)))
+  constant_clear first form x r h vs = constant_is_clear env first form x r (h.0) vs
 
 module _ (ts : List Top) (ss : List Scope) (env : Env) (tokens : List Spelling) (here : IsPlace (record { tops = ts; slots = [] }) ss env tokens) where
   abbrev file : Names

@@ -1,5 +1,5 @@
 -- What the sections of a switch write, and what reading makes of labels in front of a list.
-use Rattle.std.proofs.Common.{◌≡◌, ◌+◌, ◌<◌, ◌⊎◌, inl, inr, ℕ, Bool, true, false, not, List, [], ◌∷◌, ◌++◌, map, length, Option, Some, refl, ap, sym, subst, ◌∙◌, arith}
+use Rattle.std.proofs.Common.{◌≡◌, ◌+◌, ◌<◌, ◌⊎◌, inl, inr, ℕ, Bool, true, false, not, List, [], ◌∷◌, ◌++◌, map, length, Option, Some, refl, ap, sym, subst, ◌∙◌, arith, cond}
 use Rattle.std.specs.Prelude.{IsTrue}
 use Rattle.c_tree.specs.declared.tree.Expression.{Expression}
 use Rattle.c_tree.specs.declared.tree.Item.{Item}
@@ -22,7 +22,7 @@ use Rattle.c_statements.specs.Context.{Context, Walk, Around, env_at, notes_at}
 use Rattle.c_statements.specs.Declarations.{constant_at}
 use Rattle.c_statements.specs.Labels.{has_case, label_items, labels_items, section_marks, section_cases, has_default, labels_faults}
 use Rattle.c_statements.specs.Sections.{Reading, extended, closed}
-use Rattle.c_statements.specs.Statements.{behind_item, behind_plain, behind_items, plain_items, sections_from, begun}
+use Rattle.c_statements.specs.Statements.{behind_item, behind_plain, behind_items, plain_items, sections_from, begun, outside_item, outside_items}
 use Rattle.c_statements.specs.Cases.{label_entries, plain_entries, list_entries}
 use Rattle.c_statements.specs.Violations.{list_faults, plain_faults, is_null, outside_faults}
 use Rattle.printed_syntax.specs.StatementDerivations.{conditional_of, labels_of, behind_labels as put_labels, labelled}
@@ -228,6 +228,14 @@ module _ (ctx : Context) where
       ])
   outside_begin around cases at default s.NoItem w h n vs = absurd n
   outside_begin around cases at default (s.Then (s.Declares first after d) xs) w h n vs = absurd n
+
+  -- nothing stands in front of it
+  pub front_begin : (cases : List ExpressionTree) (at : ℕ) (default : Bool) (xs : s.Items) (w : Walk) → (0 < length cases) ⊎ IsTrue default → BeginsNamed xs → outside_items ctx (with_labels (section_list at cases default) xs) w ≡ []
+  front_begin cases at default (s.Then (s.States ls p) xs) w h n =
+      let put = section_list at cases default ls in
+      λ i. cond (list_has_case ctx (env_at ctx w) cases at default ls h i) [] (outside_item ctx (s.States put p) w ++ outside_items ctx xs (behind_item ctx (s.States put p) w))
+  front_begin cases at default s.NoItem w h n = absurd n
+  front_begin cases at default (s.Then (s.Declares first after d) xs) w h n = absurd n
 
   pub entries_begin : (cases : List ExpressionTree) (at : ℕ) (default : Bool) (xs : s.Items) (w : Walk) (found : List Entry) → BeginsNamed xs
       → list_entries ctx (with_labels (section_list at cases default) xs) w found ≡ list_entries ctx xs w (label_entries (env_at ctx w) (section_list at cases default []) found)

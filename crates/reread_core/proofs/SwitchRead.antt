@@ -20,8 +20,8 @@ use Rattle.c_kinds.specs.Scopes.{Faults}
 use Rattle.c_statements.specs.declared.entries.Entry.{Entry}
 use Rattle.c_statements.specs.declared.anchors.Anchor.TheVariants.{Before}
 use Rattle.c_statements.specs.Context.{Context, Walk, Around, env_at, notes_at}
-use Rattle.c_statements.specs.Sections.{Reading, closed, ended}
-use Rattle.c_statements.specs.Statements.{behind_items, list_items, sections_from}
+use Rattle.c_statements.specs.Sections.{Reading, closed, ended, front as in_front}
+use Rattle.c_statements.specs.Statements.{behind_items, list_items, sections_from, outside_items}
 use Rattle.c_statements.specs.Violations.{list_faults}
 use Rattle.c_statements.specs.Cases.{list_entries}
 use Rattle.c_resolved.specs.Resolved.{names_in}
@@ -42,7 +42,7 @@ use Rattle.reread_core.proofs.ItemMirrors.{a_section, forest_in, sections_in, pr
 use Rattle.reread_core.proofs.ExpressionWords.{as_end}
 use Rattle.reread_core.proofs.ListsRead.{ReadsList, settled, passed, front, all_settled, written_front, end_front, behind_front}
 use Rattle.reread_core.proofs.LeavesRead.{keyword_here, a_mark}
-use Rattle.reread_core.proofs.SectionSources.{BeginsNamed}
+use Rattle.reread_core.proofs.SectionSources.{BeginsNamed, front_begin}
 use Rattle.c_kinds.specs.Scopes.{fault_if}
 use Rattle.c_statements.specs.Violations.{outside_faults}
 use Rattle.c_resolved.specs.Switches.{switch_labels, section_labels, arrivals}
@@ -142,6 +142,7 @@ module _ (ts : List Top) (f : Function) (ctx : Context) (tokens : List Spelling)
     pub behind_it : Stands tokens (items_end at (sections_of f.slots cs)) ps
     pub keywords : ItemsHaveKeywords ctx.word at (sections_of f.slots cs)
     pub sections : (reading : Option Reading) → sections_from ctx reading (written_items at (sections_of f.slots cs)) [] w ≡ closed reading ++ sections_in cs
+    pub front_is : outside_items ctx (written_items at (sections_of f.slots cs)) w ≡ []
     pub after : List Scope
     pub standing : Standing (names_in ts f) after (k + slots_within cs) (behind_items ctx (written_items at (sections_of f.slots cs)) w)
     pub clear : (vs : Faults) → list_faults ctx around (written_items at (sections_of f.slots cs)) w vs ≡ vs
@@ -160,6 +161,7 @@ module _ (ts : List Top) (f : Function) (ctx : Context) (tokens : List Spelling)
     behind_it = b;
     keywords = tt;
     sections = by_reading;
+    front_is = refl;
     after = ss;
     standing = still (names_in ts f) ss k w h;
     clear = λ vs. refl;
@@ -309,6 +311,7 @@ module _ (ts : List Top) (f : Function) (ctx : Context) (tokens : List Spelling)
             ∙ sections_front ts f ctx tokens words a y1 (reading_of es default []) tail [] w ∙ (λ i. sections_from ctx (Some (reading_of es default (list_is i))) tail [] w1)
             ∙ end_step ends a last z es default rest w1 (p.3) ∙ u6.sections (Some (reading_of es default (with_end ends (forest_in a))))
             ∙ (λ i. section_ended ends cases default a (g.1) (g.3) i ∷ sections_in c));
+        front_is = ap (λ l. outside_items ctx l w) wl ∙ front_begin ctx cases at default (written_items y x0) w (g.1) bn;
         after = u6.after;
         standing = subst (λ v. Standing (names_in ts f) (u6.after) (k + (slots_in a + slots_within c)) v) (sym walked) (subst (λ j. Standing (names_in ts f) (u6.after) j (behind_items ctx rest w1)) count (u6.standing));
         clear = cleared;
@@ -381,7 +384,7 @@ module _ (ts : List Top) (f : Function) (ctx : Context) (tokens : List Spelling)
         behind_it = a_mark ts f ctx tokens words z (codes "}") (newline ps) (past_indentation tokens z ((punctuator (codes "}") ⨾ newline) ps) depth (u.behind_it));
         keywords = (m.0, u.keywords);
         items = λ i. notes_at ctx (Before at) ++ item.Switch (selector.Source (o.value_is i))
-            ((ap (λ l. passed_on [] false (sections_from ctx None src (map item.Note l) (enter w))) (p.1) ∙ ap (passed_on [] false) (u.sections None) ∙ all_passed_on c (all_kept c (inside ss) k (in_switch around) (g.2))) i) ∷ [];
+            (((λ i. passed_on [] false (in_front (u.front_is i) ++ sections_from ctx None src (map item.Note (p.1 i)) (enter w))) ∙ ap (passed_on [] false) (u.sections None) ∙ all_passed_on c (all_kept c (inside ss) k (in_switch around) (g.2))) i) ∷ [];
         standing = left (names_in ts f) ss (u.after) k (k + slots_within c) w (behind_items ctx src (enter w)) h (u.standing);
         labels = u.labels;
         clear = λ vs.

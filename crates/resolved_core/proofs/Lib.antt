@@ -9,5 +9,6 @@ pub mod OneScope
 pub mod Scoped
 pub mod GoodSource
 pub mod Measures
+pub mod Counted
 mod Tried
 pub mod TheLaws

@@ -9,8 +9,8 @@ use Rattle.c_tree.specs.ExpressionTrees.{expression_tree}
 use Rattle.c_source.specs.Terms.{Term, first_of}
 use Rattle.c_source.specs.Items.{Size, NoSize, Unsized, Sized, Initialiser, NoValue, OneValue, ValueList, Declarator}
 use Rattle.c_kinds.specs.Constants.{constant_of}
-use Rattle.c_kinds.specs.Scopes.{Env, fault}
-use Rattle.c_kinds.specs.Typing.{typed, faults, constant_faults}
+use Rattle.c_kinds.specs.Scopes.{Env, fault_if}
+use Rattle.c_kinds.specs.Typing.{typed, faults, used, constant_faults}
 use Rattle.c_statements.specs.declared.extents.Extent.TheVariants.{One, Many}
 use Rattle.c_statements.specs.declared.extents.Length.{Length}
 use Rattle.c_statements.specs.declared.extents.Length.TheVariants.{NoLength, OfList, Constant}
@@ -23,7 +23,7 @@ use Rattle.resolving_core.specs.Read.{IsReadInitialiser}
 pub constant_there : (env : Env) (t : Term) → constant_faults env t [] ≡ [] → is_some (constant_of (typed env t)) ≡ true
 constant_there env t e = by (is_some (constant_of (typed env t))) e
   where
-    by : (b : Bool) → cond b (faults env t []) (fault (first_of t) 34 (faults env t [])) ≡ [] → b ≡ true
+    by : (b : Bool) → fault_if (not b) (first_of t) 34 (used env t (faults env t [])) ≡ [] → b ≡ true
     by true e = refl
     by false e = absurd (none_left _ _ e)
 

@@ -48,6 +48,7 @@ use Rattle.resolving_core.proofs.Parts.{local_parts}
 use Rattle.resolving_core.proofs.Walk.{Begins, Any, begins_before}
 use Rattle.resolving_core.proofs.Walked.{body_scopes, plain_scopes}
 use Rattle.resolving_core.proofs.BoundTerms.{nearest_new, nearest_bound, At, at_inside, at_scopes, Binds, binds_none, binds_both, binds_one, value_bound, dropped_bound, constant_bound, values_bound, drops_bound, returned_bound}
+use Rattle.resolving_core.proofs.Fronts.{no_front}
 
 module _ (ctx : Context) (n : Names) where
   -- ---- comments and labels
@@ -331,8 +332,11 @@ module _ (ctx : Context) (n : Names) where
 
     sections_bound : (around : Around) (b : Body) (w : Walk) (ss : List Scopes.Scope) → At ctx n w ss → IsReadBody ctx.word b → switch_body_faults ctx around b w [] ≡ [] → Ends (behind_body ctx b w) → SectionsBound (inside ss) (switch_sections ctx b w)
     sections_bound around (Braces first after xs) w ss a r e z =
-        outside_bound around xs (notes_at ctx (AtEnd first)) (enter w) (inside ss) (λ q. place_binds q (AtEnd first)) (at_inside ctx n w ss a) r e z
-    sections_bound around (Lone first after x) w ss a r e z = lone_bound around x (notes_at ctx (AtEnd first)) (enter w) (inside ss) (λ q. place_binds q (AtEnd first)) (at_inside ctx n w ss a) r e z
+        subst (SectionsBound (inside ss)) (sym (no_front ctx around (Braces first after xs) w e))
+        (outside_bound around xs (notes_at ctx (AtEnd first)) (enter w) (inside ss) (λ q. place_binds q (AtEnd first)) (at_inside ctx n w ss a) r e z)
+    sections_bound around (Lone first after x) w ss a r e z =
+        subst (SectionsBound (inside ss)) (sym (no_front ctx around (Lone first after x) w e))
+        (lone_bound around x (notes_at ctx (AtEnd first)) (enter w) (inside ss) (λ q. place_binds q (AtEnd first)) (at_inside ctx n w ss a) r e z)
 
     outside_bound : (around : Around) (xs : Items) (notes : List item.Item) (w : Walk) (s : List Scopes.Scope) → ((q : List Scopes.Scope) → Binds ctx n q q notes) → At ctx n w s → AreReadItems ctx.word xs
         → outside_faults ctx around xs w [] ≡ [] → Ends (behind_items ctx xs w) → SectionsBound s (sections_from ctx None xs notes w)

@@ -37,6 +37,7 @@ use Rattle.c_resolved.specs.Switches.{AreLabels}
 use Rattle.c_resolved.specs.Within.{AllDiffer}
 use Rattle.resolving_core.proofs.Entries.{cases-append, defaults-append, arrivals-join, Adds, adds_none, adds_both, adds_as, C, D, AddsItems, none_of, both_of, one_of, still, front, back, more_of, notes_of, behind_notes, marks_of, locals_of, labels_of, section_of_labels}
 use Rattle.resolving_core.proofs.Numbered.{flag, compared, CS, DS, cs_cons, ds_cons, Passes, passed_labels, finished}
+use Rattle.resolving_core.proofs.Fronts.{no_front}
 
 module _ (ctx : Context) where
   -- ---- readings
@@ -310,13 +311,17 @@ module _ (ctx : Context) where
       by false Here o f g = g o.0 o.1
 
   switch_from : (around : Around) (b : Body) (w : Walk) → switch_body_faults ctx around b w [] ≡ [] → Ahead [] (body_entries ctx b w []) None (switch_sections ctx b w) (body_cases b)
-  switch_from around (Braces first after xs) w e = outside_from around xs (notes_at ctx (AtEnd first)) (enter w) [] (λ es. notes_of ctx es (AtEnd first)) e
+  switch_from around (Braces first after xs) w e =
+      let b = Braces first after xs in
+      subst (λ cs. Ahead [] (body_entries ctx b w []) None cs (body_cases b)) (sym (no_front ctx around b w e)) (outside_from around xs (notes_at ctx (AtEnd first)) (enter w) [] (λ es. notes_of ctx es (AtEnd first)) e)
   switch_from around (Lone first after x) w e =
       let v = enter w in
       let notes = notes_at ctx (AtEnd first) in
-      from_more [] (item_entries ctx x v []) None (switch_sections ctx (Lone first after x) w) (item_cases x + 0) (item_cases x) (omega arith)
+      let b = Lone first after x in
+      subst (λ cs. Ahead [] (body_entries ctx b w []) None cs (body_cases b)) (sym (no_front ctx around b w e))
+      (from_more [] (item_entries ctx x v []) None (sections_at ctx None x notes v) (item_cases x + 0) (item_cases x) (omega arith)
       (subst (λ cs. Ahead [] (item_entries ctx x v []) None cs (item_cases x + 0)) (sym (sections_alone ctx v x notes))
-      (outside_from around (items.Then x NoItem) notes v [] (λ es. notes_of ctx es (AtEnd first)) (outside_alone ctx around v x e)))
+      (outside_from around (items.Then x NoItem) notes v [] (λ es. notes_of ctx es (AtEnd first)) (outside_alone ctx around v x e))))
 
   -- ---- the labels of a switch
 

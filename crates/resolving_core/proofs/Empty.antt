@@ -180,11 +180,7 @@ module _ (env : Env) where
     givens_empty (terms.Then x xs) vs e = faults_empty x vs (givens_empty xs (faults env x vs) e)
 
   pub constant_empty : (t : Term) (vs : Faults) → constant_faults env t vs ≡ [] → vs ≡ []
-  constant_empty t vs e = faults_empty t vs (by (is_some (constant_of (typed env t))) e)
-    where
-      by : (b : Bool) → cond b (faults env t vs) (fault (first_of t) 34 (faults env t vs)) ≡ [] → faults env t vs ≡ []
-      by true e = e
-      by false e = absurd (none_left _ _ e)
+  constant_empty t vs e = faults_empty t vs (used_empty t (faults env t vs) (if_empty (not (is_some (constant_of (typed env t)))) (first_of t) 34 (used env t (faults env t vs)) e))
 
   pub value_empty : (t : Term) (vs : Faults) → value_faults env t vs ≡ [] → vs ≡ []
   value_empty t vs e = faults_empty t vs (used_empty t (faults env t vs) e)

@@ -25,6 +25,7 @@ use Rattle.resolving_core.proofs.SectionTrees.{later_break, section_of, ended_tr
 use Rattle.resolving_core.proofs.Lists.{none_left}
 use Rattle.resolving_core.proofs.Parts.{states_parts, list_parts, if_parts, if_else_parts, while_parts, do_parts, for_parts, switch_parts, Outside, outside_declares, outside_parts, outside_one}
 use Rattle.resolving_core.proofs.Readings.{longer, beginning}
+use Rattle.resolving_core.proofs.Fronts.{no_front}
 
 -- a number that no comment, `break` or nested case label has
 pub record Gathers (f : Tree → List ℕ) : Type 0 where
@@ -272,8 +273,8 @@ module _ (ctx : Context) (f : Tree → List ℕ) (c : Gathers f) where
         numbers_two (item_items ctx x w) (list_items ctx xs v) (of_item x w) (of_list xs v) (item_numbers around x w p.0) (list_numbers around xs v p.1)
 
     sections_numbers : (around : Around) (b : Body) (w : Walk) → switch_body_faults ctx around b w [] ≡ [] → in_sections (switch_sections ctx b w) ≡ of_body b w
-    sections_numbers around (Braces first after xs) w e = outside_numbers around xs (notes_at ctx (AtEnd first)) (enter w) (notes_numbers (AtEnd first)) e
-    sections_numbers around (Lone first after x) w e = lone_numbers around x (notes_at ctx (AtEnd first)) (enter w) (notes_numbers (AtEnd first)) e
+    sections_numbers around (Braces first after xs) w e = ap in_sections (no_front ctx around (Braces first after xs) w e) ∙ outside_numbers around xs (notes_at ctx (AtEnd first)) (enter w) (notes_numbers (AtEnd first)) e
+    sections_numbers around (Lone first after x) w e = ap in_sections (no_front ctx around (Lone first after x) w e) ∙ lone_numbers around x (notes_at ctx (AtEnd first)) (enter w) (notes_numbers (AtEnd first)) e
 
     outside_numbers : (around : Around) (xs : Items) (notes : List item.Item) (w : Walk) → numbers notes ≡ [] → outside_faults ctx around xs w [] ≡ [] → in_sections (sections_from ctx None xs notes w) ≡ of_list xs w
     outside_numbers around NoItem notes w n e = refl

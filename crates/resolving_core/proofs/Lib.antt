@@ -8,6 +8,7 @@ pub mod Numbers
 pub mod Expressions
 pub mod Empty
 pub mod Parts
+pub mod Fronts
 pub mod Grown
 pub mod SectionTrees
 pub mod Walk

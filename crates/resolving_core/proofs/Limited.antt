@@ -14,10 +14,10 @@ use Rattle.c_statements.specs.declared.extents.Kinded.{Kinded}
 use Rattle.c_statements.specs.declared.anchors.Anchor.{Anchor}
 use Rattle.c_statements.specs.declared.anchors.Anchor.TheVariants.{Before, AtEnd, AtSection}
 use Rattle.c_statements.specs.Context.{Context, Walk, env_at, env_in, enter, notes_at, number_in}
-use Rattle.c_statements.specs.Declarations.{kinded, declared, local, locals, initial, value_at, constant_at}
+use Rattle.c_statements.specs.Declarations.{kinded, declared, local, locals, initial, value_at, constant_at, placeholder}
 use Rattle.c_statements.specs.Labels.{section_cases, has_case, mark, labels_items, section_marks}
-use Rattle.c_statements.specs.Sections.{Reading, extended, closed, passed_on}
-use Rattle.c_statements.specs.Statements.{behind_start, behind_item, behind_plain, behind_body, behind_items, declared_by, dropped_at, test_at, start_items, begun, a_switch, item_items, plain_items, statement_items, body_items, list_items, switch_sections, sections_from, sections_at}
+use Rattle.c_statements.specs.Sections.{Reading, extended, closed, passed_on, front}
+use Rattle.c_statements.specs.Statements.{behind_start, behind_item, behind_plain, behind_body, behind_items, declared_by, dropped_at, test_at, start_items, begun, a_switch, item_items, plain_items, statement_items, body_items, list_items, switch_sections, sections_from, sections_at, outside_item, outside_items, begins, is_null}
 use Rattle.c_statements.specs.Statements as statements
 use Rattle.c_resolved.specs.Form.{ends_with_break}
 use Rattle.c_resolved.specs.Within.{Each}
@@ -35,7 +35,7 @@ use Rattle.c_resolved.specs.PrintableExpressions.{counted, counted_at}
 use Rattle.c_resolved.specs.PrintableStatements.{depth, depth_of, depth_in}
 use Rattle.c_resolved.specs.Limits.{most_of, most_if, most_listed, most_tested, most_counted, most_counted_of, most_counted_in}
 use Rattle.resolving_core.specs.Counts.{IsFew, IsFewInitialiser, IsFewDeclarator, IsFewLabel, IsFewStart, IsFewItem, IsFewPlain, IsFewStatement, IsFewBody, AreFewItems}
-use Rattle.resolving_core.proofs.LimitedTerms.{up_to, max_left, max_right, depth_join, most_join, depth_cut, most_cut, value_few, dropped_few, constant_few}
+use Rattle.resolving_core.proofs.LimitedTerms.{placeholder_few, up_to, max_left, max_right, depth_join, most_join, depth_cut, most_cut, value_few, dropped_few, constant_few}
 
 module _ (ctx : Context) (K : ℕ) where
   -- a list within a depth, whose expressions are short
@@ -166,6 +166,16 @@ module _ (ctx : Context) (K : ℕ) where
   short_end : (d : ℕ) (o : Option Reading) (notes : List item.Item) → ShortReading d o → Short d notes → ShortSections d (statements.sections_of o notes)
   short_end d None notes h k = tt
   short_end d (Some r) notes h k = short_closed d (extended (Some r) notes) (short_extended d (Some r) notes h k)
+
+  short_if : (d : ℕ) (b : Bool) (xs : List item.Item) → Short d xs → Short d (cond b [] xs)
+  short_if d true xs h = short_none d
+  short_if d false xs h = h
+
+  short_front : (d : ℕ) (xs : List item.Item) → Short d xs → ShortSections d (front xs)
+  short_front d [] h = tt
+  short_front d (x ∷ xs) h =
+      let nothing = item.Evaluate placeholder ∷ [] in
+      short_closed d (Some (record { cases = []; default = false; list = (x ∷ xs) ++ nothing })) (short_both d (x ∷ xs) nothing h (short_one d (item.Evaluate placeholder) _ (tree-Evaluate placeholder) (omega arith) (let q = placeholder_few 1 K (omega arith) in omega arith)), tt)
 
   few_cases : (w : Walk) (ls : List Label) → Each (IsFewLabel ctx.word K) ls → Each (λ e. counted_at 3 e ≤ K) (expression_trees (section_cases (env_at ctx w) ls))
   few_cases w [] h = tt
@@ -318,8 +328,27 @@ module _ (ctx : Context) (K : ℕ) where
         short_both d (item_items ctx x w) (list_items ctx xs v) (item_short x w d h.0 (max_left (item_depth x) (list_depth xs) d q)) (list_short xs v d h.1 (max_right (item_depth x) (list_depth xs) d q))
 
     sections_short : (b : Body) (w : Walk) → IsFewBody ctx.word K b → ShortSections (inner_depth b) (switch_sections ctx b w)
-    sections_short (Braces first after xs) w h = from_short None xs (notes_at ctx (AtEnd first)) (enter w) (list_depth xs) tt (short_notes (list_depth xs) (AtEnd first)) h (omega arith)
-    sections_short (Lone first after x) w h = at_short x (notes_at ctx (AtEnd first)) (enter w) (item_depth x) (short_notes (item_depth x) (AtEnd first)) h (omega arith)
+    sections_short (Braces first after xs) w h =
+        let k = list_depth xs in
+        let later = from_short None xs (notes_at ctx (AtEnd first)) (enter w) k tt (short_notes k (AtEnd first)) h (omega arith) in
+        each_append _ (front (outside_items ctx xs (enter w))) (sections_from ctx None xs (notes_at ctx (AtEnd first)) (enter w)) (short_front k (outside_items ctx xs (enter w)) (outside_short xs (enter w) k h (omega arith))) later
+    sections_short (Lone first after x) w h =
+        let k = item_depth x in
+        let later = at_short x (notes_at ctx (AtEnd first)) (enter w) k (short_notes k (AtEnd first)) h (omega arith) in
+        each_append _ (front (outside_item ctx x (enter w))) (sections_at ctx None x (notes_at ctx (AtEnd first)) (enter w)) (short_front k (outside_item ctx x (enter w)) (outside_one x (enter w) k h (omega arith))) later
+
+    -- in front of the first section
+    outside_short : (xs : Items) (w : Walk) (d : ℕ) → AreFewItems ctx.word K xs → list_depth xs ≤ d → Short d (outside_items ctx xs w)
+    outside_short NoItem w d h q = short_none d
+    outside_short (items.Then x xs) w d h q =
+        short_if d (begins x) (outside_item ctx x w ++ outside_items ctx xs (behind_item ctx x w))
+        (short_both d (outside_item ctx x w) (outside_items ctx xs (behind_item ctx x w)) (outside_one x w d h.0 (max_left (item_depth x) (list_depth xs) d q)) (outside_short xs (behind_item ctx x w) d h.1 (max_right (item_depth x) (list_depth xs) d q)))
+
+    outside_one : (x : Item) (w : Walk) (d : ℕ) → IsFewItem ctx.word K x → item_depth x ≤ d → Short d (outside_item ctx x w)
+    outside_one (Declares first after x) w d h q = behind_notes d (Before first) (locals ctx.word (kinded ctx.word x) x.names w) (short_locals d (kinded ctx.word x) x.names w h)
+    outside_one (States ls p) w d h q =
+        short_if d (has_case ls || is_null ls p) (labels_items ctx (env_at ctx w) ls ++ plain_items ctx p w)
+        (short_both d (labels_items ctx (env_at ctx w) ls) (plain_items ctx p w) (short_labels d w ls h.0) (plain_short p w d h.1 q))
 
     from_short : (o : Option Reading) (xs : Items) (notes : List item.Item) (w : Walk) (d : ℕ) → ShortReading d o → Short d notes → AreFewItems ctx.word K xs → list_depth xs ≤ d → ShortSections d (sections_from ctx o xs notes w)
     from_short o NoItem notes w d r k h q = short_end d o notes r k

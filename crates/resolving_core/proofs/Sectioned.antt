@@ -26,6 +26,7 @@ use Rattle.resolving_core.proofs.Lists.{each_append}
 use Rattle.resolving_core.proofs.Parts.{Outside, outside_declares, outside_parts, outside_alone}
 use Rattle.resolving_core.proofs.Readings.{longer, beginning, sections_alone}
 use Rattle.resolving_core.proofs.SectionTrees.{section_of, ended_tree, has_entry, without_end, passes, with_entries, passed_trees, passed_same, ended_same, sections_are}
+use Rattle.resolving_core.proofs.Fronts.{no_front}
 
 -- ---- lists without nested case labels
 
@@ -238,10 +239,10 @@ module _ (ctx : Context) where
       by false c o f g = g o.1
 
   switch_raw : (around : Around) (b : Body) (w : Walk) → switch_body_faults ctx around b w [] ≡ [] → RawSections (switch_sections ctx b w)
-  switch_raw around (Braces first after xs) w e = outside_raw around xs (notes_at ctx (AtEnd first)) (enter w) (free_notes (AtEnd first)) e
+  switch_raw around (Braces first after xs) w e = subst RawSections (sym (no_front ctx around (Braces first after xs) w e)) (outside_raw around xs (notes_at ctx (AtEnd first)) (enter w) (free_notes (AtEnd first)) e)
   switch_raw around (Lone first after x) w e =
       let notes = notes_at ctx (AtEnd first) in
-      subst RawSections (sym (sections_alone ctx (enter w) x notes)) (outside_raw around (items.Then x NoItem) notes (enter w) (free_notes (AtEnd first)) (outside_alone ctx around (enter w) x e))
+      subst RawSections (sym (no_front ctx around (Lone first after x) w e ∙ sections_alone ctx (enter w) x notes)) (outside_raw around (items.Then x NoItem) notes (enter w) (free_notes (AtEnd first)) (outside_alone ctx around (enter w) x e))
 
   raw_trees : (cs : List Section) → RawSections cs → Each IsRaw (map section_tree cs)
   raw_trees [] h = tt

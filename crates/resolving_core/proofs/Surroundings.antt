@@ -30,6 +30,7 @@ use Rattle.resolving_core.proofs.Empty.{constant_empty}
 use Rattle.resolving_core.proofs.Parts.{parted, labels_parts, states_parts, list_parts, if_parts, if_else_parts, while_parts, do_parts, for_parts, switch_parts, Outside, outside_declares, outside_parts, outside_one}
 use Rattle.resolving_core.proofs.Readings.{longer, beginning}
 use Rattle.resolving_core.proofs.SectionTrees.{section_of, ended_tree, has_entry, without_end, passes, with_entries, passed_trees, passed_same, ended_same, sections_are}
+use Rattle.resolving_core.proofs.Fronts.{no_front}
 
 -- a list of one item
 abbrev pub single : Tree → Forest
@@ -252,8 +253,9 @@ module _ (ctx : Context) (R : Around → Forest → Type 0) (c : Surrounded R) w
         has_both around (item_items ctx x w) (list_items ctx xs v) (has_item around x w p.0) (has_list around xs v p.1)
 
     has_sections : (around : Around) (b : Body) (w : Walk) → switch_body_faults ctx around b w [] ≡ [] → HasSections around (switch_sections ctx b w)
-    has_sections around (Braces first after xs) w e = has_outside around xs (notes_at ctx (AtEnd first)) (enter w) (has_notes around (AtEnd first)) e
-    has_sections around (Lone first after x) w e = has_lone around x (notes_at ctx (AtEnd first)) (enter w) (has_notes around (AtEnd first)) e
+    has_sections around (Braces first after xs) w e =
+        subst (HasSections around) (sym (no_front ctx around (Braces first after xs) w e)) (has_outside around xs (notes_at ctx (AtEnd first)) (enter w) (has_notes around (AtEnd first)) e)
+    has_sections around (Lone first after x) w e = subst (HasSections around) (sym (no_front ctx around (Lone first after x) w e)) (has_lone around x (notes_at ctx (AtEnd first)) (enter w) (has_notes around (AtEnd first)) e)
 
     has_outside : (around : Around) (xs : Items) (notes : List item.Item) (w : Walk) → Has around notes → outside_faults ctx around xs w [] ≡ [] → HasSections around (sections_from ctx None xs notes w)
     has_outside around NoItem notes w k e = tt

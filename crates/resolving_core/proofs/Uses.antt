@@ -1,5 +1,5 @@
 -- The expressions of statements without a violation.
-use Rattle.std.proofs.Common.{ℤ, Bool, true, false, cond, ◌&&◌, List, [], Option, Some, None, is_some, option_map, ◌≡◌, refl, sym, ap, subst, ◌∙◌, true≢false}
+use Rattle.std.proofs.Common.{ℤ, Bool, true, false, cond, ◌&&◌, List, [], Option, Some, None, is_some, not, option_map, ◌≡◌, refl, sym, ap, subst, ◌∙◌, true≢false}
 use Rattle.std.specs.Prelude.{IsSomeAnd, IsSome}
 use Rattle.c_types.specs.declared.kinds.IntKind.{IntKind}
 use Rattle.c_tree.specs.declared.tree.Expression.{Expression}
@@ -10,8 +10,8 @@ use Rattle.c_kinds.specs.declared.typed.Typed as typed
 use Rattle.c_kinds.specs.declared.typed.Typed.TheVariants as T
 use Rattle.c_kinds.specs.declared.typed.Valued.{Valued}
 use Rattle.c_kinds.specs.Constants.{is_constant, is_constant_node, with_value, constant_of}
-use Rattle.c_kinds.specs.Scopes.{Env, fault}
-use Rattle.c_kinds.specs.Typing.{typed, faults, constant_faults}
+use Rattle.c_kinds.specs.Scopes.{Env, fault_if}
+use Rattle.c_kinds.specs.Typing.{typed, faults, used, constant_faults}
 use Rattle.c_kinds.specs.Values.{expression, value_of, dropped}
 use Rattle.c_statements.specs.Declarations.{or_placeholder, value_at, constant_or_placeholder, constant_at, value_faults, placeholder}
 use Rattle.c_statements.specs.Statements.{dropped_at}
@@ -25,6 +25,7 @@ use Rattle.resolving_core.proofs.Known.{Knows}
 use Rattle.resolving_core.specs.Read.{IsReadTerm}
 use Rattle.resolving_core.proofs.Values.{value_tree, value_rolls, Operand, SoundTyped, SoundValue, SoundDropped}
 use Rattle.resolving_core.proofs.Expressions.{sound, used_clean, unused_clean}
+use Rattle.resolving_core.proofs.Empty.{use_empty}
 
 kind_there : (k : Option IntKind) → is_some k ≡ true → HasKind k
 kind_there None e = absurd (true≢false (sym e))
@@ -106,6 +107,6 @@ module _ (n : Names) (ss : List Scope) (env : Env) (knows : Knows n ss env) wher
   pub constant_is_value : (t : Term) → IsReadTerm env.word t → constant_faults env t [] ≡ [] → ConstantIs (constant_of (typed env t)) (constant_at env t)
   constant_is_value t r e = by (is_some (constant_of (typed env t))) refl e
     where
-      by : (b : Bool) → is_some (constant_of (typed env t)) ≡ b → cond b (faults env t []) (fault (first_of t) 34 (faults env t [])) ≡ [] → ConstantIs (constant_of (typed env t)) (constant_at env t)
-      by true i e = constant_typed (typed env t) (sound n ss env knows t [] r e).1 i
+      by : (b : Bool) → is_some (constant_of (typed env t)) ≡ b → fault_if (not b) (first_of t) 34 (used env t (faults env t [])) ≡ [] → ConstantIs (constant_of (typed env t)) (constant_at env t)
+      by true i e = constant_typed (typed env t) (sound n ss env knows t [] r (use_empty (first_of t) (typed env t) (faults env t []) e)).1 i
       by false i e = absurd (none_left _ _ e)

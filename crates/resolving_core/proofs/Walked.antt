@@ -32,6 +32,7 @@ use Rattle.resolving_core.proofs.Parts.{parted, locals_parts, labels_parts, stat
 use Rattle.resolving_core.proofs.Readings.{longer, beginning}
 use Rattle.resolving_core.proofs.Grown.{Grown, locals_grow, body_grows, list_grows, outside_grows}
 use Rattle.resolving_core.proofs.Walk.{Begins, Any, begins_before, Closed, Holds, hold_none, hold_more, hold_one, hold_both, hold_as, SectionsHold, ReadingHolds, extended_holds, closed_holds, switch_holds}
+use Rattle.resolving_core.proofs.Fronts.{no_front}
 
 -- a statement leaves the scopes as they are
 
@@ -258,8 +259,10 @@ module _ (ctx : Context) (final : List Slot) (I : List Scope → Type 0) (P : Tr
         hold_both P (item_items ctx x w) (list_items ctx xs v) h.0 (list_holds around xs v r.1 p.1 h.1 z)
 
     sections_hold : (around : Around) (b : Body) (w : Walk) → IsReadBody ctx.word b → switch_body_faults ctx (in_switch around) b w [] ≡ [] → Here w → Ends (behind_body ctx b w) → SectionsHold P C (switch_sections ctx b w)
-    sections_hold around (Braces first after xs) w r e i z = outside_hold (in_switch around) xs (notes_at ctx (AtEnd first)) (enter w) (notes_hold (AtEnd first)) r e (c.into w.scopes i) z
-    sections_hold around (Lone first after x) w r e i z = lone_holds (in_switch around) x (notes_at ctx (AtEnd first)) (enter w) (notes_hold (AtEnd first)) r e (c.into w.scopes i) z
+    sections_hold around (Braces first after xs) w r e i z =
+        subst (SectionsHold P C) (sym (no_front ctx (in_switch around) (Braces first after xs) w e)) (outside_hold (in_switch around) xs (notes_at ctx (AtEnd first)) (enter w) (notes_hold (AtEnd first)) r e (c.into w.scopes i) z)
+    sections_hold around (Lone first after x) w r e i z =
+        subst (SectionsHold P C) (sym (no_front ctx (in_switch around) (Lone first after x) w e)) (lone_holds (in_switch around) x (notes_at ctx (AtEnd first)) (enter w) (notes_hold (AtEnd first)) r e (c.into w.scopes i) z)
 
     -- in front of the first section
     outside_hold : (around : Around) (xs : Items) (notes : List item.Item) (w : Walk) → Holds P notes → AreReadItems ctx.word xs → outside_faults ctx around xs w [] ≡ [] → Here w → Ends (behind_items ctx xs w)

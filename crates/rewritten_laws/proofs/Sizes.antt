@@ -1,5 +1,5 @@
 -- The plain form of a function with jumps is not much larger than the function.
-use Rattle.std.proofs.Common.{◌≡◌, ℕ, Bool, true, false, cond, List, [], ◌∷◌, Some, None, ap}
+use Rattle.std.proofs.Common.{◌≡◌, ℕ, Bool, true, false, cond, List, [], ◌∷◌, Some, None, ap, sym, subst}
 use Rattle.std.specs.Prelude.{IfSome}
 use Rattle.std.specs.Option.{option_map_or}
 use Rattle.std.specs.List.{AllByRecursion}
@@ -18,6 +18,7 @@ use Rattle.plain_resolved.proofs.Measured.{moved_counts}
 use Rattle.plain_resolved.proofs.PlainDepths.{moved_levels}
 use Rattle.plain_resolved.proofs.PlainTops.{IsDerivedForm, Derived, IsOwnTop, PlainTop, pt_moved, pt_unmoved, pt_declared, pt_other, PlainTops, pt_none, pt_more, plain_tops}
 use Rattle.resolved_core.specs.Counts.{counts_of, measured_form, flat_counts}
+use Rattle.resolved_core.proofs.Counted.{counted_plainly}
 use Rattle.whole_core.specs.Rewritten.{IsNoFunction}
 use Rattle.whole_core.proofs.Whole.{resolved_ready}
 use Rattle.rewritten_laws.specs.EachPlace.{AtEachPair}
@@ -50,10 +51,13 @@ abbrev Any : Function → Type 0
 Any h = Unit {0}
 
 module _ (tops : List Top) where
+  as_counted : (f : Function) (P : ℕ × ℕ → Type 0) → IsResolvedFunction flat_counts tops f → IfSome (cond (has_jumps (body_of f)) (Some (counts_of (measured_form (body_of f)))) None) P → IfSome (flat_counts (body_of f)) P
+  as_counted f P g h = subst (λ o. IfSome o P) (sym (counted_plainly flat_counts tops f g)) h
+
   top_within : {t u : Top} → PlainTop (Derived Any) t u → IsResolvedTop flat_counts tops t → IsWithinSizes t u
-  top_within (pt_moved {f = f} {h = h} m o) g = if_counted (has_jumps (body_of f)) (counts_of (measured_form (body_of f))) (HasSizes f h) m.jumps (has_sizes tops f h g o.1)
-  top_within (pt_unmoved {f = f} {h = h} m) g = if_free (has_jumps (body_of f)) (counts_of (measured_form (body_of f))) (HasSizes f h) m.free
-  top_within (pt_declared f e) g = if_free (has_jumps (body_of f)) (counts_of (measured_form (body_of f))) (HasSizes f f) (declared_free f e)
+  top_within (pt_moved {f = f} {h = h} m o) g = as_counted f (HasSizes f h) g (if_counted (has_jumps (body_of f)) (counts_of (measured_form (body_of f))) (HasSizes f h) m.jumps (has_sizes tops f h g o.1))
+  top_within (pt_unmoved {f = f} {h = h} m) g = as_counted f (HasSizes f h) g (if_free (has_jumps (body_of f)) (counts_of (measured_form (body_of f))) (HasSizes f h) m.free)
+  top_within (pt_declared f e) g = as_counted f (HasSizes f f) g (if_free (has_jumps (body_of f)) (counts_of (measured_form (body_of f))) (HasSizes f f) (declared_free f e))
   top_within (pt_other t n) g = other_within t n
 
   tops_within : {ts us : List Top} → PlainTops (Derived Any) ts us → Each (IsResolvedTop flat_counts tops) ts → AtEachPair IsWithinSizes ts us

@@ -28,7 +28,8 @@ use Rattle.c_resolved.specs.Resolved.{names_in, IsResolvedFunction, IsResolvedTo
 use Rattle.c_resolved.specs.Scopes.{inside, with_parameters, AreBound}
 use Rattle.c_resolved.specs.Spelling.{AreSpelled}
 use Rattle.c_resolved.specs.Within.{Each, Within, CaseExpressions}
-use Rattle.resolved_core.specs.Counts.{flat_counts}
+use Rattle.resolved_core.specs.Counts.{flat_counts, without_strays}
+use Rattle.resolved_core.proofs.Counted.{jumps_stay}
 use Rattle.plain_resolved.proofs.FactsMoved.{left_trees}
 use Rattle.plain_resolved.proofs.FactsPlain.{tidy_cases}
 use Rattle.plain_resolved.proofs.ItemKinds.{cases_all, all_in_cases}
@@ -161,7 +162,7 @@ module _ (us : List Top) (f h : Function) (m : IsUnmovedForm f h) (l : IsLoose u
         consts = over KeepsConsts (tidy_everywhere (KeepsConsts (names_in us f)) (keeps_tidy (names_in us f)) X l.consts);
         lengths = unmoved_lengths f h m l.lengths;
         initialised = unmoved_initialised f h m l.initialised;
-        untangled = counted_none (has_jumps (body_of h)) _ _ (no_jumps (body_of h) (subst (Everywhere IsPlainItem) (sym (left_trees f h m)) plain_tidy));
+        untangled = counted_none (has_jumps (without_strays (body_of h))) _ _ (jumps_stay (body_of h) ∙ no_jumps (body_of h) (subst (Everywhere IsPlainItem) (sym (left_trees f h m)) plain_tidy));
       }
 
   pub unmoved_keeps_bound : KeepsBound f h
@@ -199,7 +200,7 @@ declared_resolved us f e l =
       consts = l.consts;
       lengths = l.lengths;
       initialised = l.initialised;
-      untangled = counted_none (has_jumps (body_of f)) _ _ (no_jumps (body_of f) (loose_plain us f l));
+      untangled = counted_none (has_jumps (without_strays (body_of f))) _ _ (jumps_stay (body_of f) ∙ no_jumps (body_of f) (loose_plain us f l));
     }
 
 -- ---- files

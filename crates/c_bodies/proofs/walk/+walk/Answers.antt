@@ -1,10 +1,10 @@
 use Rattle.std.proofs.Common.{◌∙◌, ◌+◌, ◌++◌, ◌∷◌, [], None, false, append_assoc, ap, sym, drop, arith}
 use Rattle.std.proofs.lemmas.Result.{on_ok_weaker, IfOk-weaker}
-use Rattle.c_bodies.specs.Steps.{reading_of, closed_before, reading_behind, section_item_faults, section_faults}
+use Rattle.c_bodies.specs.Steps.{sections_behind, section_item_faults, section_faults}
 use Rattle.c_bodies.specs.Views.{around_of, context_of, walk_of, left}
 use Rattle.c_bodies.proofs.Insides.{inside_below}
 use Rattle.c_bodies.proofs.Scopes.{left_for}
-use Rattle.c_bodies.proofs.SwitchSteps.{whatever, after, both, all_three, states_faults, section_states, choice_items, nodes_at, token_node, item_node, sections_step, faults_step, lone_section, lone_faults}
+use Rattle.c_bodies.proofs.SwitchSteps.{whatever, after, both, all_three, all_five, states_faults, section_states, choice_items, nodes_at, token_node, item_node, behind_step, lone_step, faults_step, lone_faults}
 use Rattle.c_source.specs.ItemViews.{item_of, plain_of, body_of, labels_of, item_form, start_form}
 use Rattle.c_source.specs.Parts.{term_of}
 use Rattle.c_source.specs.Views.{words_of}
@@ -13,8 +13,8 @@ use Rattle.c_statements.specs.Cases.{item_entries, plain_entries, body_entries, 
 use Rattle.c_statements.specs.Context.{env_at, enter, in_loop, in_switch, notes_at}
 use Rattle.c_statements.specs.Labels.{labels_items}
 use Rattle.c_statements.specs.Nodes.{items_of}
-use Rattle.c_statements.specs.Sections.{passed_on}
-use Rattle.c_statements.specs.Statements.{behind_item, behind_items, behind_body, item_items, plain_items, list_items, body_items, switch_sections, sections_from, sections_of}
+use Rattle.c_statements.specs.Sections.{front, passed_on}
+use Rattle.c_statements.specs.Statements.{behind_item, behind_items, behind_body, item_items, plain_items, list_items, body_items, switch_sections, sections_from, outside_items}
 use Rattle.c_statements.specs.Violations.{item_faults, body_faults, list_faults, outside_faults, switch_body_faults}
 use Rattle.c_tree.specs.declared.tree.Item as tree
 use Rattle.c_tree.specs.declared.tree.Selector as selector
@@ -201,7 +201,7 @@ add_list-loop-x-preserved t c =
 
 pub sections_of-loop-x-preserved : goal.sections_of-loop-x-preserved
 sections_of-loop-x-preserved t c =
-    record { behind = c.in_ok-section_node.ensures.walk (items_of (words_of c.args.ctx.now.words) (drop (c.loop-x.x-index + 1) c.args.nodes.now)) ∙ sym (ap (λ l. behind_items (context_of c.args.ctx.now) l (walk_of c.loop-x.state)) (nodes_at (words_of c.args.ctx.now.words) c.args.nodes.now c.loop-x.x-index c.x-item.result c.loop-x-test.true c.x-item.is)) ∙ c.loop-x.invariant.behind; sections = c.in_ok-section_node.ensures.sections (items_of (words_of c.args.ctx.now.words) (drop (c.loop-x.x-index + 1) c.args.nodes.now)) (notes_at (context_of c.args.ctx.now) (AtEnd c.args.first)) ∙ sym (ap (λ l. c.loop-x.read.done ++ sections_from (context_of c.args.ctx.now) (reading_of c.loop-x.read.current) l (notes_at (context_of c.args.ctx.now) (AtEnd c.args.first)) (walk_of c.loop-x.state)) (nodes_at (words_of c.args.ctx.now.words) c.args.nodes.now c.loop-x.x-index c.x-item.result c.loop-x-test.true c.x-item.is)) ∙ c.loop-x.invariant.sections; cases = c.in_ok-section_node.ensures.cases (items_of (words_of c.args.ctx.now.words) (drop (c.loop-x.x-index + 1) c.args.nodes.now)) ∙ sym (ap (λ l. list_entries (context_of c.args.ctx.now) l (walk_of c.loop-x.state) c.loop-x.state.cases) (nodes_at (words_of c.args.ctx.now.words) c.args.nodes.now c.loop-x.x-index c.x-item.result c.loop-x-test.true c.x-item.is)) ∙ c.loop-x.invariant.cases; faults = c.in_ok-section_node.ensures.faults (items_of (words_of c.args.ctx.now.words) (drop (c.loop-x.x-index + 1) c.args.nodes.now)) ∙ sym (ap (λ l. section_faults (context_of c.args.ctx.now) (around_of c.args.around) c.loop-x.read.current.begun l (walk_of c.loop-x.state) c.loop-x.state.faults) (nodes_at (words_of c.args.ctx.now.words) c.args.nodes.now c.loop-x.x-index c.x-item.result c.loop-x-test.true c.x-item.is)) ∙ c.loop-x.invariant.faults }
+    record { behind = c.in_ok-section_node.ensures.walk (items_of (words_of c.args.ctx.now.words) (drop (c.loop-x.x-index + 1) c.args.nodes.now)) ∙ sym (ap (λ l. behind_items (context_of c.args.ctx.now) l (walk_of c.loop-x.state)) (nodes_at (words_of c.args.ctx.now.words) c.args.nodes.now c.loop-x.x-index c.x-item.result c.loop-x-test.true c.x-item.is)) ∙ c.loop-x.invariant.behind; sections = c.in_ok-section_node.ensures.sections (items_of (words_of c.args.ctx.now.words) (drop (c.loop-x.x-index + 1) c.args.nodes.now)) (notes_at (context_of c.args.ctx.now) (AtEnd c.args.first)) ∙ sym (ap (λ l. c.loop-x.read.done ++ sections_behind (context_of c.args.ctx.now) c.loop-x.read.current l (notes_at (context_of c.args.ctx.now) (AtEnd c.args.first)) (walk_of c.loop-x.state)) (nodes_at (words_of c.args.ctx.now.words) c.args.nodes.now c.loop-x.x-index c.x-item.result c.loop-x-test.true c.x-item.is)) ∙ c.loop-x.invariant.sections; cases = c.in_ok-section_node.ensures.cases (items_of (words_of c.args.ctx.now.words) (drop (c.loop-x.x-index + 1) c.args.nodes.now)) ∙ sym (ap (λ l. list_entries (context_of c.args.ctx.now) l (walk_of c.loop-x.state) c.loop-x.state.cases) (nodes_at (words_of c.args.ctx.now.words) c.args.nodes.now c.loop-x.x-index c.x-item.result c.loop-x-test.true c.x-item.is)) ∙ c.loop-x.invariant.cases; faults = c.in_ok-section_node.ensures.faults (items_of (words_of c.args.ctx.now.words) (drop (c.loop-x.x-index + 1) c.args.nodes.now)) ∙ sym (ap (λ l. section_faults (context_of c.args.ctx.now) (around_of c.args.around) c.loop-x.read.current.begun l (walk_of c.loop-x.state) c.loop-x.state.faults) (nodes_at (words_of c.args.ctx.now.words) c.args.nodes.now c.loop-x.x-index c.x-item.result c.loop-x-test.true c.x-item.is)) ∙ c.loop-x.invariant.faults }
 
 pub add_node-returns-then-is_token-clause-walk : goal.add_node-returns-then-is_token-clause-walk
 add_node-returns-then-is_token-clause-walk t c =
@@ -241,7 +241,7 @@ section_node-returns-then-is_token-clause-walk t c =
 
 pub section_node-returns-then-is_token-clause-sections : goal.section_node-returns-then-is_token-clause-sections
 section_node-returns-then-is_token-clause-sections t c =
-    λ xs notes. sym (ap (λ l. c.args.read.now.done ++ sections_from (context_of c.args.ctx.now) (reading_of c.args.read.now.current) l notes (walk_of c.args.state.now)) (token_node (words_of c.args.ctx.now.words) c.args.x.now xs (sym c.is_token.ensures ∙ c.if-is_token.true)))
+    λ xs notes. sym (ap (λ l. c.args.read.now.done ++ sections_behind (context_of c.args.ctx.now) c.args.read.now.current l notes (walk_of c.args.state.now)) (token_node (words_of c.args.ctx.now.words) c.args.x.now xs (sym c.is_token.ensures ∙ c.if-is_token.true)))
 
 pub section_node-returns-then-is_token-clause-cases : goal.section_node-returns-then-is_token-clause-cases
 section_node-returns-then-is_token-clause-cases t c =
@@ -257,7 +257,7 @@ section_node-returns-clause-walk t c =
 
 pub section_node-returns-clause-sections : goal.section_node-returns-clause-sections
 section_node-returns-clause-sections t c =
-    all_three c.section_item.result (λ d k g xs notes. (λ i. d i ++ sections_from (context_of c.args.ctx.now) (k i) xs notes (g i)) ∙ append_assoc c.args.read.now.done (closed_before (reading_of c.args.read.now.current) (item_of (words_of c.args.ctx.now.words) c.args.x.now)) (sections_from (context_of c.args.ctx.now) (reading_behind (context_of c.args.ctx.now) (reading_of c.args.read.now.current) (item_of (words_of c.args.ctx.now.words) c.args.x.now) (walk_of c.args.state.now)) xs notes (behind_item (context_of c.args.ctx.now) (item_of (words_of c.args.ctx.now.words) c.args.x.now) (walk_of c.args.state.now))) ∙ sym (ap (λ l. c.args.read.now.done ++ l) (sections_step (context_of c.args.ctx.now) (reading_of c.args.read.now.current) (item_of (words_of c.args.ctx.now.words) c.args.x.now) xs notes (walk_of c.args.state.now))) ∙ sym (ap (λ l. c.args.read.now.done ++ sections_from (context_of c.args.ctx.now) (reading_of c.args.read.now.current) l notes (walk_of c.args.state.now)) (item_node (words_of c.args.ctx.now.words) c.args.x.now xs (sym c.is_token.ensures ∙ c.if-is_token.false)))) c.section_item.ensures.done c.section_item.ensures.current c.section_item.ensures.walk
+    all_five c.section_item.result (λ d k b o g xs notes. behind_step (context_of c.args.ctx.now) c.args.read.now.current c.section_item.new.read.current (item_of (words_of c.args.ctx.now.words) c.args.x.now) xs notes (walk_of c.section_item.new.state) (walk_of c.args.state.now) c.args.read.now.done c.section_item.new.read.done d k b o g ∙ sym (ap (λ l. c.args.read.now.done ++ sections_behind (context_of c.args.ctx.now) c.args.read.now.current l notes (walk_of c.args.state.now)) (item_node (words_of c.args.ctx.now.words) c.args.x.now xs (sym c.is_token.ensures ∙ c.if-is_token.false)))) c.section_item.ensures.done c.section_item.ensures.current c.section_item.ensures.begun c.section_item.ensures.outside c.section_item.ensures.walk
 
 pub section_node-returns-clause-cases : goal.section_node-returns-clause-cases
 section_node-returns-clause-cases t c =
@@ -297,7 +297,7 @@ switch_of-returns-clause-faults t c =
 
 pub switch_braces-returns-clause-value : goal.switch_braces-returns-clause-value
 switch_braces-returns-clause-value t c =
-    c.in_ok-read.ensures.value ∙ ap (sections_from (context_of c.args.ctx.now) None (items_of (words_of c.args.ctx.now.words) c.args.nodes.now) (notes_at (context_of c.args.ctx.now) (AtEnd c.args.first))) c.in_ok-enter.ensures.walk
+    c.in_ok-read.ensures.value ∙ ap (λ w. front (outside_items (context_of c.args.ctx.now) (items_of (words_of c.args.ctx.now.words) c.args.nodes.now) w) ++ sections_from (context_of c.args.ctx.now) None (items_of (words_of c.args.ctx.now.words) c.args.nodes.now) (notes_at (context_of c.args.ctx.now) (AtEnd c.args.first)) w) c.in_ok-enter.ensures.walk
 
 pub switch_braces-returns-clause-cases : goal.switch_braces-returns-clause-cases
 switch_braces-returns-clause-cases t c =
@@ -309,7 +309,7 @@ switch_braces-returns-clause-faults t c =
 
 pub switch_lone-returns-clause-value : goal.switch_lone-returns-clause-value
 switch_lone-returns-clause-value t c =
-    IfOk-weaker c.finish.result _ _ (λ ss h. h ∙ (λ i. (c.in_ok-section_item.ensures.done ∙ (λ j. c.no_sections-read.ensures.done j ++ closed_before (reading_of (c.no_sections-read.ensures.current j)) (item_of (words_of c.args.ctx.now.words) c.args.x.now))) i ++ sections_of ((c.in_ok-section_item.ensures.current ∙ (λ j. reading_behind (context_of c.args.ctx.now) (reading_of (c.no_sections-read.ensures.current j)) (item_of (words_of c.args.ctx.now.words) c.args.x.now) (c.in_ok-enter.ensures.walk j))) i) (notes_at (context_of c.args.ctx.now) (AtEnd c.args.first))) ∙ sym (lone_section (context_of c.args.ctx.now) (item_of (words_of c.args.ctx.now.words) c.args.x.now) (notes_at (context_of c.args.ctx.now) (AtEnd c.args.first)) (enter (walk_of c.args.state.now)))) c.finish.ensures
+    IfOk-weaker c.finish.result _ _ (λ ss h. lone_step (context_of c.args.ctx.now) (item_of (words_of c.args.ctx.now.words) c.args.x.now) (notes_at (context_of c.args.ctx.now) (AtEnd c.args.first)) (walk_of c.enter.new.state) (enter (walk_of c.args.state.now)) c.no_sections-read.result.current c.section_item.new.read.current c.no_sections-read.result.done c.section_item.new.read.done ss c.in_ok-enter.ensures.walk c.no_sections-read.ensures.done c.no_sections-read.ensures.current c.in_ok-section_item.ensures.done c.in_ok-section_item.ensures.current c.in_ok-section_item.ensures.outside h) c.finish.ensures
 
 pub switch_lone-returns-clause-cases : goal.switch_lone-returns-clause-cases
 switch_lone-returns-clause-cases t c =

@@ -1,11 +1,12 @@
 use Rattle.std.proofs.Common.{◌≡◌, ◌+◌, ◌-◌, ◌*◌, ◌++◌, drop, None}
-use Rattle.c_bodies.specs.Steps.{reading_of, section_faults}
+use Rattle.c_bodies.specs.Steps.{sections_behind, section_faults}
 use Rattle.c_bodies.specs.Views.{around_of, context_of, walk_of}
 use Rattle.c_source.specs.Views.{words_of, weight, weights}
 use Rattle.c_statements.specs.Cases.{list_entries}
 use Rattle.c_statements.specs.Context.{notes_at}
 use Rattle.c_statements.specs.Nodes.{items_of}
-use Rattle.c_statements.specs.Statements.{behind_items, list_items, sections_from}
+use Rattle.c_statements.specs.Sections.{front}
+use Rattle.c_statements.specs.Statements.{behind_items, list_items, sections_from, outside_items}
 use Rattle.c_statements.specs.Violations.{list_faults, outside_faults}
 use Rattle.c_statements.specs.declared.anchors.Anchor.TheVariants.{AtEnd}
 use Rattle.c_bodies.proofs.Insides.{inside}
@@ -86,6 +87,9 @@ decreases-section l = 9 * weight l.plain.now + 1
 abbrev pub decreases-extend : goal.decreases-extend
 decreases-extend l = 9 * weight l.x.now + 1
 
+abbrev pub decreases-pass_over : goal.decreases-pass_over
+decreases-pass_over l = 9 * weight l.x.now + 1
+
 abbrev pub invariant-add_list-loop-x : goal.invariant-add_list-loop-x
 invariant-add_list-loop-x l = record {
   behind : behind_items (context_of l.ctx) (items_of (words_of l.ctx.words) (drop l.x-index l.nodes)) (walk_of l.state) ≡ behind_items (context_of l.ctx) (items_of (words_of l.ctx.words) l.nodes) (walk_of l.initial.state);
@@ -97,8 +101,8 @@ invariant-add_list-loop-x l = record {
 abbrev pub invariant-sections_of-loop-x : goal.invariant-sections_of-loop-x
 invariant-sections_of-loop-x l = record {
   behind : behind_items (context_of l.ctx) (items_of (words_of l.ctx.words) (drop l.x-index l.nodes)) (walk_of l.state) ≡ behind_items (context_of l.ctx) (items_of (words_of l.ctx.words) l.nodes) (walk_of l.initial.state);
-  sections : l.read.done ++ sections_from (context_of l.ctx) (reading_of l.read.current) (items_of (words_of l.ctx.words) (drop l.x-index l.nodes)) (notes_at (context_of l.ctx) (AtEnd l.first)) (walk_of l.state)
-      ≡ sections_from (context_of l.ctx) None (items_of (words_of l.ctx.words) l.nodes) (notes_at (context_of l.ctx) (AtEnd l.first)) (walk_of l.initial.state);
+  sections : l.read.done ++ sections_behind (context_of l.ctx) l.read.current (items_of (words_of l.ctx.words) (drop l.x-index l.nodes)) (notes_at (context_of l.ctx) (AtEnd l.first)) (walk_of l.state)
+      ≡ front (outside_items (context_of l.ctx) (items_of (words_of l.ctx.words) l.nodes) (walk_of l.initial.state)) ++ sections_from (context_of l.ctx) None (items_of (words_of l.ctx.words) l.nodes) (notes_at (context_of l.ctx) (AtEnd l.first)) (walk_of l.initial.state);
   cases : list_entries (context_of l.ctx) (items_of (words_of l.ctx.words) (drop l.x-index l.nodes)) (walk_of l.state) l.state.cases ≡ list_entries (context_of l.ctx) (items_of (words_of l.ctx.words) l.nodes) (walk_of l.initial.state) l.initial.state.cases;
   faults : section_faults (context_of l.ctx) (around_of l.around) l.read.current.begun (items_of (words_of l.ctx.words) (drop l.x-index l.nodes)) (walk_of l.state) l.state.faults
       ≡ outside_faults (context_of l.ctx) (around_of l.around) (items_of (words_of l.ctx.words) l.nodes) (walk_of l.initial.state) l.initial.state.faults;

@@ -1,9 +1,7 @@
 use Rattle.std.proofs.Common.{sym, ◌∙◌}
 use Rattle.c_tree.specs.Trees.{trees_of}
-use Rattle.flat_counts.proofs.Measured.{measured}
+use Rattle.flat_counts.proofs.StrayLists.{none_stray_answer}
 use Rattle.flat_counts.proofs.counting.flat_counts.Goals as goal
 
-pub returns-in_ok-gotos : goal.returns-in_ok-gotos
-returns-in_ok-gotos c =
-    measured c.frame-frame.result (trees_of c.args.body.now) (trees_of c.in_ok-flat.flat.items) c.in_ok-flat.flat.codes c.in_ok-gotos.gotos c.len-labels.result (sym c.has_jumps.ensures ∙ c.if-has_jumps.true) c.in_ok-flat.ensures.items
-    c.in_ok-flat.ensures.codes c.in_ok-gotos.ensures c.len-labels.ensures.value
+pub returns-else-has_arrival : goal.returns-else-has_arrival
+returns-else-has_arrival c = none_stray_answer c.bound_counts-else-has_arrival.result (trees_of c.args.body.now) (sym c.has_arrival.ensures ∙ c.if-has_arrival.false) c.bound_counts-else-has_arrival.ensures
