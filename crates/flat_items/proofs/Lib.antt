@@ -3,3 +3,4 @@ pub mod Joining
 pub mod Tests
 pub mod Steps
 pub mod Arms
+pub mod SoughtPlaces

@@ -7,11 +7,12 @@ ghost use Rattle.c_tree.specs.Trees.{Evaluate, Goto, Then, expression_trees, tre
 ghost use Rattle.jump_meaning.specs.Step.{switch_kind as the_switch_kind};
 ghost use Rattle.loose_core.specs.Pieces.{assign_number, case_marks};
 ghost use Rattle.flat_core.specs.Parts.{switch_labels, cases_among};
-ghost use Rattle.flat_core.specs.FlatForm.{same_number, place_of as the_place_of, arrival, otherwise_label as the_otherwise_label};
+ghost use Rattle.flat_core.specs.FlatForm.{arrival, otherwise_label as the_otherwise_label};
 ghost use Rattle.flat_items.specs.Pieces.{number_test, number_tests};
 ghost use Rattle.flat_items.specs.Plans.{arrivals_of, case_names, number_label, plan_of, here_of};
 
 use crate::pieces::{add, add_goto, add_label};
+use crate::places::CaseNumbers;
 use crate::plans::{Cases, Here, Plan, break_label, case_label, default_label};
 use crate::values::{assignment, case_test};
 use c_copies::{copy_expression, copy_option};
@@ -29,7 +30,7 @@ pub fn no_cases(alloc: Global) -> Cases
         kind: IntKind::Int,
         first: 0,
         construct: 0,
-        numbers: List::new(alloc),
+        numbers: CaseNumbers::none(alloc),
     }
 }
 
@@ -47,7 +48,7 @@ pub fn cases_of(
     ensures numbers { IfOk result (λ it. it.numbers ≡ map (the_case_number (the_switch_kind (selector_tree selector.now))) (cases_among (switch_labels (sections_of sections.now)))) }
 {
     let kind = switch_kind(selector);
-    let numbers = case_numbers(alloc, kind, sections)?;
+    let numbers = CaseNumbers::new(alloc, case_numbers(alloc, kind, sections)?)?;
     Ok(Cases {
         bound: true,
         kind,
@@ -57,35 +58,11 @@ pub fn cases_of(
     })
 }
 
-fn is_same(a: Option<i128>, b: Option<i128>) -> bool
-    ensures { result ≡ same_number a b }
-{
-    match a {
-        Some(m) => match b {
-            Some(n) => m == n,
-            None => false,
-        },
-        None => false,
-    }
-}
-
-fn place_of(number: Option<i128>, numbers: &[Option<i128>]) -> usize
-    ensures place { result ≡ the_place_of number numbers.now }
-    ensures within { result ≤ length numbers.now }
-{
-    for i in 0..numbers.len() {
-        if is_same(number, numbers[i]) {
-            return i;
-        }
-    }
-    numbers.len()
-}
-
 fn label_of_number(plan: &Plan, cases: &Cases, number: Option<i128>) -> Result<u32, Memory>
     ensures { IfOk result (λ it. it ≡ number_label plan.now cases.now number) }
 {
-    let place = place_of(number, cases.numbers.as_slice());
-    case_label(plan, cases.first as usize + place)
+    let place = cases.numbers.place_of(number);
+    case_label(plan, cases.first as usize + place as usize)
 }
 
 /// The label of a case.

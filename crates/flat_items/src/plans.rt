@@ -1,6 +1,7 @@
 ghost use Rattle.std.specs.Prelude.{◌≡◌, ◌+◌, ◌^◌, ◌<◌, ◌≤◌, None, suc, get_or, IfOk};
 ghost use Rattle.flat_items.specs.Plans.{number_at, plan_of};
 
+use crate::places::CaseNumbers;
 use c_tree::Slot;
 use c_types::{IntKind, List, Memory};
 
@@ -68,7 +69,7 @@ pub struct Cases {
     /// Its number among loops and switches.
     pub construct: u32,
     /// The numbers of its cases.
-    pub numbers: List<Option<i128>>,
+    pub numbers: CaseNumbers,
 }
 
 fn entry(table: &[Option<u32>], code: usize) -> Option<u32>

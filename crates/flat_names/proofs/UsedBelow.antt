@@ -1,21 +1,19 @@
 -- Numbers below which none is free.
-use Rattle.std.proofs.Common.{◌≡◌, ℕ, zero, suc, ◌+◌, ◌-◌, ◌≤◌, ◌<◌, Bool, true, false, cond, List, [], ◌∷◌, map, Some, refl, sym, ap, subst, ◌∙◌, arith, Bor}
+use Rattle.std.proofs.Common.{◌≡◌, ℕ, ◌≤◌, Bool, true, false, cond, List, [], ◌∷◌, map, Some, refl, sym, ap, subst, ◌∙◌, arith, Bor}
 use Rattle.std.specs.declared.cmp.Ordering.{Ordering}
 use Rattle.std.specs.declared.cmp.Ordering.TheVariants.{Less, Equal, Greater}
 use Rattle.std.specs.Ordering.{nat_cmp, match_ordering, is_eq}
 use Rattle.std.specs.Cmp.Lexicographic.{slice_cmp}
 use Rattle.std.specs.BTreeMap.{is_at, insert_entry}
 use Rattle.std.specs.Map.{lookup}
-use Rattle.std.specs.Prelude.{nat_lt, min}
 use Rattle.std.specs.Str.{bytes_eq}
-use Rattle.std.proofs.lemmas.Bool.{or_right, ltb-true, ltb-false}
+use Rattle.std.proofs.lemmas.Bool.{or_right}
 use Rattle.std.proofs.lemmas.Map.Text.{is_eq-slice_cmp}
 use Rattle.std.proofs.lemmas.Slice.Eq.{bytes_eq-Decides}
 use Rattle.c_types.specs.Words.{name_cmp}
 use Rattle.c_copies.specs.Names.{has_name, with_name}
 use Rattle.c_copies.proofs.Rising.{has_name-with_name}
-use Rattle.fresh_names.specs.Fresh.{numbered, first_free}
-use Rattle.fresh_names.proofs.FreshLemmas.{first_free_used}
+use Rattle.fresh_names.specs.Fresh.{numbered}
 use Rattle.flat_names.specs.Numbers.{Numbers, found, or_first, with_number, IsUsedBelow, AreUsedBelow}
 
 -- ---- the map
@@ -59,9 +57,6 @@ next_is used name (e ∷ es) h = at (bytes_eq name e.0) refl (next_is used name 
     at true i rest = subst (λ m. IsNext used m e.1) (sym ((bytes_eq-Decides name e.0).0 i)) h.0
     at false i rest = rest
 
-pub fewer : (used : List (List ℕ)) (base : List ℕ) (m n : ℕ) → m ≤ n → IsUsedBelow used base n → IsUsedBelow used base m
-fewer used base m n le h i a b = h i a (omega (arith, le, b))
-
 -- one more number
 same_name : (n x : List ℕ) → name_cmp n x ≡ Equal → n ≡ x
 same_name n x e = (bytes_eq-Decides n x).0 (sym (is_eq-slice_cmp n x) ∙ ap is_eq e)
@@ -79,38 +74,8 @@ number_kept used name n (e ∷ es) h w = at (name_cmp name e.0) refl (number_kep
 pub next_of : (used : List (List ℕ)) (base key : List ℕ) (es : Numbers) (n : ℕ) → key ≡ base → n ≡ or_first (found key es) → AreUsedBelow used es → IsNext used base n
 next_of used base key es n k e h = subst (λ b. IsNext used b n) k (subst (IsNext used key) (sym e) (next_is used key es h))
 
-pub least : (a b : ℕ) → 2 ≤ a → 2 ≤ b → 2 ≤ min a b
-least a b h k = omega (arith, h, k)
-
-pub less : (a b : ℕ) → min a b ≤ a
-less a b = omega arith
-
 -- one more name
 pub more_used : (used : List (List ℕ)) (name : List ℕ) (es : Numbers) → AreUsedBelow used es → AreUsedBelow (with_name used name) es
 more_used used name [] h = tt
 more_used used name (e ∷ es) h =
     ((h.0.0, λ i a b. has_name-with_name used name (numbered e.0 i) ∙ or_right (bytes_eq (numbered e.0 i) name) (has_name used (numbered e.0 i)) (h.0.1 i a b)), more_used used name es h.1)
-
--- ---- the search
-
--- it passes over names that are used
-skip : (used : List (List ℕ)) (base done : List ℕ) (e d : ℕ) → 2 + d ≤ e → IsUsedBelow used base (2 + d) → first_free used base 2 (e - 2) ≡ done → first_free used base (2 + d) (e - (2 + d)) ≡ done
-skip used base done e zero le h w = w
-skip used base done e (suc d) le h w =
-    let lt : 2 + d < e = omega (arith, le) in
-    let first = skip used base done e d (omega (arith, le)) (fewer used base (2 + d) (2 + suc d) (omega arith) h) w in
-    let more = first_free_used used base done (2 + d) e lt (h (2 + d) (omega arith) (omega arith)) first in
-    let q : 2 + d + 1 ≡ 2 + suc d = omega arith in
-    subst (λ m. first_free used base m (e - m) ≡ done) q more
-
-pub skipped : (used : List (List ℕ)) (base done : List ℕ) (e n : ℕ) → 2 ≤ n → n ≤ e → IsUsedBelow used base n → first_free used base 2 (e - 2) ≡ done → first_free used base n (e - n) ≡ done
-skipped used base done e n a b h w =
-    let q : 2 + (n - 2) ≡ n = omega (arith, a) in
-    subst (λ m. first_free used base m (e - m) ≡ done) q (skip used base done e (n - 2) (omega (arith, a, b)) (subst (IsUsedBelow used base) (sym q) h) w)
-
-pub one_further : (used : List (List ℕ)) (base : List ℕ) (n : ℕ) → IsUsedBelow used base n → has_name used (numbered base n) ≡ true → IsUsedBelow used base (n + 1)
-one_further used base n h e i a b = at (nat_lt i n) refl
-  where
-    at : (c : Bool) → nat_lt i n ≡ c → has_name used (numbered base i) ≡ true
-    at true l = h i a (ltb-true i n l)
-    at false l = let q : i ≡ n = (let m = ltb-false i n l in omega (arith, b, m)) in ap (λ j. has_name used (numbered base j)) q ∙ e

@@ -1,11 +1,10 @@
 -- From which number on a name with a number may be free.
-use Rattle.std.specs.Prelude.{ℕ, ◌≡◌, ◌≤◌, ◌<◌, true, cond, List, [], ◌∷◌, Option, Some, None}
+use Rattle.std.specs.Prelude.{ℕ, ◌≤◌, cond, List, [], ◌∷◌, Option, Some, None}
 use Rattle.std.specs.BTreeMap.{insert_entry}
 use Rattle.std.specs.List.{AllByRecursion}
 use Rattle.std.specs.Str.{bytes_eq}
 use Rattle.c_types.specs.Words.{name_cmp}
-use Rattle.c_copies.specs.Names.{has_name}
-use Rattle.fresh_names.specs.Fresh.{numbered}
+use Rattle.fresh_names.specs.Runs.{AreUsedFrom}
 
 -- names in byte order, each with a number
 abbrev pub Numbers : Type 0
@@ -25,7 +24,7 @@ with_number name n es = insert_entry name_cmp es name n
 
 -- the names base_2, base_3 and so on below base_n are used
 abbrev pub IsUsedBelow : List (List ℕ) → List ℕ → ℕ → Type 0
-IsUsedBelow used base n = (i : ℕ) → 2 ≤ i → i < n → has_name used (numbered base i) ≡ true
+IsUsedBelow used base n = AreUsedFrom used base 2 n
 
 -- so are those of each name below its number, which is no less than 2
 abbrev pub AreUsedBelow : List (List ℕ) → Numbers → Type 0

@@ -1,14 +1,13 @@
 //! Where the search for a free number behind a name goes on.
 
-ghost use Rattle.std.specs.Prelude.{◌≡◌, ◌+◌, ◌≤◌, ◌<◌, ◌^◌, [], length, IfOk, OnOk};
+ghost use Rattle.std.specs.Prelude.{◌≡◌, [], IfOk, OnOk};
 ghost use Rattle.std.specs.Option.{option_copied};
-ghost use Rattle.c_copies.specs.Names.{has_name};
-ghost use Rattle.fresh_names.specs.Fresh.{first_free, fresh as the_fresh};
+ghost use Rattle.fresh_names.specs.Fresh.{fresh as the_fresh};
 ghost use Rattle.flat_names.specs.Gathered.{all_used};
-ghost use Rattle.flat_names.specs.Numbers.{found, or_first, with_number, IsUsedBelow, AreUsedBelow};
+ghost use Rattle.flat_names.specs.Numbers.{found, or_first, with_number, AreUsedBelow};
 
 use c_types::{Memory, Name};
-use fresh_names::{UsedNames, numbered};
+use fresh_names::UsedNames;
 use std::alloc::Global;
 use std::collections::BTreeMap;
 use std::marker::Model;
@@ -60,43 +59,6 @@ impl<'a> NextNumbers<'a> {
     }
 }
 
-/// At least as many as there are used names, and 2.
-fn most(used: &UsedNames) -> Result<u64, Memory>
-    ensures enough { IfOk result (λ it. length (all_used used.now) + 2 ≤ it) }
-    ensures bound { IfOk result (λ it. it < 2 ^ 64) }
-{
-    let names = used.file.len() as u64 + used.own.len() as u64;
-    match names.checked_add(2) {
-        Some(most) => Ok(most),
-        None => Err(Memory),
-    }
-}
-
-/// The first free name with a number, and its number, where all below a number are used.
-fn free_from(
-    alloc: Global,
-    used: &UsedNames,
-    base: &str,
-    start: u64,
-    most: u64,
-) -> Result<(Name, u64), Memory>
-    requires first { 2 ≤ start }
-    requires used { IsUsedBelow (all_used used.now) base.now start }
-    requires start { start ≤ most }
-    requires enough { length (all_used used.now) + 2 ≤ most }
-    ensures name { IfOk result (λ it. it.0 ≡ first_free (all_used used.now) base.now 2 (length (all_used used.now))) }
-    ensures first { IfOk result (λ it. 2 ≤ it.1) }
-    ensures used { IfOk result (λ it. IsUsedBelow (all_used used.now) base.now it.1) }
-{
-    for n in start..most {
-        let name = numbered(alloc, base, n)?;
-        if !used.contains(name.as_str()) {
-            return Ok((name, n));
-        }
-    }
-    Ok((numbered(alloc, base, most)?, most))
-}
-
 /// What `fresh` gives, where the search for a number goes on from the one that is kept.
 pub fn fresh_beside<'a>(
     alloc: Global,
@@ -110,9 +72,8 @@ pub fn fresh_beside<'a>(
 {
     if used.contains(base.as_str()) {
         let key = base.as_str().as_bytes();
-        let most = most(used)?;
-        let start = numbers.next(key).min(most);
-        let (name, number) = free_from(alloc, used, base.as_str(), start, most)?;
+        let start = numbers.next(key);
+        let (name, number) = used.free_from(alloc, base.as_str(), start)?;
         numbers.put(key, number)?;
         Ok(name)
     } else {

@@ -1,3 +1,4 @@
 pub mod FreshFound
 pub mod FreshLemmas
 pub mod NameSets
+pub mod RunLemmas

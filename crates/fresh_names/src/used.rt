@@ -1,10 +1,12 @@
-ghost use Rattle.std.specs.Prelude.{◌≡◌, ◌+◌, ◌≤◌, ◌<◌, ◌^◌, [], ◌++◌, false, length, IfOk, OnOk};
+ghost use Rattle.std.specs.Prelude.{◌≡◌, ◌+◌, ◌≤◌, ◌<◌, ◌^◌, [], ◌++◌, false, length, IfOk, IfSome, IfNone, OnOk};
 ghost use Rattle.c_types.specs.Words.{known_functions};
 ghost use Rattle.c_copies.specs.Names.{has_name, with_name, with_names};
-ghost use Rattle.fresh_names.specs.Fresh.{first_free as the_first_free, fresh as the_fresh};
+ghost use Rattle.fresh_names.specs.Fresh.{numbered as the_numbered, first_free as the_first_free, fresh as the_fresh};
+ghost use Rattle.fresh_names.specs.Runs.{AreUsedFrom};
 
+use crate::file_names::FileNames;
 use crate::names::numbered;
-use c_copies::{NameSet, add_names};
+use c_copies::NameSet;
 use c_types::{Memory, Name};
 use std::alloc::Global;
 
@@ -13,28 +15,9 @@ use std::alloc::Global;
 #[derive(Drop)]
 pub struct UsedNames {
     /// The names of the file and the known functions of the library.
-    pub file: NameSet,
+    pub file: FileNames,
     /// More names, those of one function.
     pub own: NameSet,
-}
-
-fn add_known(alloc: Global, used: &mut NameSet) -> Result<(), Memory>
-    ensures { OnOk result (used.new ≡ with_names used.old known_functions) }
-{
-    used.add(alloc, "getchar")?;
-    used.add(alloc, "putchar")?;
-    used.add(alloc, "printf")?;
-    used.add(alloc, "exit")?;
-    used.add(alloc, "abort")
-}
-
-fn file_names(alloc: Global, names: &[Name]) -> Result<NameSet, Memory>
-    ensures { IfOk result (λ it. it ≡ with_names [] (names.now ++ known_functions)) }
-{
-    let mut used = NameSet::new(alloc);
-    add_names(alloc, &mut used, names)?;
-    add_known(alloc, &mut used)?;
-    Ok(used)
 }
 
 impl UsedNames {
@@ -43,7 +26,7 @@ impl UsedNames {
         ensures file { IfOk result (λ it. it.file ≡ with_names [] (names.now ++ known_functions)) }
         ensures own { IfOk result (λ it. it.own ≡ []) }
     {
-        let file = file_names(alloc, names)?;
+        let file = FileNames::new(alloc, names)?;
         Ok(UsedNames {
             file,
             own: NameSet::new(alloc),
@@ -85,18 +68,44 @@ impl UsedNames {
         }
     }
 
-    fn first_free(&self, alloc: Global, base: &str) -> Result<Name, Memory>
-        ensures value { IfOk result (λ it. it ≡ the_first_free (with_names self.now.file self.now.own) base.now 2 (length (with_names self.now.file self.now.own))) }
-        ensures unused { IfOk result (λ it. has_name (with_names self.now.file self.now.own) it ≡ false) }
+    /// The next number that may be free behind the base, or `None` where this one is.
+    fn next(&self, base: &str, name: &str, number: u64, most: u64) -> Option<u64>
+        requires name { name.now ≡ the_numbered base.now number }
+        requires within { number < most }
+        ensures further { IfSome result (λ it. number < it) }
+        ensures within { IfSome result (λ it. it ≤ most) }
+        ensures used { IfSome result (λ it. AreUsedFrom (with_names self.now.file self.now.own) base.now number it) }
+        ensures free { IfNone result (has_name (with_names self.now.file self.now.own) name.now ≡ false) }
+    {
+        if self.file.contains(name) {
+            Some(self.file.past(base, name, number).min(most))
+        } else if self.own.contains(name) {
+            Some(number + 1)
+        } else {
+            None
+        }
+    }
+
+    /// The first of `base_2`, `base_3` and so on that isn't used, and its number, where those below a number
+    /// are used. Want of memory is the only failure.
+    pub fn free_from(&self, alloc: Global, base: &str, start: u64) -> Result<(Name, u64), Memory>
+        requires first { 2 ≤ start }
+        requires used { AreUsedFrom (with_names self.now.file self.now.own) base.now 2 start }
+        ensures name { IfOk result (λ it. it.0 ≡ the_first_free (with_names self.now.file self.now.own) base.now 2 (length (with_names self.now.file self.now.own))) }
+        ensures unused { IfOk result (λ it. has_name (with_names self.now.file self.now.own) it.0 ≡ false) }
+        ensures first { IfOk result (λ it. 2 ≤ it.1) }
+        ensures used { IfOk result (λ it. AreUsedFrom (with_names self.now.file self.now.own) base.now 2 it.1) }
     {
         let most = self.most()?;
-        for n in 2..most {
-            let name = numbered(alloc, base, n)?;
-            if !self.contains(name.as_str()) {
-                return Ok(name);
+        let mut number = start.min(most);
+        while number < most {
+            let name = numbered(alloc, base, number)?;
+            match self.next(base, name.as_str(), number, most) {
+                Some(next) => number = next,
+                None => return Ok((name, number)),
             }
         }
-        numbered(alloc, base, most)
+        Ok((numbered(alloc, base, most)?, most))
     }
 
     /// The name itself if it isn't used, else the first of `base_2`, `base_3` and so on that isn't used.
@@ -106,7 +115,8 @@ impl UsedNames {
         ensures unused { IfOk result (λ it. has_name (with_names self.now.file self.now.own) it ≡ false) }
     {
         if self.contains(base) {
-            self.first_free(alloc, base)
+            let (name, _) = self.free_from(alloc, base, 2)?;
+            Ok(name)
         } else {
             Ok(Name::from_string(String::from_str(alloc, base)?))
         }

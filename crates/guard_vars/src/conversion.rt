@@ -46,11 +46,31 @@ fn convert_list(alloc: Global, list: &List<Item>) -> Result<List<Item>, Memory>
 fn convert_slice(alloc: Global, items: &[Item]) -> Result<List<Item>, Memory>
     ensures { IfOk result (λ it. it ≡ converted_list items.now) }
 {
-    let mut out = List::new(alloc);
+    let mut out = List::from_vec(Vec::with_capacity(alloc, room(items))?);
     for item in items {
         convert_item(alloc, item, &mut out)?;
     }
     Ok(out)
+}
+
+/// How many items these become. Only the room of a list hangs on it.
+fn room(items: &[Item]) -> usize {
+    let mut count = items.len();
+    for item in items {
+        if is_jump(item) {
+            count = count.saturating_add(1);
+        }
+    }
+    count
+}
+
+/// Whether an item becomes an `Arm` and a `Leap`.
+fn is_jump(item: &Item) -> bool {
+    match item {
+        Item::Goto(_) => true,
+        Item::If(test, a, b) => conditional_jump(test, a, b).is_some(),
+        _ => false,
+    }
 }
 
 #[cycle(convert_list)]

@@ -2,6 +2,16 @@ ghost use Rattle.std.specs.Prelude.{◌≡◌, ◌≤◌, ◌<◌, ◌+◌, ◌+
 
 use c_types::Memory;
 
+/// Gives back the room of a list that uses less than a quarter of it.
+fn give_back<T: Drop>(items: &mut Vec<T>)
+    ensures { items.new.items ≡ items.old.items }
+{
+    let len = items.len();
+    if len < items.capacity() / 4 {
+        items.shrink_to(len.saturating_mul(2).saturating_add(4));
+    }
+}
+
 /// Moves the items from one place up to another out. After `Memory` nothing has changed.
 pub fn cut<T: Drop>(items: &mut Vec<T>, from: usize, to: usize) -> Result<Vec<T>, Memory>
     requires start_le_end { from ≤ to }
@@ -17,6 +27,7 @@ pub fn cut<T: Drop>(items: &mut Vec<T>, from: usize, to: usize) -> Result<Vec<T>
         Ok(()) => {}
         Err(_) => unreachable!(),
     }
+    give_back(items);
     match mid {
         Ok(mid) => Ok(mid),
         Err(_) => Err(Memory),

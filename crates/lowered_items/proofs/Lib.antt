@@ -2,4 +2,3 @@ pub mod Steps
 pub mod Shapes
 pub mod Jumping
 pub mod Moving
-pub mod SoughtPlaces

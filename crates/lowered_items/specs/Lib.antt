@@ -1,4 +1,3 @@
-pub mod Places
 pub mod Plans
 pub mod Jumps
 pub mod Loops

@@ -6,12 +6,12 @@ use Rattle.loose_core.specs.Pieces.{Names}
 use Rattle.loose_core.specs.Loose.{Arrivals}
 use Rattle.flat_core.specs.Parts.{Here}
 use Rattle.flat_parts.specs.Reading.{is_flagged}
+use Rattle.flat_items.specs.Places.{place_at}
 use Rattle.flat_items.specs.Plans.{arrivals_if}
 use Rattle.lowered_core.specs.Lowered.{Layout}
 use Rattle.lowered_items.specs.declared.plans.Plan as L
 use Rattle.lowered_items.specs.declared.plans.Labels as N
 use Rattle.lowered_items.specs.declared.plans.Cases as C
-use Rattle.lowered_items.specs.Places.{place_at}
 
 -- each sort of labels has every seventh code
 abbrev pub layout_of : L.Plan → Layout

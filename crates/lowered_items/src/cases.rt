@@ -11,12 +11,13 @@ ghost use Rattle.lowered_items.specs.Choices.{AreCases, breaks_of, otherwise_of,
 ghost use Rattle.flat_items.specs.Plans.{aim_of, here_of};
 ghost use Rattle.lowered_items.specs.Plans.{entered_at, arrivals_of, case_names, number_label};
 
-use crate::places::{no_places, place_of, places_of};
 use crate::plans::{Cases, Inside, Labels, case_label, entered};
 use crate::values::into_source;
 use c_tree::{Expression, Item, Section, Selector};
 use c_types::{IntKind, List, Memory};
-use flat_items::{Aim, Here, add, add_goto, add_label, assignment, case_test};
+use flat_items::{
+    Aim, Here, add, add_goto, add_label, assignment, case_test, no_places, place_of, places_of,
+};
 use flat_parts::{case_number, case_numbers, leaves, switch_has_default, switch_kind};
 use std::alloc::Global;
 

@@ -6,7 +6,6 @@ mod jumps;
 mod loops;
 mod numbers;
 mod pieces;
-mod places;
 mod plans;
 mod values;
 mod walk;

@@ -2,10 +2,9 @@ ghost use Rattle.std.specs.Prelude.{◌≡◌, ◌+◌, ◌*◌, ◌^◌, ◌<�
 ghost use Rattle.flat_items.specs.Plans.{here_of};
 ghost use Rattle.lowered_items.specs.Plans.{labels_at, entered_at};
 
-use crate::places::CasePlaces;
 use c_tree::Slot;
 use c_types::{IntKind, List, Memory};
-use flat_items::Here;
+use flat_items::{CasePlaces, Here};
 
 /// What a flat list takes of its function.
 #[derive(Drop)]

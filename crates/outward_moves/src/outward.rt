@@ -54,7 +54,7 @@ fn move_out_items(
         return Err(Memory);
     }
     let spare = make_spare(alloc, &items[at], branch)?;
-    items.reserve(1)?;
+    items.reserve_exact(1)?;
     leave_at(alloc, items, at, branch, leap, label, spare)?;
     insert_at(items, at + 1, Item::Leap(label));
     Ok(())

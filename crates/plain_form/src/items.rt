@@ -126,7 +126,7 @@ fn made_items(alloc: Global, guards: &Guards, list: &List<Item>) -> Result<List<
 fn made_slice(alloc: Global, guards: &Guards, items: &[Item]) -> Result<List<Item>, Memory>
     ensures { IfOk result (λ it. it ≡ the_made_items guards.now items.now) }
 {
-    let mut out = List::new(alloc);
+    let mut out = List::from_vec(Vec::with_capacity(alloc, items.len())?);
     for item in items {
         out.push(made_item(alloc, guards, item)?)?;
     }

@@ -1,4 +1,4 @@
-ghost use Rattle.std.specs.Prelude.{◌≡◌, ◌++◌, ◌∷◌, ◌&&◌, not, List as Several, IfOk, OnOk};
+ghost use Rattle.std.specs.Prelude.{◌≡◌, ◌+◌, ◌≤◌, ◌++◌, ◌∷◌, ◌&&◌, not, List as Several, IfOk, OnOk, vec_len};
 ghost use Rattle.c_tree.specs.declared.tree.Section.{Section, out-Section};
 ghost use Rattle.c_tree.specs.TextItems.{is_empty};
 ghost use Rattle.plain_core.specs.Plain.{is_break as the_is_break, last_is_break as the_last_is_break, ended as the_ended, with_entries as the_with_entries, given as the_given};
@@ -8,6 +8,19 @@ use c_tree::{Item, Section};
 use c_types::{List, MOST, Memory};
 use std::alloc::Global;
 
+/// One list behind another, where the first is the shorter: the entries of the second stay in their room.
+fn with_front<T: Drop>(a: Vec<T>, b: Vec<T>) -> Result<List<T>, Memory>
+    requires { vec_len a + vec_len b ≤ 4294967295 }
+    ensures { IfOk result (λ it. it ≡ a.items ++ b.items) }
+{
+    let mut a = a;
+    let mut b = b;
+    let count = b.len();
+    b.append(&mut a)?;
+    b.rotate_left(count);
+    Ok(List::from_vec(b))
+}
+
 /// One list behind another. `Memory` also where there are too many entries for a list.
 pub fn joined<T: Drop>(a: List<T>, b: List<T>) -> Result<List<T>, Memory>
     ensures { IfOk result (λ it. it ≡ a ++ b) }
@@ -16,6 +29,9 @@ pub fn joined<T: Drop>(a: List<T>, b: List<T>) -> Result<List<T>, Memory>
     let mut b = b.into_vec();
     if a.len() > MOST - b.len() {
         return Err(Memory);
+    }
+    if a.len() < b.len() {
+        return with_front(a, b);
     }
     a.append(&mut b)?;
     Ok(List::from_vec(a))

@@ -1,22 +1,20 @@
-use Rattle.std.proofs.Common.{◌≡◌, ◌≤◌, sym, subst, ◌∙◌, arith}
+use Rattle.std.proofs.Common.{◌≡◌, sym, subst, ◌∙◌}
 use Rattle.flat_names.specs.Gathered.{all_used}
 use Rattle.flat_names.specs.Numbers.{IsUsedBelow, AreUsedBelow}
-use Rattle.flat_names.proofs.UsedBelow.{next_of, number_kept, fewer, least, less}
+use Rattle.flat_names.proofs.UsedBelow.{next_of, number_kept}
 use Rattle.flat_names.proofs.numbers.fresh_beside.Goals as goal
 
 pub free_from-requires-clause-first : goal.free_from-requires-clause-first
 free_from-requires-clause-first c =
     let us = all_used c.args.used.now in
-    let next = next_of us c.args.base.now c.as_bytes-key.result.now c.args.numbers.now c.next.result (c.as_bytes-key.ensures.value ∙ c.as_str-then-contains.ensures) c.next.ensures c.requires in
-    let enough = c.in_ok-most.ensures.enough in
-    subst (λ n. 2 ≤ n) (sym c.min-start.ensures) (least c.next.result c.in_ok-most.most next.0 (omega (arith, enough)))
+    let next = next_of us c.args.base.now c.as_bytes-key.result.now c.args.numbers.now c.next-start.result (c.as_bytes-key.ensures.value ∙ c.as_str-then-contains.ensures) c.next-start.ensures c.requires in
+    next.0
 
 pub free_from-requires-clause-used : goal.free_from-requires-clause-used
 free_from-requires-clause-used c =
     let us = all_used c.args.used.now in
-    let next = next_of us c.args.base.now c.as_bytes-key.result.now c.args.numbers.now c.next.result (c.as_bytes-key.ensures.value ∙ c.as_str-then-contains.ensures) c.next.ensures c.requires in
-    subst (λ b. IsUsedBelow us b c.min-start.result) (sym c.as_str-then-contains-2.ensures)
-    (subst (IsUsedBelow us c.args.base.now) (sym c.min-start.ensures) (fewer us c.args.base.now _ c.next.result (less c.next.result c.in_ok-most.most) next.1))
+    let next = next_of us c.args.base.now c.as_bytes-key.result.now c.args.numbers.now c.next-start.result (c.as_bytes-key.ensures.value ∙ c.as_str-then-contains.ensures) c.next-start.ensures c.requires in
+    subst (λ b. IsUsedBelow us b c.next-start.result) (sym c.as_str-then-contains-2.ensures) next.1
 
 pub returns-in_ok-put-clause-numbers : goal.returns-in_ok-put-clause-numbers
 returns-in_ok-put-clause-numbers c =

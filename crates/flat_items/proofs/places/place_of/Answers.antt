@@ -4,8 +4,8 @@ use Rattle.std.specs.BTreeMap.{get, get_by}
 use Rattle.std.specs.Int.{w128}
 use Rattle.std.specs.Option.{unwrap_or}
 use Rattle.std.specs.Ordering.{int_cmp}
-use Rattle.lowered_items.specs.Places.{place_at}
-use Rattle.lowered_items.proofs.places.place_of.Goals as goal
+use Rattle.flat_items.specs.Places.{place_at}
+use Rattle.flat_items.proofs.places.place_of.Goals as goal
 
 pub returns-in-Some-get : goal.returns-in-Some-get
 returns-in-Some-get c =

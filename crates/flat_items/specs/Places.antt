@@ -4,7 +4,7 @@ use Rattle.std.specs.BTreeMap.{get}
 use Rattle.std.specs.Option.{unwrap_or}
 use Rattle.std.specs.Ordering.{int_cmp}
 use Rattle.flat_core.specs.FlatForm.{place_of}
-use Rattle.lowered_items.specs.declared.places.CasePlaces as P
+use Rattle.flat_items.specs.declared.places.CasePlaces as P
 
 -- the place of a number; what is none, as that of a case that is no constant, comes behind
 abbrev pub place_at : P.CasePlaces → Option ℤ → ℕ

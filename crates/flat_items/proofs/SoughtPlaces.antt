@@ -5,8 +5,8 @@ use Rattle.std.specs.BTreeMap.{get}
 use Rattle.std.specs.Option.{unwrap_or}
 use Rattle.std.specs.Ordering.{int_cmp}
 use Rattle.flat_core.specs.FlatForm.{same_number, place_of}
-use Rattle.lowered_items.specs.declared.places.CasePlaces as P
-use Rattle.lowered_items.specs.Places.{place_at}
+use Rattle.flat_items.specs.declared.places.CasePlaces as P
+use Rattle.flat_items.specs.Places.{place_at}
 
 -- the place of the first that is the number, where these stand from a place on
 abbrev pub sought : Option ℤ → List (Option ℤ) → ℕ → Option ℕ
@@ -50,3 +50,8 @@ all_entered p ms k b e inv (Some n) =
     let same : length ms ≡ 0 + length ms = omega arith in
     let place : 0 + place_of (Some n) ms ≡ place_of (Some n) ms = omega arith in
     ap (λ o. unwrap_or o p.behind) (inv n ∙ ap (λ z. sought (Some n) (drop z ms) z) all) ∙ ap (unwrap_or (sought (Some n) ms 0)) (b ∙ same) ∙ sought_is n ms 0 ∙ place
+
+-- where there are none
+pub none_there : (p : P.CasePlaces) → p.table.entries ≡ [] → p.behind ≡ 0 → (n : Option ℤ) → place_at p n ≡ place_of n []
+none_there p e b None = b
+none_there p e b (Some n) = rw (e, b) refl

@@ -2,7 +2,7 @@ use Rattle.std.proofs.Common.{◌≡◌, [], ◌++◌}
 use Rattle.c_types.specs.Words.{known_functions}
 use Rattle.c_copies.specs.Names.{with_names}
 use Rattle.c_copies.proofs.NameLemmas.{then_names}
-use Rattle.fresh_names.proofs.used.file_names.Goals as goal
+use Rattle.fresh_names.proofs.file_names.file_names.Goals as goal
 
 pub returns : goal.returns
 returns c =
