@@ -1,5 +1,5 @@
 -- What one simplification is, by its kind, and a body on the way.
-use Rattle.std.proofs.Common.{ℕ, refl, ◌≡◌, ◌≢◌, inl, inr, List, Option, Some, None, IsSome, Result, Ok, Err, OnErr, sym, ◌∙◌}
+use Rattle.std.proofs.Common.{ℕ, refl, ◌≡◌, ◌≢◌, inl, inr, List, Option, Some, None, IsSome, Result, Ok, Err, OnOk, OnErr, sym, ◌∙◌}
 use Rattle.c_tree.specs.declared.tree.Item.{Item}
 use Rattle.c_tree.specs.Trees.{trees_of}
 use Rattle.move_records.specs.declared.moves.MoveKind.TheVariants.{Z1, Z2, Z3, Z4, Z5}
@@ -38,3 +38,7 @@ is_next c old new e a = record { next = e; applied = a }
 pub always_err : {T E P : Type 0} (r : Result T E) → P → OnErr r P
 always_err (Ok x) p = tt
 always_err (Err e) p = p
+
+pub always_ok : {T E P : Type 0} (r : Result T E) → P → OnOk r P
+always_ok (Ok x) p = p
+always_ok (Err e) p = tt

@@ -3,6 +3,7 @@ pub mod FirstPlaces
 pub mod SamePaths
 pub mod Lawfuls
 pub mod Alike
-pub mod Again
-pub mod ShortTests
-pub mod AgainPlaces
+pub mod SettledItems
+pub mod Onward
+pub mod Tails
+pub mod OnwardPlaces

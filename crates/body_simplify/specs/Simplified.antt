@@ -1,14 +1,19 @@
 -- A body and a function after their simplifications.
-use Rattle.std.specs.Prelude.{◌≡◌, List, Option, Some}
+use Rattle.std.specs.Prelude.{◌≡◌, ◌⊎◌, ℕ, suc, List, Option, Some, None, slice_get}
 use Rattle.c_tree.specs.declared.tree.Item.{Item}
 use Rattle.c_tree.specs.declared.tree.Function.{Function}
+use Rattle.c_tree.specs.declared.tree.Path.{Path}
+use Rattle.c_tree.specs.Paths.{list_at}
 use Rattle.c_tree.specs.Trees.{trees_of}
 use Rattle.c_tree.specs.WellMade.{IsWellMade}
 use Rattle.move_core.specs.Bodies.{with_body}
 use Rattle.move_core.specs.Laws.{Keeps}
 use Rattle.move_records.specs.declared.moves.Move.{Move}
+use Rattle.move_records.specs.declared.moves.MoveKind.TheVariants.{Z2, Z4}
 use Rattle.guard_simplify.specs.declared.choice.Choice.{Choice}
 use Rattle.guard_simplify.specs.Choice.{choices, first}
+use Rattle.guard_simplify.specs.Views.{guard, beside, next_guard, arms_item}
+use Rattle.guard_simplify.specs.Later.{AreBarred}
 use Rattle.guard_simplify.specs.Application.{Reaches, IsSimple, IsNext}
 use Rattle.guard_simplify.specs.Naming.{choices_named}
 
@@ -45,12 +50,26 @@ pub record KeepsBody (f g : Function) : Type 0 where
   pub well_made : IsWellMade (trees_of body) → IsWellMade (trees_of new)
   pub keeps : Keeps body new
 
--- the body stands after this simplification, which was the next
-pub record IsAfter (c : Choice) (body : List Item) : Type 0 where
+-- the item before the item i of the list doesn't become one with it
+abbrev pub IsApart : List Item → ℕ → Type 0
+IsApart xs i = (n : ℕ) (x : Item) → i ≡ suc n → slice_get xs n ≡ Some x → beside (guard x) (next_guard (slice_get xs i)) (λ l. arms_item l x) ≡ None
+
+-- nor does that before the item at a path of a body
+abbrev pub IsApartAt : List Item → Path → Type 0
+IsApartAt body at = (xs : List Item) → list_at body at.steps ≡ Some xs → IsApart xs at.item
+
+-- nothing before the place of the simplification can have become possible in the body after it
+abbrev pub GoesOn : Choice → List Item → Type 0
+GoesOn c body = ((c.kind ≡ Z2) × IsApartAt body c.path) ⊎ (c.kind ≡ Z4)
+
+-- the body stands after this simplification, which was the next; these are the labels whose guards couldn't go before it
+pub record IsAfter (c : Choice) (labels : List ℕ) (body : List Item) : Type 0 where
   pub old : List Item
   pub next : IsNext c old body
+  pub marks : AreBarred labels old
 
--- how far a body has come: the simplifications so far, and the next one
-pub record IsSimplifiedTo (old new : List Item) (cs : List Choice) (next : Option Choice) : Type 0 where
+-- how far a body has come: the simplifications so far, the next one, and the labels whose guards can't go
+pub record IsSimplifiedTo (old new : List Item) (cs : List Choice) (next : Option Choice) (labels : List ℕ) : Type 0 where
   pub reaches : Reaches old cs new
   pub next_is : next ≡ first (choices (trees_of new))
+  pub marks : AreBarred labels new

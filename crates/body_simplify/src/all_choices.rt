@@ -28,10 +28,11 @@ pub fn simplify_body(alloc: Global, body: &mut List<Item>) -> Result<List<Choice
     ensures err { OnErr result (IsOnTheWay body.old body.new) }
 {
     let mut choices = List::new(alloc);
-    let mut next = first_choice(alloc, body)?;
+    let mut barred = List::new(alloc);
+    let mut next = first_choice(alloc, body, &mut barred)?;
     while let Some(choice) = next {
         apply(alloc, body, &choice)?;
-        next = next_choice(alloc, body, &choice)?;
+        next = next_choice(alloc, body, &mut barred, &choice)?;
         choices.push(choice)?;
     }
     Ok(choices)

@@ -1,5 +1,5 @@
 -- What items show of their trees, item by item.
-use Rattle.std.proofs.Common.{◌≡◌, ◌↔◌, ℕ, ℤ, zero, suc, ◌+◌, ◌<◌, ◌≤◌, Bool, true, false, cond, ◌&&◌, ◌||◌, not, ◌==◌, List, [], ◌∷◌, ◌++◌, length, drop, get_or, Option, Some, None, is_some, slice_get, refl, sym, ap, ◌∙◌}
+use Rattle.std.proofs.Common.{◌≡◌, ◌↔◌, ℕ, ℤ, zero, suc, ◌+◌, ◌<◌, ◌≤◌, Bool, true, false, cond, ◌&&◌, ◌||◌, not, ◌==◌, List, [], ◌∷◌, ◌++◌, length, drop, get_or, Option, Some, None, is_some, slice_get, option_map, refl, sym, ap, ◌∙◌}
 use Rattle.std.proofs.lemmas.List.{at_drop_more, at_drop_all}
 use Rattle.std.proofs.Math.Path.{fun_ext}
 use Rattle.c_types.specs.declared.kinds.IntKind.{IntKind}
@@ -18,7 +18,6 @@ use Rattle.c_tree.specs.declared.tree.Test.TheOpen as OT
 use Rattle.c_tree.specs.declared.tree.Expression.{Expression, out-Expression}
 use Rattle.c_tree.specs.declared.tree.Branch.{Branch}
 use Rattle.c_tree.specs.declared.tree.Branch.TheVariants as B
-use Rattle.c_tree.specs.declared.tree.Step.{Step}
 use Rattle.c_tree.specs.Paths.{list_of}
 use Rattle.c_tree.specs.TestTrees.{TestTree, test_layer, test_tree, selector_tree}
 use Rattle.c_tree.specs.TestTrees as PT
@@ -442,16 +441,9 @@ section_choices-all bar at k cs i h = at_drop_all (λ z. choices_of_sections bar
 pub same_choices : (f g : ℕ → Bool) (xs : Forest) → ((l : ℕ) → f l ≡ g l) → choices_from f 0 xs ≡ choices_from g 0 xs
 same_choices f g xs h = ap (λ z. choices_from z 0 xs) (fun_ext h)
 
-pub under_found : (i : ℕ) (b : Branch) (cs : List Choice) (d : Choice) (steps : List Step) → first cs ≡ Some d → steps ≡ record { item = i; branch = b } ∷ d.path.steps
-    → Some (record { kind = d.kind; label = d.label; path = record { steps = steps; item = d.path.item } }) ≡ first (under i b cs)
-under_found i b [] d steps e f = cc
-under_found i b (c ∷ cs) d steps e f =
-    let g : d ≡ c = cc in
-    ap (λ (z : List Step). Some (record { kind = d.kind; label = d.label; path = record { steps = z; item = d.path.item } })) f ∙ ap (λ (z : Choice). Some (under_one i b z)) g
-
-pub under_none : (i : ℕ) (b : Branch) (cs : List Choice) → first cs ≡ None → first (under i b cs) ≡ None
-under_none i b [] e = refl
-under_none i b (c ∷ cs) e = cc
+pub under_first : (i : ℕ) (b : Branch) (cs : List Choice) → option_map (under_one i b) (first cs) ≡ first (under i b cs)
+under_first i b [] = refl
+under_first i b (c ∷ cs) = refl
 
 -- the item i decides, or what is behind it does
 module _ (bar : ℕ → Bool) (xs : List Item) (i : ℕ) (x : Item) (h : i < length xs) (e : x ≡ get_or xs i x) where

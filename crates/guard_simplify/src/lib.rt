@@ -8,14 +8,16 @@ mod choice;
 mod find;
 mod marks;
 mod repeats;
+mod resume;
 mod shapes;
 
 ghost use Rattle.guard_simplify.specs.Laws.{ChoiceLaws};
 
 pub use choice::{Choice, Repeat};
-pub use find::{first_choice, item_at, own_of_kind};
+pub use find::{first_choice, item_at, neighbours, own_of_kind};
 pub use marks::barred_labels;
 pub use repeats::repeat_of;
+pub use resume::choice_from;
 
 /// Simplifications keep a body well made, a steady program steady, and its behaviour.
 pub fn choice_laws()

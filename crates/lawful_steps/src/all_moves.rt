@@ -1,14 +1,16 @@
 //! Moves of a report, in the functions of a program.
 
-ghost use Rattle.std.specs.Prelude.{◌≡◌, IfOk, IfSome, IfNone, MatchOption, IsTrue, IsFalse, OnOk, All, true};
+ghost use Rattle.std.specs.Prelude.{◌≡◌, IfOk, IfSome, IfNone, List, MatchOption, IsTrue, IsFalse, OnOk, All, true};
 ghost use Rattle.c_tree.specs.declared.tree.Top.{Top as TheTop};
 ghost use Rattle.lawful_moves.specs.Lawful.{IsOther, IsMovedBy, OneMoved, Moves};
 ghost use Rattle.lawful_moves.specs.Replayed.{converted_top, converted_tops, IsTopWellMade, IsTopLeapless};
+ghost use Rattle.function_places.specs.Places.{Finds};
 ghost use Rattle.lawful_steps.specs.Steps.{IsFlatOf, IsPlaceOf, StopsAt, IsTopMoved};
 
 use crate::one_move::{has_leap_left, move_in};
 use c_tree::Top;
 use c_types::{List, Memory, Name};
+use function_places::Places;
 use guard_vars::convert;
 use move_records::Move;
 use std::alloc::Global;
@@ -40,27 +42,14 @@ pub fn convert_tops(alloc: Global, tops: &mut List<Top>) -> Result<(), Memory>
     Ok(())
 }
 
-/// Whether this is a flat function of the name.
-fn is_flat_of(top: &Top, name: &Name) -> bool
-    ensures yes { IsTrue result → IsFlatOf name.now top.now }
-    ensures no { IsFalse result → IsOther name.now top.now }
-{
-    match top {
-        Top::Function(function) => function.flat && function.name == *name,
-        _ => false,
-    }
-}
-
 /// The place of the first flat function of the name.
-fn place_of(tops: &[Top], name: &Name) -> Option<usize>
-    ensures { MatchOption result (All (IsOther name.now) tops.now) (λ i. IsPlaceOf name.now tops.now i) }
+fn place_of(places: &Places, name: &Name) -> Option<usize>
+    ensures { (tops : List TheTop) → Finds places.now tops → MatchOption result (All (IsOther name.now) tops) (λ i. IsPlaceOf name.now tops i) }
 {
-    for i in 0..tops.len() {
-        if is_flat_of(&tops[i], name) {
-            return Some(i);
-        }
+    match places.find(name) {
+        Some(at) => Some(at as usize),
+        None => None,
     }
-    None
 }
 
 fn move_top(alloc: Global, top: &mut Top, step: &Move) -> Result<bool, Memory>
@@ -76,12 +65,18 @@ fn move_top(alloc: Global, top: &mut Top, step: &Move) -> Result<bool, Memory>
 }
 
 /// Makes one move, if it is lawful. After another answer the functions are given up.
-fn make_move(alloc: Global, tops: &mut List<Top>, step: &Move) -> Result<bool, Memory>
-    requires { All IsTopWellMade tops.old }
+fn make_move(
+    alloc: Global,
+    places: &Places,
+    tops: &mut List<Top>,
+    step: &Move,
+) -> Result<bool, Memory>
+    requires made { All IsTopWellMade tops.old }
+    requires places { Finds places.now tops.old }
     ensures yes { IfOk result (λ b. IsTrue b → OneMoved step.now tops.old tops.new) }
     ensures no { IfOk result (λ b. IsFalse b → (us : List TheTop) → ¬ (OneMoved step.now tops.old us)) }
 {
-    match place_of(tops.as_slice(), &step.function) {
+    match place_of(places, &step.function) {
         Some(i) => move_top(alloc, tops.at_mut(i), step),
         None => Ok(false),
     }
@@ -98,8 +93,9 @@ pub fn make_moves(
     ensures all { IfOk result (λ r. IfNone r (Moves tops.old moves.now tops.new)) }
     ensures stopped { IfOk result (λ r. IfSome r (λ n. StopsAt n moves.now tops.old)) }
 {
+    let places = Places::new(alloc, tops.as_slice())?;
     for i in 0..moves.len() {
-        if !make_move(alloc, tops, &moves[i])? {
+        if !make_move(alloc, &places, tops, &moves[i])? {
             return Ok(Some(i));
         }
     }

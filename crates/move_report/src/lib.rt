@@ -5,5 +5,6 @@ mod line;
 mod read;
 mod write;
 
+pub use move_records::{Move, MoveKind};
 pub use read::{ReportStop, read_report};
 pub use write::{report_to, write_report};

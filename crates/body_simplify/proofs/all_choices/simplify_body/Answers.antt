@@ -8,7 +8,7 @@ use Rattle.body_simplify.proofs.Applied.{is_next, always_err}
 use Rattle.body_simplify.proofs.all_choices.simplify_body.Goals as goal
 
 pub loop-next-init : goal.loop-next-init
-loop-next-init c = record { reaches = subst (λ z. Reaches c.args.body.now z c.args.body.now) (sym c.new-choices.ensures) none; next_is = c.in_ok-next.ensures }
+loop-next-init c = record { reaches = subst (λ z. Reaches c.args.body.now z c.args.body.now) (sym c.new-choices.ensures) none; next_is = c.in_ok-next.ensures.next; marks = c.in_ok-next.ensures.marks }
 
 pub returns-in_err-next-clause-well_made : goal.returns-in_err-next-clause-well_made
 returns-in_err-next-clause-well_made c = λ w. w
@@ -31,7 +31,7 @@ loop-next-smaller c = (next_facts c.in-Some.choice c.loop-next.body c.apply.new.
 pub loop-next-preserved : goal.loop-next-preserved
 loop-next-preserved c =
     let n = is_next c.in-Some.choice c.loop-next.body c.apply.new.body (sym c.loop-next.invariant.next_is ∙ c.in-Some.is) c.in_ok-apply.ensures.ok in
-    record { reaches = subst (λ z. Reaches c.args.body.now z c.apply.new.body) (sym c.in_ok-push.ensures.ok) (then c.in-Some.choice c.loop-next.invariant.reaches n); next_is = c.in_ok-next-2.ensures }
+    record { reaches = subst (λ z. Reaches c.args.body.now z c.apply.new.body) (sym c.in_ok-push.ensures.ok) (then c.in-Some.choice c.loop-next.invariant.reaches n); next_is = c.in_ok-next-2.ensures.next; marks = c.in_ok-next-2.ensures.marks }
 
 pub returns-in_err-push-clause-well_made : goal.returns-in_err-push-clause-well_made
 returns-in_err-push-clause-well_made c =
@@ -71,4 +71,4 @@ returns-clause-behaviour c = reached_keeps c.loop-next.invariant.reaches
 
 pub next_choice-requires : goal.next_choice-requires
 next_choice-requires c =
-    record { old = c.loop-next.body; next = is_next c.in-Some.choice c.loop-next.body c.apply.new.body (sym c.loop-next.invariant.next_is ∙ c.in-Some.is) c.in_ok-apply.ensures.ok }
+    record { old = c.loop-next.body; next = is_next c.in-Some.choice c.loop-next.body c.apply.new.body (sym c.loop-next.invariant.next_is ∙ c.in-Some.is) c.in_ok-apply.ensures.ok; marks = c.loop-next.invariant.marks }

@@ -4,7 +4,7 @@ use Rattle.body_simplify.specs.Simplified.{IsSimplifiedTo}
 use Rattle.body_simplify.proofs.all_choices.simplify_body.Given as goal
 
 abbrev pub invariant-loop-next : goal.invariant-loop-next
-invariant-loop-next l = IsSimplifiedTo l.initial.body l.body l.choices l.next
+invariant-loop-next l = IsSimplifiedTo l.initial.body l.body l.choices l.next l.barred
 
 abbrev pub decreases-loop-next : goal.decreases-loop-next
 decreases-loop-next l = size (trees_of l.body)

@@ -1,12 +1,9 @@
-use Rattle.std.proofs.Common.{refl, subst, arith, All}
-use Rattle.std.proofs.lemmas.List.Elements.{All-more}
-use Rattle.lawful_moves.specs.Lawful.{IsOther}
-use Rattle.lawful_steps.proofs.Making.{taken}
+use Rattle.std.proofs.Common.{Some, None, sym, ◌∙◌}
+use Rattle.lawful_steps.proofs.Placing.{placed}
 use Rattle.lawful_steps.proofs.all_moves.place_of.Goals as goal
 
-pub loop-i-preserved : goal.loop-i-preserved
-loop-i-preserved c =
-    All-more (IsOther c.args.name.now) c.args.tops.now c.loop-i.i c.index-tops-i.result c.loop-i-test.true c.loop-i.invariant (subst (IsOther c.args.name.now) c.index-tops-i.is (c.if-is_flat_of.ensures.no refl))
+pub returns-in-Some : goal.returns-in-Some
+returns-in-Some c ts h = placed c.args.name.now ts (Some c.in-Some.at) (sym c.in-Some.is ∙ c.find.ensures ts h)
 
-pub returns : goal.returns
-returns c = subst (All (IsOther c.args.name.now)) (taken c.args.tops.now c.loop-i.i (omega (arith, c.loop-i-test.false))) c.loop-i.invariant
+pub returns-in-None : goal.returns-in-None
+returns-in-None c ts h = placed c.args.name.now ts None (sym c.in-None.is ∙ c.find.ensures ts h)
