@@ -1,12 +1,24 @@
 -- Where a text is there that is accepted, and no read fails, a command ends without a translation for want of memory alone.
-use Rattle.std.proofs.Common.{◌≡◌, ℕ, ◌≤◌, List, length, Option, None, Some, inl, inr, refl, sym, subst, ◌∙◌, arith}
+use Rattle.std.proofs.Common.{◌≡◌, ℕ, ◌+◌, ◌<◌, ◌≤◌, List, length, replicate, Option, IfSome, IsSomeAnd, None, Some, inl, inr, refl, sym, subst, ◌∙◌, arith}
+use Rattle.std.proofs.lemmas.List.{length-replicate}
 use Rattle.std.specs.FinMap.{get}
 use Rattle.c_types.specs.declared.refusal.Refusal.{Refusal}
 use Rattle.rg_ports.specs.Files.{Files}
+use Rattle.rg_ports.specs.declared.reads.ReadCounts.{ReadCounts}
 use Rattle.command_lines.specs.declared.status.Status.{Status}
 use Rattle.command_lines.specs.declared.status.Status.TheVariants as status
 use Rattle.file_commands.specs.Taken.{HandsOver, Lacks}
 use Rattle.file_commands.specs.Translated.{IsTooLongOrRefused, Untranslated, Completes}
+
+-- where a shelf found its file to be longer than this, there is a text that is longer
+pub too_long_text : (before : Option Files) (from : List ℕ) (most : ℕ) → IfSome before (λ files. IsSomeAnd (get files from) (λ bytes. most < length bytes))
+    → HandsOver before from (λ text. most < length text)
+too_long_text None from most h = (replicate (most + 1) 0, let long = length-replicate {A = ℕ} (most + 1) 0 in omega (arith, long))
+too_long_text (Some files) from most h = held (get files from) h
+  where
+    held : (found : Option (List ℕ)) → IsSomeAnd found (λ bytes. most < length bytes) → (text : List ℕ) × (found ≡ Some text) × (most < length text)
+    held None h = absurd h
+    held (Some text) h = (text, refl, h)
 
 -- the text that the shelf hands over is the one that it holds
 pub handed : (before : Option Files) (files : Files) (from text : List ℕ) (P : List ℕ → Type 0) → before ≡ Some files → get files from ≡ Some text
@@ -29,7 +41,7 @@ module _ (accepts : List ℕ → Type 0) (refuses : List ℕ → Refusal → Typ
     | inr whole ↦ apart text refusal inside whole.1
   ]
 
-  pub completes : (said : List ℕ → Type 0) (from : List ℕ) (before : Option Files) (reads reads' writes writes' : ℕ) (result : Status)
+  pub completes : (said : List ℕ → Type 0) (from : List ℕ) (before : Option Files) (reads reads' : ReadCounts) (writes writes' : ℕ) (result : Status)
       → Untranslated said refuses from before reads reads' result → Completes accepts from before reads reads' writes writes' result
   completes said from before reads reads' writes writes' status.Done h = absurd h
   completes said from before reads reads' writes writes' (status.Refused refusal) h = λ files text told there short inside still stay.

@@ -3,6 +3,7 @@ use Rattle.std.specs.Prelude.{◌≡◌, ℕ, List, Option}
 use Rattle.c_types.specs.declared.refusal.Refusal.{Refusal}
 use Rattle.rg_ports.specs.Count.{Rose}
 use Rattle.rg_ports.specs.Files.{Files}
+use Rattle.rg_ports.specs.declared.reads.ReadCounts.{ReadCounts}
 use Rattle.rg_ports.specs.Written.{Written, more, FrontWritten}
 use Rattle.command_lines.specs.declared.status.Status.{Status}
 use Rattle.command_lines.specs.declared.status.Status.TheVariants as status
@@ -37,7 +38,7 @@ Hands bytes out out' faults faults' err err' told told' status.Absent = ⊥
 
 -- Each status of a command that writes to `out` what becomes of a file's text, or the report; `untouched` says that nothing was
 -- done to `out`.
-abbrev pub Shows : (List ℕ → Translation → Type 0) → (List ℕ → Refusal → Type 0) → List ℕ → Part → Option Files → ℕ → ℕ
+abbrev pub Shows : (List ℕ → Translation → Type 0) → (List ℕ → Refusal → Type 0) → List ℕ → Part → Option Files → ReadCounts → ReadCounts
     → Type 0 → Written → Written → ℕ → ℕ → Written → Written → ℕ → ℕ → Status → Type 0
 Shows gives refuses from part before reads reads' untouched out out' faults faults' err err' told told' status =
     Translates (λ line. Tells err err' told told' line) gives refuses from before reads reads'

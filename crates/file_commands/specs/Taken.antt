@@ -4,6 +4,7 @@ use Rattle.std.specs.FinMap.{get}
 use Rattle.c_types.specs.declared.refusal.Refusal.{Refusal}
 use Rattle.rg_ports.specs.Count.{Rose}
 use Rattle.rg_ports.specs.Files.{Files}
+use Rattle.rg_ports.specs.declared.reads.ReadCounts.{ReadCounts}
 use Rattle.command_lines.specs.declared.status.Status.{Status}
 use Rattle.command_lines.specs.declared.status.Status.TheVariants as status
 use Rattle.command_lines.specs.Lines.{refusal_line, memory_line, read_line, absent_line}
@@ -11,9 +12,9 @@ use Rattle.command_lines.specs.Lines.{refusal_line, memory_line, read_line, abse
 abbrev pub too_long : Refusal
 too_long = record { reason = 1; line = 1; column = 1; at = 0 }
 
--- where the shelf tells its files, it holds a text under the name, and the fact holds of that text
+-- The shelf handed over a text of which the fact holds; where it tells its files, it holds that text under the name.
 abbrev pub HandsOver : Option Files → List ℕ → (List ℕ → Type 0) → Type 0
-HandsOver None from P = Unit {0}
+HandsOver None from P = (text : List ℕ) × P text
 HandsOver (Some files) from P = (text : List ℕ) × (get files from ≡ Some text) × P text
 
 -- where the shelf tells its files, none has the name
@@ -27,20 +28,21 @@ pub record IsTooLong (said : List ℕ → Type 0) (most : ℕ) (from : List ℕ)
   pub text : HandsOver before from (λ text. most < length text)
   pub line : said (refusal_line from too_long)
 
--- no file has the name
-pub record IsAbsent (said : List ℕ → Type 0) (from : List ℕ) (before : Option Files) : Type 0 where
+-- the shelf found no file of the name
+pub record IsAbsent (said : List ℕ → Type 0) (from : List ℕ) (before : Option Files) (reads reads' : ReadCounts) : Type 0 where
   pub lacks : Lacks before from
+  pub rose : Rose reads.absences reads'.absences
   pub line : said (absent_line from)
 
 -- a read failed
-pub record IsReadFault (said : List ℕ → Type 0) (reads reads' : ℕ) : Type 0 where
-  pub rose : Rose reads reads'
+pub record IsReadFault (said : List ℕ → Type 0) (reads reads' : ReadCounts) : Type 0 where
+  pub rose : Rose reads.faults reads'.faults
   pub line : said read_line
 
 -- Why a command ends that takes no text, by its status, and the line that was said.
-abbrev pub Untaken : (List ℕ → Type 0) → ℕ → List ℕ → Option Files → ℕ → ℕ → Status → Type 0
+abbrev pub Untaken : (List ℕ → Type 0) → ℕ → List ℕ → Option Files → ReadCounts → ReadCounts → Status → Type 0
 Untaken said most from before reads reads' (status.Refused refusal) = IsTooLong said most from before refusal
-Untaken said most from before reads reads' status.Absent = IsAbsent said from before
+Untaken said most from before reads reads' status.Absent = IsAbsent said from before reads reads'
 Untaken said most from before reads reads' status.ReadFault = IsReadFault said reads reads'
 Untaken said most from before reads reads' status.Memory = said memory_line
 -- no other status comes

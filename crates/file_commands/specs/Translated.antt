@@ -4,6 +4,7 @@ use Rattle.std.specs.FinMap.{get}
 use Rattle.c_types.specs.declared.refusal.Refusal.{Refusal}
 use Rattle.rg_ports.specs.Count.{Rose}
 use Rattle.rg_ports.specs.Files.{Files}
+use Rattle.rg_ports.specs.declared.reads.ReadCounts.{ReadCounts}
 use Rattle.command_lines.specs.declared.status.Status.{Status}
 use Rattle.command_lines.specs.declared.status.Status.TheVariants as status
 use Rattle.command_lines.specs.Lines.{refusal_line, memory_line}
@@ -30,9 +31,9 @@ pub record IsRefused (said : List ℕ → Type 0) (refuses : List ℕ → Refusa
   pub line : said (refusal_line from refusal)
 
 -- Why a command ends without a translation, by its status, and the line that was said.
-abbrev pub Untranslated : (List ℕ → Type 0) → (List ℕ → Refusal → Type 0) → List ℕ → Option Files → ℕ → ℕ → Status → Type 0
+abbrev pub Untranslated : (List ℕ → Type 0) → (List ℕ → Refusal → Type 0) → List ℕ → Option Files → ReadCounts → ReadCounts → Status → Type 0
 Untranslated said refuses from before reads reads' (status.Refused refusal) = IsRefused said refuses from before refusal
-Untranslated said refuses from before reads reads' status.Absent = IsAbsent said from before
+Untranslated said refuses from before reads reads' status.Absent = IsAbsent said from before reads reads'
 Untranslated said refuses from before reads reads' status.ReadFault = IsReadFault said reads reads'
 Untranslated said refuses from before reads reads' status.Memory = said memory_line
 -- no other status comes
@@ -49,14 +50,14 @@ pub record GoesOn (gives : List ℕ → Translation → Type 0) (from : List ℕ
   pub next : P translation
 
 -- The text of the file was translated, and the command went on; or it wasn't, nothing was touched, and the command ended so.
-abbrev pub Translates : (List ℕ → Type 0) → (List ℕ → Translation → Type 0) → (List ℕ → Refusal → Type 0) → List ℕ → Option Files → ℕ → ℕ
+abbrev pub Translates : (List ℕ → Type 0) → (List ℕ → Translation → Type 0) → (List ℕ → Refusal → Type 0) → List ℕ → Option Files → ReadCounts → ReadCounts
     → (Translation → Type 0) → Type 0 → Status → Type 0
 Translates said gives refuses from before reads reads' P untouched status =
     GoesOn gives from before P ⊎ (untouched × Untranslated said refuses from before reads reads' status)
 
 -- Where the shelf holds a text under the name that is accepted and has at most 1,048,576 bytes, and no read or write
 -- fails, the job is done or memory is refused.
-abbrev pub Completes : (List ℕ → Type 0) → List ℕ → Option Files → ℕ → ℕ → ℕ → ℕ → Status → Type 0
+abbrev pub Completes : (List ℕ → Type 0) → List ℕ → Option Files → ReadCounts → ReadCounts → ℕ → ℕ → Status → Type 0
 Completes accepts from before reads reads' writes writes' result =
     (files : Files) (text : List ℕ) → before ≡ Some files → get files from ≡ Some text → length text ≤ 1048576 → accepts text
-    → ¬ Rose reads reads' → ¬ Rose writes writes' → (result ≡ status.Done) ⊎ (result ≡ status.Memory)
+    → ¬ Rose reads.faults reads'.faults → ¬ Rose writes writes' → (result ≡ status.Done) ⊎ (result ≡ status.Memory)

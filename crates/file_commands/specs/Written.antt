@@ -3,6 +3,7 @@ use Rattle.std.specs.Prelude.{◌≡◌, ℕ, ◌⊎◌, List, Option, None, Som
 use Rattle.std.specs.FinMap.{insert}
 use Rattle.c_types.specs.declared.refusal.Refusal.{Refusal}
 use Rattle.rg_ports.specs.Count.{Rose}
+use Rattle.rg_ports.specs.declared.reads.ReadCounts.{ReadCounts}
 use Rattle.rg_ports.specs.Files.{Files, HoldsPrefix}
 use Rattle.command_lines.specs.declared.status.Status.{Status}
 use Rattle.command_lines.specs.declared.status.Status.TheVariants as status
@@ -61,6 +62,6 @@ Puts said to report before after writes writes' translation status.Absent = ⊥
 -- Each status of a command that writes what becomes of a file's text, with what it says of the files before and after, of
 -- the counts of failed reads and writes before and after, and of the line that was said.
 abbrev pub Writes : (List ℕ → Type 0) → (List ℕ → Translation → Type 0) → (List ℕ → Refusal → Type 0)
-    → List ℕ → List ℕ → Option (List ℕ) → Option Files → Option Files → ℕ → ℕ → ℕ → ℕ → Status → Type 0
+    → List ℕ → List ℕ → Option (List ℕ) → Option Files → Option Files → ReadCounts → ReadCounts → ℕ → ℕ → Status → Type 0
 Writes said gives refuses from to report before after reads reads' writes writes' status =
     Translates said gives refuses from before reads reads' (λ translation. Puts said to report before after writes writes' translation status) (after ≡ before) status

@@ -18,10 +18,10 @@ pub fn show<T: Translator, H: Shelf, O: Sink, E: Sink>(
     out: &mut O,
     err: &mut E,
 ) -> Status
-    ensures shows { Shows T.gives T.refuses from.now part (H.held shelf.old) (H.read_faults shelf.old) (H.read_faults shelf.new)
+    ensures shows { Shows T.gives T.refuses from.now part (H.held shelf.old) (H.reads shelf.old) (H.reads shelf.new)
         (out.new ≡ out.old) (O.written out.old) (O.written out.new) (O.faults out.old) (O.faults out.new)
         (E.written err.old) (E.written err.new) (E.faults err.old) (E.faults err.new) result }
-    ensures completes { Completes T.accepts from.now (H.held shelf.old) (H.read_faults shelf.old) (H.read_faults shelf.new)
+    ensures completes { Completes T.accepts from.now (H.held shelf.old) (H.reads shelf.old) (H.reads shelf.new)
         (O.faults out.old) (O.faults out.new) result }
     ensures kept { H.held shelf.new ≡ H.held shelf.old }
     ensures writes { H.write_faults shelf.new ≡ H.write_faults shelf.old }

@@ -1,6 +1,7 @@
 ghost use Rattle.std.specs.Prelude.{◌≡◌, ◌≤◌, length, IfOk, IfErr, OnOk};
 ghost use Rattle.command_lines.specs.Lines.{Tells};
 ghost use Rattle.file_commands.specs.Taken.{HandsOver, Untaken};
+ghost use Rattle.rg_ports.specs.Reads.{NotFewer, IsOneRead};
 
 use c_types::{Bytes, Refusal};
 use command_lines::{Status, tell, tell_absent, tell_refusal};
@@ -26,9 +27,10 @@ pub fn take_text<H: Shelf, E: Sink>(
     ensures most { IfOk result (λ text. length text ≤ most) }
     ensures silent { OnOk result (err.new ≡ err.old) }
     ensures untaken { IfErr result (Untaken (λ line. Tells (E.written err.old) (E.written err.new) (E.faults err.old) (E.faults err.new) line)
-        most from.now (H.held shelf.old) (H.read_faults shelf.old) (H.read_faults shelf.new)) }
+        most from.now (H.held shelf.old) (H.reads shelf.old) (H.reads shelf.new)) }
     ensures kept { H.held shelf.new ≡ H.held shelf.old }
-    ensures grows { H.read_faults shelf.old ≤ H.read_faults shelf.new }
+    ensures once { IsOneRead (H.reads shelf.old) (H.reads shelf.new) }
+    ensures grows { NotFewer (H.reads shelf.old) (H.reads shelf.new) }
     ensures writes { H.write_faults shelf.new ≡ H.write_faults shelf.old }
 {
     match shelf.read(alloc, from, most) {

@@ -1,6 +1,7 @@
 ghost use Rattle.std.specs.Prelude.{◌≡◌, ◌≤◌, ℕ, List, length, IfOk, IfErr, OnOk, Err};
 ghost use Rattle.command_lines.specs.Lines.{Tells};
 ghost use Rattle.file_commands.specs.Translated.{Becomes, Untranslated, part_of};
+ghost use Rattle.rg_ports.specs.Reads.{NotFewer};
 
 use crate::taken::take_text;
 use c_types::{Bytes, ReadStop, Refusal};
@@ -71,9 +72,9 @@ pub fn translated<T: Translator, H: Shelf, E: Sink>(
     ensures given { IfOk result (λ translation. Becomes T.gives from.now (H.held shelf.old) translation) }
     ensures silent { OnOk result (err.new ≡ err.old) }
     ensures untranslated { IfErr result (Untranslated (λ line. Tells (E.written err.old) (E.written err.new) (E.faults err.old) (E.faults err.new) line)
-        T.refuses from.now (H.held shelf.old) (H.read_faults shelf.old) (H.read_faults shelf.new)) }
+        T.refuses from.now (H.held shelf.old) (H.reads shelf.old) (H.reads shelf.new)) }
     ensures kept { H.held shelf.new ≡ H.held shelf.old }
-    ensures grows { H.read_faults shelf.old ≤ H.read_faults shelf.new }
+    ensures grows { NotFewer (H.reads shelf.old) (H.reads shelf.new) }
     ensures writes { H.write_faults shelf.new ≡ H.write_faults shelf.old }
 {
     let text = take_text(alloc, from, MOST_BYTES, shelf, err)?;

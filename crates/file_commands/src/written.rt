@@ -28,8 +28,8 @@ pub fn write<T: Translator, H: Shelf, E: Sink>(
 ) -> Status
     ensures writes { Writes (λ line. Tells (E.written err.old) (E.written err.new) (E.faults err.old) (E.faults err.new) line)
         T.gives T.refuses from.now to.now.text.now (option_map (λ name. name.now) to.now.report) (H.held shelf.old) (H.held shelf.new)
-        (H.read_faults shelf.old) (H.read_faults shelf.new) (H.write_faults shelf.old) (H.write_faults shelf.new) result }
-    ensures completes { Completes T.accepts from.now (H.held shelf.old) (H.read_faults shelf.old) (H.read_faults shelf.new)
+        (H.reads shelf.old) (H.reads shelf.new) (H.write_faults shelf.old) (H.write_faults shelf.new) result }
+    ensures completes { Completes T.accepts from.now (H.held shelf.old) (H.reads shelf.old) (H.reads shelf.new)
         (H.write_faults shelf.old) (H.write_faults shelf.new) result }
 {
     match translated(alloc, translator, from, shelf, err) {
@@ -48,7 +48,7 @@ pub fn write_translation<H: Shelf, E: Sink>(
     ensures puts { Puts (λ line. Tells (E.written err.old) (E.written err.new) (E.faults err.old) (E.faults err.new) line)
         to.now.text.now (option_map (λ name. name.now) to.now.report) (H.held shelf.old) (H.held shelf.new)
         (H.write_faults shelf.old) (H.write_faults shelf.new) translation.now result }
-    ensures reads { H.read_faults shelf.new ≡ H.read_faults shelf.old }
+    ensures reads { H.reads shelf.new ≡ H.reads shelf.old }
 {
     match put_files(to, translation, shelf) {
         Ok(()) => {
@@ -76,7 +76,7 @@ fn put_files<H: Shelf>(
     ensures stops { result ≡ Err WriteError.Failed → Stops to.now.text.now (option_map (λ name. name.now) to.now.report) translation.now (H.held shelf.old) (H.held shelf.new) }
     ensures failed { result ≡ Err WriteError.Failed → Rose (H.write_faults shelf.old) (H.write_faults shelf.new) }
     ensures lingers { result ≡ Err WriteError.Memory → Lingers to.now.text.now (option_map (λ name. name.now) to.now.report) translation.now (H.held shelf.old) (H.held shelf.new) }
-    ensures reads { H.read_faults shelf.new ≡ H.read_faults shelf.old }
+    ensures reads { H.reads shelf.new ≡ H.reads shelf.old }
 {
     match to.report {
         None => shelf.write(to.text, translation.text.as_slice()),

@@ -32,6 +32,7 @@ meanings names p ready free =
     let same = plain_same names p ready in
     let agree = meanings_agree_law.of_plain_programs q (program_shown names p free) in
     record {
+      entries = same.codes.entries;
       runs = λ m arguments e input answers.
           same_runs_trans (jump_run (code_of p) m arguments input answers) (jump_run (code_of q) m arguments input answers) (structural_run (code_of q) m arguments input answers)
           (same.codes.runs m arguments e input answers) (agree.runs m arguments input answers);

@@ -1,5 +1,5 @@
 -- What the functions of this crate state: the plain form keeps behaviour.
-use Rattle.std.specs.Prelude.{ℕ, ◌≡◌, ◌≤◌, true, ℤ, List, length, All}
+use Rattle.std.specs.Prelude.{ℕ, ◌≡◌, ◌≤◌, ◌↔◌, true, ℤ, List, length, All}
 use Rattle.c_tree.specs.declared.tree.Item.{Item}
 use Rattle.c_tree.specs.declared.tree.Slot.{Slot}
 use Rattle.c_tree.specs.declared.tree.Function.{Function}
@@ -53,8 +53,10 @@ IsTopReady p names _ = Unit {0}
 abbrev pub IsProgramReady : (Function → List (List ℕ)) → Program → Type 0
 IsProgramReady names p = All (IsTopReady (code_of p) names) p.tops
 
--- the runs by steps of a program and the structural runs of another behave the same, from each entry of the first
+-- two programs have the same entries, and the runs by steps of the first and the structural runs of the second behave the
+-- same from each
 pub record BehavesAsStructured (p q : Program) : Type 0 where
+  pub entries : (m : List ℕ) (arguments : List ℤ) → IsEntry (code_of p) m arguments ↔ IsEntry (code_of q) m arguments
   pub runs : (m : List ℕ) (arguments : List ℤ) → IsEntry (code_of p) m arguments → (input : List ℕ) (answers : List ℤ)
       → AreSameRuns (jump_run (code_of p) m arguments input answers) (structural_run (code_of q) m arguments input answers)
 

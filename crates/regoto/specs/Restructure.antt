@@ -4,6 +4,7 @@ use Rattle.text_reading.specs.Reading.{IsInSubset, IsRefusedFor}
 use Rattle.move_driver.specs.Text.{Output, IsTextRestructured, IsOnlyOutput}
 use Rattle.move_driver.specs.Settled.{IsTextSettled}
 use Rattle.rg_ports.specs.Files.{Files}
+use Rattle.rg_ports.specs.declared.reads.ReadCounts.{ReadCounts}
 use Rattle.rg_ports.specs.Written.{Written}
 use Rattle.command_lines.specs.declared.lines.Summary.TheVariants as summary
 use Rattle.command_lines.specs.declared.status.Status.{Status}
@@ -36,17 +37,17 @@ pub record IsRestructuredTo (text : List ℕ) (made : Translation) : Type 0 wher
 
 -- Each status, with what it says of the files before and after, of the counts of failed reads and writes
 -- before and after, and of the line that was said.
-abbrev pub Restructures : (List ℕ → Type 0) → List ℕ → List ℕ → Option (List ℕ) → Option Files → Option Files → ℕ → ℕ → ℕ → ℕ → Status → Type 0
+abbrev pub Restructures : (List ℕ → Type 0) → List ℕ → List ℕ → Option (List ℕ) → Option Files → Option Files → ReadCounts → ReadCounts → ℕ → ℕ → Status → Type 0
 Restructures said from to report before after reads reads' writes writes' status =
     Writes said IsRestructuredTo IsRefusedFor from to report before after reads reads' writes writes' status
 
 -- The same of the commands that write the text or the report to `out`, with what is told of the bytes written to `out` and
 -- `err` and of the counts of failed writes there, before and after; `untouched` says that nothing was done to `out`.
-abbrev pub ShowsRestructured : List ℕ → Part → Option Files → ℕ → ℕ → Type 0 → Written → Written → ℕ → ℕ → Written → Written → ℕ → ℕ → Status → Type 0
+abbrev pub ShowsRestructured : List ℕ → Part → Option Files → ReadCounts → ReadCounts → Type 0 → Written → Written → ℕ → ℕ → Written → Written → ℕ → ℕ → Status → Type 0
 ShowsRestructured from part before reads reads' untouched out out' faults faults' err err' told told' status =
     Shows IsRestructuredTo IsRefusedFor from part before reads reads' untouched out out' faults faults' err err' told told' status
 
 -- Where the shelf holds a text of the subset that has at most 1,048,576 bytes, and no read or write fails,
 -- the job is done or memory is refused.
-abbrev pub Completes : List ℕ → Option Files → ℕ → ℕ → ℕ → ℕ → Status → Type 0
+abbrev pub Completes : List ℕ → Option Files → ReadCounts → ReadCounts → ℕ → ℕ → Status → Type 0
 Completes from before reads reads' writes writes' result = CompletesWhere IsInSubset from before reads reads' writes writes' result

@@ -35,8 +35,8 @@ fn write_text<T: Translator, H: Shelf, E: Sink>(
 ) -> Status
     ensures writes { Writes (λ line. Tells (E.written err.old) (E.written err.new) (E.faults err.old) (E.faults err.new) line)
         T.gives T.refuses from.now text.now None (H.held shelf.old) (H.held shelf.new)
-        (H.read_faults shelf.old) (H.read_faults shelf.new) (H.write_faults shelf.old) (H.write_faults shelf.new) result }
-    ensures completes { CompletesWhere T.accepts from.now (H.held shelf.old) (H.read_faults shelf.old) (H.read_faults shelf.new)
+        (H.reads shelf.old) (H.reads shelf.new) (H.write_faults shelf.old) (H.write_faults shelf.new) result }
+    ensures completes { CompletesWhere T.accepts from.now (H.held shelf.old) (H.reads shelf.old) (H.reads shelf.new)
         (H.write_faults shelf.old) (H.write_faults shelf.new) result }
 {
     let to = Targets { text, report: None };
@@ -60,11 +60,11 @@ pub fn regoto<H: Shelf, I: Source, O: Sink, E: Sink>(
 
     ensures restructure { (from to : List ℕ) (report : Option (List ℕ)) → command_of (map string_bytes words.now) ≡ Some (Restructure from to report)
         → (out.new ≡ out.old) × Restructures (λ line. Tells (E.written err.old) (E.written err.new) (E.faults err.old) (E.faults err.new) line)
-        from to report (H.held shelf.old) (H.held shelf.new) (H.read_faults shelf.old) (H.read_faults shelf.new)
+        from to report (H.held shelf.old) (H.held shelf.new) (H.reads shelf.old) (H.reads shelf.new)
         (H.write_faults shelf.old) (H.write_faults shelf.new) result }
 
     ensures complete { (from to : List ℕ) (report : Option (List ℕ)) → command_of (map string_bytes words.now) ≡ Some (Restructure from to report)
-        → Completes from (H.held shelf.old) (H.read_faults shelf.old) (H.read_faults shelf.new)
+        → Completes from (H.held shelf.old) (H.reads shelf.old) (H.reads shelf.new)
         (H.write_faults shelf.old) (H.write_faults shelf.new) result }
 
     ensures help { command_of (map string_bytes words.now) ≡ Some Help → (shelf.new ≡ shelf.old)
@@ -73,58 +73,58 @@ pub fn regoto<H: Shelf, I: Source, O: Sink, E: Sink>(
 
     ensures show { (from : List ℕ) → command_of (map string_bytes words.now) ≡ Some (Show from)
         → (H.held shelf.new ≡ H.held shelf.old) × (H.write_faults shelf.new ≡ H.write_faults shelf.old)
-        × ShowsRestructured from Part.Text (H.held shelf.old) (H.read_faults shelf.old) (H.read_faults shelf.new)
+        × ShowsRestructured from Part.Text (H.held shelf.old) (H.reads shelf.old) (H.reads shelf.new)
         (out.new ≡ out.old) (O.written out.old) (O.written out.new) (O.faults out.old) (O.faults out.new)
         (E.written err.old) (E.written err.new) (E.faults err.old) (E.faults err.new) result }
 
     ensures moves { (from : List ℕ) → command_of (map string_bytes words.now) ≡ Some (Moves from)
         → (H.held shelf.new ≡ H.held shelf.old) × (H.write_faults shelf.new ≡ H.write_faults shelf.old)
-        × ShowsRestructured from Part.Report (H.held shelf.old) (H.read_faults shelf.old) (H.read_faults shelf.new)
+        × ShowsRestructured from Part.Report (H.held shelf.old) (H.reads shelf.old) (H.reads shelf.new)
         (out.new ≡ out.old) (O.written out.old) (O.written out.new) (O.faults out.old) (O.faults out.new)
         (E.written err.old) (E.written err.new) (E.faults err.old) (E.faults err.new) result }
 
     ensures complete_show { (from : List ℕ) → command_of (map string_bytes words.now) ≡ Some (Show from)
-        → Completes from (H.held shelf.old) (H.read_faults shelf.old) (H.read_faults shelf.new) (O.faults out.old) (O.faults out.new) result }
+        → Completes from (H.held shelf.old) (H.reads shelf.old) (H.reads shelf.new) (O.faults out.old) (O.faults out.new) result }
 
     ensures complete_moves { (from : List ℕ) → command_of (map string_bytes words.now) ≡ Some (Moves from)
-        → Completes from (H.held shelf.old) (H.read_faults shelf.old) (H.read_faults shelf.new) (O.faults out.old) (O.faults out.new) result }
+        → Completes from (H.held shelf.old) (H.reads shelf.old) (H.reads shelf.new) (O.faults out.old) (O.faults out.new) result }
 
     ensures run { (from : List ℕ) (steps : ℕ) → command_of (map string_bytes words.now) ≡ Some (Run from steps)
         → (H.held shelf.new ≡ H.held shelf.old) × (H.write_faults shelf.new ≡ H.write_faults shelf.old)
         × RunsText (λ line. Tells (E.written err.old) (E.written err.new) (E.faults err.old) (E.faults err.new) line) from steps
-        (H.held shelf.old) (H.read_faults shelf.old) (H.read_faults shelf.new)
+        (H.held shelf.old) (H.reads shelf.old) (H.reads shelf.new)
         ((input.new ≡ input.old) × (out.new ≡ out.old)) (I.rest input.old) (I.rest input.new) (I.faults input.old) (I.faults input.new)
         (O.written out.old) (O.written out.new) (O.faults out.old) (O.faults out.new) result }
 
     ensures complete_run { (from : List ℕ) (steps : ℕ) → command_of (map string_bytes words.now) ≡ Some (Run from steps)
-        → CompletesText from steps (H.held shelf.old) (H.read_faults shelf.old) (H.read_faults shelf.new)
+        → CompletesText from steps (H.held shelf.old) (H.reads shelf.old) (H.reads shelf.new)
         (I.rest input.old) (I.faults input.old) (I.faults input.new) (O.faults out.old) (O.faults out.new) result }
 
     ensures replay { (from report to : List ℕ) → command_of (map string_bytes words.now) ≡ Some (Replay from report to)
         → (out.new ≡ out.old) × ReplaysText (λ line. Tells (E.written err.old) (E.written err.new) (E.faults err.old) (E.faults err.new) line)
-        from report to (H.held shelf.old) (H.held shelf.new) (H.read_faults shelf.old) (H.read_faults shelf.new)
+        from report to (H.held shelf.old) (H.held shelf.new) (H.reads shelf.old) (H.reads shelf.new)
         (H.write_faults shelf.old) (H.write_faults shelf.new) result }
 
     ensures complete_replay { (from report to : List ℕ) → command_of (map string_bytes words.now) ≡ Some (Replay from report to)
-        → CompletesReplay from report (H.held shelf.old) (H.read_faults shelf.old) (H.read_faults shelf.new)
+        → CompletesReplay from report (H.held shelf.old) (H.reads shelf.old) (H.reads shelf.new)
         (H.write_faults shelf.old) (H.write_faults shelf.new) result }
 
     ensures tidy { (from to : List ℕ) → command_of (map string_bytes words.now) ≡ Some (Tidy from to)
         → (out.new ≡ out.old) × TidiesText (λ line. Tells (E.written err.old) (E.written err.new) (E.faults err.old) (E.faults err.new) line)
-        from to (H.held shelf.old) (H.held shelf.new) (H.read_faults shelf.old) (H.read_faults shelf.new)
+        from to (H.held shelf.old) (H.held shelf.new) (H.reads shelf.old) (H.reads shelf.new)
         (H.write_faults shelf.old) (H.write_faults shelf.new) result }
 
     ensures complete_tidy { (from to : List ℕ) → command_of (map string_bytes words.now) ≡ Some (Tidy from to)
-        → CompletesTidy from (H.held shelf.old) (H.read_faults shelf.old) (H.read_faults shelf.new)
+        → CompletesTidy from (H.held shelf.old) (H.reads shelf.old) (H.reads shelf.new)
         (H.write_faults shelf.old) (H.write_faults shelf.new) result }
 
     ensures lower { (from to : List ℕ) → command_of (map string_bytes words.now) ≡ Some (Lower from to)
         → (out.new ≡ out.old) × LowersText (λ line. Tells (E.written err.old) (E.written err.new) (E.faults err.old) (E.faults err.new) line)
-        from to (H.held shelf.old) (H.held shelf.new) (H.read_faults shelf.old) (H.read_faults shelf.new)
+        from to (H.held shelf.old) (H.held shelf.new) (H.reads shelf.old) (H.reads shelf.new)
         (H.write_faults shelf.old) (H.write_faults shelf.new) result }
 
     ensures complete_lower { (from to : List ℕ) → command_of (map string_bytes words.now) ≡ Some (Lower from to)
-        → CompletesLower from (H.held shelf.old) (H.read_faults shelf.old) (H.read_faults shelf.new)
+        → CompletesLower from (H.held shelf.old) (H.reads shelf.old) (H.reads shelf.new)
         (H.write_faults shelf.old) (H.write_faults shelf.new) result }
 
     ensures demo { (count : ℕ) → command_of (map string_bytes words.now) ≡ Some (Demo count)

@@ -1,25 +1,47 @@
 -- What is said of a command whose calls are told apart.
-use Rattle.std.proofs.Common.{◌≡◌, ℕ, ◌≤◌, List, length, Option, inl, inr, refl, subst, arith}
+use Rattle.std.proofs.Common.{◌≡◌, ℕ, ◌<◌, ◌≤◌, List, length, Option, None, Some, inl, inr, refl, sym, subst, arith}
 use Rattle.c_types.specs.declared.refusal.Refusal.{Refusal}
 use Rattle.c_tree.specs.declared.tree.Program.{Program}
 use Rattle.rg_ports.specs.Files.{Files}
+use Rattle.rg_ports.specs.declared.reads.ReadCounts.{ReadCounts}
+use Rattle.rg_ports.specs.Reads.{NotFewer}
 use Rattle.command_lines.specs.declared.status.Status.{Status}
 use Rattle.command_lines.specs.declared.status.Status.TheVariants as status
 use Rattle.command_lines.proofs.Told.{rose_since}
 use Rattle.file_commands.specs.declared.translator.Translation.{Translation}
-use Rattle.file_commands.specs.Taken.{HandsOver}
+use Rattle.file_commands.specs.Taken.{HandsOver, Untaken, too_long}
 use Rattle.file_commands.specs.Translated.{Untranslated}
 use Rattle.file_commands.proofs.Completion.{handed, lacking, completes as translation_completes}
-use Rattle.replay_commands.specs.Replayed.{IsTooLongOrRejected, Unreplayed, ReplaysIn, CompletesReport}
+use Rattle.replay_commands.specs.Replayed.{IsTooLongOrRejected, IsRejected, Unreplayed, ReplaysIn, CompletesReport}
 use Rattle.replay_commands.specs.Replays.{CompletesReplay}
+
+-- ---- where no report was taken
+
+longer : (rejects : List ℕ → Refusal → Type 0) (before : Option Files) (report : List ℕ) → HandsOver before report (λ text. 67108864 < length text)
+    → HandsOver before report (IsTooLongOrRejected rejects too_long)
+longer rejects None report h = (h.0, inl (h.1, refl))
+longer rejects (Some files) report h = (h.0, h.1, inl (h.2, refl))
+
+pub untaken_report : (said : List ℕ → Type 0) (rejects : List ℕ → Refusal → Type 0) (report : List ℕ) (before : Option Files) (reads reads' : ReadCounts) (result : Status)
+    → Untaken said 67108864 report before reads reads' result → Unreplayed said rejects report before reads reads' result
+untaken_report said rejects report before reads reads' (status.Refused refusal) u =
+    subst (λ r. IsRejected said rejects report before r) (sym u.which) record { reason = longer rejects before report u.text; line = u.line }
+untaken_report said rejects report before reads reads' status.Absent u = u
+untaken_report said rejects report before reads reads' status.ReadFault u = u
+untaken_report said rejects report before reads reads' status.Memory u = u
+untaken_report said rejects report before reads reads' status.Done u = absurd u
+untaken_report said rejects report before reads reads' status.Usage u = absurd u
+untaken_report said rejects report before reads reads' status.WriteFault u = absurd u
+untaken_report said rejects report before reads reads' (status.Trapped trap) u = absurd u
+untaken_report said rejects report before reads reads' status.Spent u = absurd u
 
 -- ---- where another read went before
 
-module _ (said : List ℕ → Type 0) (report : List ℕ) (before : Option Files) (f g h : ℕ) (grows : f ≤ g) where
+module _ (said : List ℕ → Type 0) (report : List ℕ) (before : Option Files) (f g h : ReadCounts) (grows : NotFewer f g) where
   pub unreplayed_since : (rejects : List ℕ → Refusal → Type 0) (result : Status) → Unreplayed said rejects report before g h result → Unreplayed said rejects report before f h result
   unreplayed_since rejects (status.Refused refusal) u = u
-  unreplayed_since rejects status.Absent u = u
-  unreplayed_since rejects status.ReadFault u = record { rose = rose_since f g h grows u.rose; line = u.line }
+  unreplayed_since rejects status.Absent u = record { lacks = u.lacks; rose = rose_since f.absences g.absences h.absences grows.absences u.rose; line = u.line }
+  unreplayed_since rejects status.ReadFault u = record { rose = rose_since f.faults g.faults h.faults grows.faults u.rose; line = u.line }
   unreplayed_since rejects status.Memory u = u
   unreplayed_since rejects status.Done u = absurd u
   unreplayed_since rejects status.Usage u = absurd u
@@ -45,7 +67,7 @@ module _ (accepts : List ℕ → Type 0) (rejects : List ℕ → Refusal → Typ
   ]
 
   -- the report made nothing
-  pub report_completes : (said : List ℕ → Type 0) (report : List ℕ) (before : Option Files) (reads reads' writes writes' : ℕ) (result : Status)
+  pub report_completes : (said : List ℕ → Type 0) (report : List ℕ) (before : Option Files) (reads reads' : ReadCounts) (writes writes' : ℕ) (result : Status)
       → Unreplayed said rejects report before reads reads' result → CompletesReport accepts report before reads reads' writes writes' result
   report_completes said report before reads reads' writes writes' status.Done h = absurd h
   report_completes said report before reads reads' writes writes' (status.Refused refusal) h = λ files text told there short inside still stay.
@@ -63,17 +85,17 @@ module _ (reads : List ℕ → Program → Type 0) (refuses : List ℕ → Refus
     (one : (text : List ℕ) (p q : Program) → reads text p → reads text q → p ≡ q)
     (apart : (text : List ℕ) (p : Program) (refusal : Refusal) → reads text p → refuses text refusal → ⊥) where
   -- no program was read
-  pub unread_completes : (said : List ℕ → Type 0) (from report : List ℕ) (before : Option Files) (faults faults' writes writes' : ℕ) (result : Status)
-      → Untranslated said refuses from before faults faults' result → CompletesReplay reads accepts from report before faults faults' writes writes' result
-  unread_completes said from report before faults faults' writes writes' result u = λ files text p lines told there short read held few inside still stay.
+  pub unread_completes : (said : List ℕ → Type 0) (from report : List ℕ) (before : Option Files) (counts counts' : ReadCounts) (writes writes' : ℕ) (result : Status)
+      → Untranslated said refuses from before counts counts' result → CompletesReplay reads accepts from report before counts counts' writes writes' result
+  unread_completes said from report before counts counts' writes writes' result u = λ files text p lines told there short read held few inside still stay.
       translation_completes (λ t. (q : Program) × reads t q) refuses (λ t refusal has refused. apart t has.0 refusal has.1 refused)
-      said from before faults faults' writes writes' result u files text told there short (p, read) still stay
+      said from before counts counts' writes writes' result u files text told there short (p, read) still stay
 
   -- the report was looked at with the program of the text
-  pub read_completes : (from report : List ℕ) (before : Option Files) (f g h writes writes' : ℕ) (q : Program) (result : Status) → f ≤ g
+  pub read_completes : (from report : List ℕ) (before : Option Files) (f g h : ReadCounts) (writes writes' : ℕ) (q : Program) (result : Status) → NotFewer f g
       → HandsOver before from (λ text. (length text ≤ 1048576) × reads text q)
       → CompletesReport (accepts q) report before g h writes writes' result → CompletesReplay reads accepts from report before f h writes writes' result
   read_completes from report before f g h writes writes' q result grows has c = λ files text p lines told there short read held few inside still stay.
       let got = handed before files from text (λ t. (length t ≤ 1048576) × reads t q) told there has in
       let same : p ≡ q = one text p q read got.1 in
-      c files lines told held few (subst (λ z. accepts z lines) same inside) (λ rose. still (rose_since f g h grows rose)) stay
+      c files lines told held few (subst (λ z. accepts z lines) same inside) (λ rose. still (rose_since f.faults g.faults h.faults grows.faults rose)) stay

@@ -4,6 +4,7 @@ use Rattle.std.specs.FinMap.{get}
 use Rattle.c_types.specs.declared.refusal.Refusal.{Refusal}
 use Rattle.rg_ports.specs.Count.{Rose}
 use Rattle.rg_ports.specs.Files.{Files}
+use Rattle.rg_ports.specs.declared.reads.ReadCounts.{ReadCounts}
 use Rattle.command_lines.specs.declared.status.Status.{Status}
 use Rattle.command_lines.specs.declared.status.Status.TheVariants as status
 use Rattle.command_lines.specs.Lines.{refusal_line, memory_line}
@@ -21,9 +22,9 @@ pub record IsRejected (said : List ℕ → Type 0) (rejects : List ℕ → Refus
   pub line : said (refusal_line report refusal)
 
 -- Why a report makes nothing of a program, by the status, and the line that was said.
-abbrev pub Unreplayed : (List ℕ → Type 0) → (List ℕ → Refusal → Type 0) → List ℕ → Option Files → ℕ → ℕ → Status → Type 0
+abbrev pub Unreplayed : (List ℕ → Type 0) → (List ℕ → Refusal → Type 0) → List ℕ → Option Files → ReadCounts → ReadCounts → Status → Type 0
 Unreplayed said rejects report before reads reads' (status.Refused refusal) = IsRejected said rejects report before refusal
-Unreplayed said rejects report before reads reads' status.Absent = IsAbsent said report before
+Unreplayed said rejects report before reads reads' status.Absent = IsAbsent said report before reads reads'
 Unreplayed said rejects report before reads reads' status.ReadFault = IsReadFault said reads reads'
 Unreplayed said rejects report before reads reads' status.Memory = said memory_line
 -- no other status comes
@@ -42,13 +43,13 @@ pub record IsReplayed (said : List ℕ → Type 0) (gives : List ℕ → Transla
 
 -- The report made something of the program, which was written; or it didn't, no file changed, and this is why.
 abbrev pub ReplaysIn : (List ℕ → Type 0) → (List ℕ → Translation → Type 0) → (List ℕ → Refusal → Type 0) → List ℕ → List ℕ
-    → Option Files → Option Files → ℕ → ℕ → ℕ → ℕ → Status → Type 0
+    → Option Files → Option Files → ReadCounts → ReadCounts → ℕ → ℕ → Status → Type 0
 ReplaysIn said gives rejects report to before after reads reads' writes writes' status =
     IsReplayed said gives report to before after writes writes' status ⊎ ((after ≡ before) × Unreplayed said rejects report before reads reads' status)
 
 -- Where the shelf holds a report that is accepted and has at most 67,108,864 bytes, and no read or write fails, the job is
 -- done or memory is refused.
-abbrev pub CompletesReport : (List ℕ → Type 0) → List ℕ → Option Files → ℕ → ℕ → ℕ → ℕ → Status → Type 0
+abbrev pub CompletesReport : (List ℕ → Type 0) → List ℕ → Option Files → ReadCounts → ReadCounts → ℕ → ℕ → Status → Type 0
 CompletesReport accepts report before reads reads' writes writes' result =
     (files : Files) (text : List ℕ) → before ≡ Some files → get files report ≡ Some text → length text ≤ 67108864 → accepts text
-    → ¬ Rose reads reads' → ¬ Rose writes writes' → (result ≡ status.Done) ⊎ (result ≡ status.Memory)
+    → ¬ Rose reads.faults reads'.faults → ¬ Rose writes writes' → (result ≡ status.Done) ⊎ (result ≡ status.Memory)

@@ -3,6 +3,7 @@ ghost use Rattle.command_lines.specs.Lines.{Tells};
 ghost use Rattle.file_commands.specs.Taken.{HandsOver};
 ghost use Rattle.file_commands.specs.Translated.{Untranslated};
 ghost use Rattle.replay_commands.specs.Replayed.{Unreplayed};
+ghost use Rattle.rg_ports.specs.Reads.{NotFewer, IsOneRead};
 
 use c_tree::Program;
 use c_types::{ReadStop, Refusal};
@@ -75,9 +76,10 @@ pub fn program_read<R: Replayer, H: Shelf, E: Sink>(
     ensures ready { IfOk result R.ready }
     ensures silent { OnOk result (err.new ≡ err.old) }
     ensures unread { IfErr result (Untranslated (λ line. Tells (E.written err.old) (E.written err.new) (E.faults err.old) (E.faults err.new) line)
-        R.refuses from.now (H.held shelf.old) (H.read_faults shelf.old) (H.read_faults shelf.new)) }
+        R.refuses from.now (H.held shelf.old) (H.reads shelf.old) (H.reads shelf.new)) }
+    ensures once { IsOneRead (H.reads shelf.old) (H.reads shelf.new) }
     ensures kept { H.held shelf.new ≡ H.held shelf.old }
-    ensures grows { H.read_faults shelf.old ≤ H.read_faults shelf.new }
+    ensures grows { NotFewer (H.reads shelf.old) (H.reads shelf.new) }
     ensures writes { H.write_faults shelf.new ≡ H.write_faults shelf.old }
 {
     let text = take_text(alloc, from, MOST_BYTES, shelf, err)?;
@@ -107,9 +109,9 @@ pub fn replayed<R: Replayer, H: Shelf, E: Sink>(
     ensures given { IfOk result (λ made. HandsOver (H.held shelf.old) report.now (λ text. (length text ≤ 67108864) × R.gives program text made)) }
     ensures silent { OnOk result (err.new ≡ err.old) }
     ensures unreplayed { IfErr result (Unreplayed (λ line. Tells (E.written err.old) (E.written err.new) (E.faults err.old) (E.faults err.new) line)
-        (R.rejects program) report.now (H.held shelf.old) (H.read_faults shelf.old) (H.read_faults shelf.new)) }
+        (R.rejects program) report.now (H.held shelf.old) (H.reads shelf.old) (H.reads shelf.new)) }
     ensures kept { H.held shelf.new ≡ H.held shelf.old }
-    ensures grows { H.read_faults shelf.old ≤ H.read_faults shelf.new }
+    ensures grows { NotFewer (H.reads shelf.old) (H.reads shelf.new) }
     ensures writes { H.write_faults shelf.new ≡ H.write_faults shelf.old }
 {
     let text = take_text(alloc, report, MOST_REPORT_BYTES, shelf, err)?;

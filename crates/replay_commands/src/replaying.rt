@@ -24,8 +24,8 @@ fn replay_in<R: Replayer, H: Shelf, E: Sink>(
     requires { R.ready program }
     ensures replays { ReplaysIn (λ line. Tells (E.written err.old) (E.written err.new) (E.faults err.old) (E.faults err.new) line)
         (R.gives program) (R.rejects program) report.now to.now (H.held shelf.old) (H.held shelf.new)
-        (H.read_faults shelf.old) (H.read_faults shelf.new) (H.write_faults shelf.old) (H.write_faults shelf.new) result }
-    ensures completes { CompletesReport (R.accepts program) report.now (H.held shelf.old) (H.read_faults shelf.old) (H.read_faults shelf.new)
+        (H.reads shelf.old) (H.reads shelf.new) (H.write_faults shelf.old) (H.write_faults shelf.new) result }
+    ensures completes { CompletesReport (R.accepts program) report.now (H.held shelf.old) (H.reads shelf.old) (H.reads shelf.new)
         (H.write_faults shelf.old) (H.write_faults shelf.new) result }
 {
     match replayed(alloc, replayer, program, report, shelf, err) {
@@ -57,8 +57,8 @@ pub fn replay_file<R: Replayer, H: Shelf, E: Sink>(
 ) -> Status
     ensures replays { Replays (λ line. Tells (E.written err.old) (E.written err.new) (E.faults err.old) (E.faults err.new) line)
         R.reads R.refuses R.gives R.rejects from.now report.now to.now (H.held shelf.old) (H.held shelf.new)
-        (H.read_faults shelf.old) (H.read_faults shelf.new) (H.write_faults shelf.old) (H.write_faults shelf.new) result }
-    ensures completes { CompletesReplay R.reads R.accepts from.now report.now (H.held shelf.old) (H.read_faults shelf.old) (H.read_faults shelf.new)
+        (H.reads shelf.old) (H.reads shelf.new) (H.write_faults shelf.old) (H.write_faults shelf.new) result }
+    ensures completes { CompletesReplay R.reads R.accepts from.now report.now (H.held shelf.old) (H.reads shelf.old) (H.reads shelf.new)
         (H.write_faults shelf.old) (H.write_faults shelf.new) result }
 {
     match program_read(alloc, replayer, from, shelf, err) {

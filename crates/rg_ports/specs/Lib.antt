@@ -4,4 +4,5 @@ pub mod Files
 pub mod FirstAt
 pub mod Calls
 pub mod MemoryPorts
+pub mod Reads
 pub mod CountSink

@@ -3,6 +3,7 @@ use Rattle.std.specs.Prelude.{ℕ, List, refl}
 use Rattle.std.specs.FinMap as map
 use Rattle.std.specs.Coded.{Coded, code_by, coded×, coded_list, coded_ℕ}
 use Rattle.rg_ports.specs.Calls.{Calls, calls_code}
+use Rattle.rg_ports.specs.declared.reads.ReadCounts.{ReadCounts}
 use Rattle.rg_ports.specs.Files.{Files}
 
 pub record MemorySource : Type 0 where
@@ -25,8 +26,7 @@ pub record MemoryShelf : Type 0 where
   pub files : Files
   -- of reads and writes together
   pub calls : Calls
-  -- the number of failed reads
-  pub read_faults : ℕ
+  pub reads : ReadCounts
   -- the number of failed writes
   pub write_faults : ℕ
 
@@ -42,8 +42,13 @@ sink_code = code_by (List ℕ × (ℕ × (Calls × ℕ)))
     (λ s. (s.written, (s.room, (s.calls, s.faults))))
     (λ p. record { written = p.0; room = p.1.0; calls = p.1.1.0; faults = p.1.1.1 }) (λ _. refl)
 
+abbrev pub reads_code : Coded ReadCounts
+reads_code = code_by (ℕ × (ℕ × ℕ)) (coded× coded_ℕ (coded× coded_ℕ coded_ℕ))
+    (λ r. (r.made, (r.faults, r.absences)))
+    (λ p. record { made = p.0; faults = p.1.0; absences = p.1.1 }) (λ _. refl)
+
 abbrev pub shelf_code : Coded MemoryShelf
-shelf_code = code_by (Files × (Calls × (ℕ × ℕ)))
-    (coded× (map.code (coded_list coded_ℕ) (coded_list coded_ℕ)) (coded× calls_code (coded× coded_ℕ coded_ℕ)))
-    (λ s. (s.files, (s.calls, (s.read_faults, s.write_faults))))
-    (λ p. record { files = p.0; calls = p.1.0; read_faults = p.1.1.0; write_faults = p.1.1.1 }) (λ _. refl)
+shelf_code = code_by (Files × (Calls × (ReadCounts × ℕ)))
+    (coded× (map.code (coded_list coded_ℕ) (coded_list coded_ℕ)) (coded× calls_code (coded× reads_code coded_ℕ)))
+    (λ s. (s.files, (s.calls, (s.reads, s.write_faults))))
+    (λ p. record { files = p.0; calls = p.1.0; reads = p.1.1.0; write_faults = p.1.1.1 }) (λ _. refl)

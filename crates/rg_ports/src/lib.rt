@@ -11,6 +11,7 @@ mod mem_sink;
 mod mem_source;
 mod no_input;
 mod port;
+mod reads;
 mod write;
 
 pub use count_sink::CountSink;
@@ -19,4 +20,5 @@ pub use mem_sink::MemSink;
 pub use mem_source::MemSource;
 pub use no_input::NoInput;
 pub use port::{Failed, ReadError, Shelf, Sink, Source, WriteError};
+pub use reads::{NO_READS, ReadCounts, after_read};
 pub use write::write_all;

@@ -1,12 +1,15 @@
 ghost use Rattle.std.specs.Prelude.{◌≡◌, ◌≢◌, ◌+◌, ◌<◌, ◌≤◌, ◌↔◌, None, Some, Err, min, length, IfOk, OnOk, IsSomeAnd};
 ghost use Rattle.std.specs.Option.{option_copied};
+ghost use Rattle.std.specs.Result.{result_err};
 ghost use Rattle.std.specs.FinMap as map;
 ghost use Rattle.rg_ports.specs.Calls.{Fails, no_calls, after_call};
 ghost use Rattle.rg_ports.specs.Count.{following};
+ghost use Rattle.rg_ports.specs.Reads.{no_reads, after_read as the_after_read, NotFewer};
 
 use crate::calls::{CallCounter, next_count};
 use crate::files::{copied_bytes, held_bytes, put_bytes};
 use crate::port::{ReadError, Shelf, WriteError};
+use crate::reads::{NO_READS, ReadCounts, after_read};
 use c_types::{Bytes, List, Memory, Name};
 use std::alloc::Global;
 use std::marker::Model;
@@ -17,7 +20,7 @@ pub struct MemShelf {
     alloc: Global,
     files: List<(Name, Bytes)>,
     calls: CallCounter,
-    read_faults: u64,
+    reads: ReadCounts,
     write_faults: u64,
 }
 
@@ -32,7 +35,7 @@ impl Model for MemShelf {
     ghost view = { λ s. record {
       files = from_entries s.files;
       calls = s.calls;
-      read_faults = s.read_faults;
+      reads = s.reads;
       write_faults = s.write_faults;
     } };
 }
@@ -46,13 +49,13 @@ impl MemShelf {
         failing: List<u64>,
     ) -> Result<Self, Memory>
         ensures { IfOk result (λ shelf. shelf
-            ≡ record { files = map.from_entries start; calls = no_calls failing; read_faults = 0; write_faults = 0 }) }
+            ≡ record { files = map.from_entries start; calls = no_calls failing; reads = no_reads; write_faults = 0 }) }
     {
         Ok(MemShelf {
             alloc,
             files: start,
             calls: CallCounter::new(failing),
-            read_faults: 0,
+            reads: NO_READS,
             write_faults: 0,
         })
     }
@@ -66,16 +69,44 @@ impl MemShelf {
 
     /// The number of failed reads and writes, up to 18,446,744,073,709,551,615. It takes no memory.
     pub fn faults(&self) -> u64
-        ensures { result ≡ min (self.now.read_faults + self.now.write_faults) 18446744073709551615 }
+        ensures { result ≡ min (self.now.reads.faults + self.now.write_faults) 18446744073709551615 }
     {
-        self.read_faults.saturating_add(self.write_faults)
+        self.reads.faults.saturating_add(self.write_faults)
+    }
+
+    /// What the next call answers that reads this file.
+    fn answer(&mut self, alloc: Global, name: &str, most: usize) -> Result<Bytes, ReadError>
+        ensures failed { (result ≡ Err ReadError.Failed) ↔ Fails self.old.calls }
+        ensures absent { (result ≡ Err ReadError.Absent)
+            ↔ ((¬ Fails self.old.calls) × (map.get self.old.files name.now ≡ None)) }
+        ensures too_long { (result ≡ Err ReadError.TooLong)
+            ↔ ((¬ Fails self.old.calls)
+            × IsSomeAnd (map.get self.old.files name.now) (λ bytes. most < length bytes)) }
+        ensures ok { IfOk result (λ bytes. map.get self.old.files name.now ≡ Some bytes) }
+        ensures most { IfOk result (λ bytes. length bytes ≤ most) }
+        ensures after { self.new ≡ record self.old { calls = after_call self.old.calls } }
+    {
+        if self.calls.fails() {
+            return Err(ReadError::Failed);
+        }
+        copied_bytes(alloc, self.files.as_slice(), name, most)
+    }
+}
+
+/// The error of a read.
+fn error_of(answer: &Result<Bytes, ReadError>) -> Option<ReadError>
+    ensures { result ≡ result_err answer.now }
+{
+    match answer {
+        Ok(_) => None,
+        Err(error) => Some(*error),
     }
 }
 
 impl Shelf for MemShelf {
     ghost held = { λ s. Some s.files };
 
-    ghost read_faults = { λ s. s.read_faults };
+    ghost reads = { λ s. s.reads };
 
     ghost write_faults = { λ s. s.write_faults };
 
@@ -90,18 +121,13 @@ impl Shelf for MemShelf {
             × IsSomeAnd (map.get self.old.files name.now) (λ bytes. most < length bytes)) }
         ensures ok { IfOk result (λ bytes. map.get self.old.files name.now ≡ Some bytes) }
         ensures most { IfOk result (λ bytes. length bytes ≤ most) }
-        ensures fault { result ≡ Err ReadError.Failed
-            → self.new
-            ≡ record self.old { calls = after_call self.old.calls; read_faults = following self.old.read_faults } }
-        ensures no_fault { result ≢ Err ReadError.Failed
-            → self.new ≡ record self.old { calls = after_call self.old.calls } }
-        ensures grows { self.old.read_faults ≤ self.new.read_faults }
+        ensures after { self.new
+            ≡ record self.old { calls = after_call self.old.calls; reads = the_after_read self.old.reads (result_err result) } }
+        ensures grows { NotFewer self.old.reads self.new.reads }
     {
-        if self.calls.fails() {
-            self.read_faults = next_count(self.read_faults);
-            return Err(ReadError::Failed);
-        }
-        copied_bytes(alloc, self.files.as_slice(), name, most)
+        let answer = self.answer(alloc, name, most);
+        self.reads = after_read(self.reads, error_of(&answer));
+        answer
     }
 
     /// Puts a copy of the bytes in place of the file's, or makes the file. It fails exactly where

@@ -1,6 +1,8 @@
 ghost use Rattle.std.specs.Prelude.{◌≡◌, ℕ, ◌<◌, ◌≤◌, List, [], Option, None, Some, length, take, option_map, IfOk, OnOk, OnErr, IfSome, IsSomeAnd};
 ghost use Rattle.std.specs.FinMap as map;
 ghost use Rattle.rg_ports.specs.Count.{Rose};
+ghost use Rattle.rg_ports.specs.declared.reads.ReadCounts.{ReadCounts};
+ghost use Rattle.rg_ports.specs.Reads.{NotFewer, IsOneRead};
 ghost use Rattle.rg_ports.specs.Written.{Written, IsCount, more};
 ghost use Rattle.rg_ports.specs.Files.{Files, Takes, HoldsPrefix};
 
@@ -80,8 +82,8 @@ pub trait Shelf {
     /// The files, where the shelf tells them.
     ghost held: { Self → Option Files };
 
-    /// How many reads have failed. The count stands still at 18,446,744,073,709,551,615.
-    ghost read_faults: { Self → ℕ };
+    /// How many reads were made, how many failed, and how many found no file of their name.
+    ghost reads: { Self → ReadCounts };
 
     /// How many writes have failed. The count stands still at 18,446,744,073,709,551,615.
     ghost write_faults: { Self → ℕ };
@@ -96,10 +98,13 @@ pub trait Shelf {
         ensures too_long { result ≡ Err ReadError.TooLong
             → IfSome (held self.old) (λ files.
             IsSomeAnd (map.get files name.now) (λ bytes. most < length bytes)) }
+        ensures absence { result ≡ Err ReadError.Absent
+            → Rose (reads self.old).absences (reads self.new).absences }
         ensures failed { result ≡ Err ReadError.Failed
-            → Rose (read_faults self.old) (read_faults self.new) }
+            → Rose (reads self.old).faults (reads self.new).faults }
         ensures kept { held self.new ≡ held self.old }
-        ensures grows { read_faults self.old ≤ read_faults self.new }
+        ensures once { IsOneRead (reads self.old) (reads self.new) }
+        ensures grows { NotFewer (reads self.old) (reads self.new) }
         ensures other { write_faults self.new ≡ write_faults self.old };
 
     /// Puts the bytes in place of the file's, or makes the file. After `Failed` the file is as before
@@ -113,5 +118,5 @@ pub trait Shelf {
             → Rose (write_faults self.old) (write_faults self.new) }
         ensures memory { result ≡ Err WriteError.Memory → held self.new ≡ held self.old }
         ensures grows { write_faults self.old ≤ write_faults self.new }
-        ensures other { read_faults self.new ≡ read_faults self.old };
+        ensures other { reads self.new ≡ reads self.old };
 }

@@ -7,6 +7,7 @@ use Rattle.c_types.specs.declared.refusal.Refusal.{Refusal}
 use Rattle.c_tree.specs.declared.tree.Program.{Program}
 use Rattle.jump_meaning.specs.Behaviour.{Shown}
 use Rattle.rg_ports.specs.Files.{Files}
+use Rattle.rg_ports.specs.declared.reads.ReadCounts.{ReadCounts}
 use Rattle.command_lines.specs.declared.status.Status.{Status}
 use Rattle.command_lines.specs.declared.status.Status.TheVariants as status
 use Rattle.file_commands.specs.Taken.{HandsOver, Lacks}
@@ -72,7 +73,7 @@ module _ (gives : List ℕ → Program → Type 0) (refuses : List ℕ → Refus
   ]
 
   -- no run was begun
-  pub completes : (said : List ℕ → Type 0) (from : List ℕ) (steps : ℕ) (before : Option Files) (reads reads' : ℕ) (rest : Option (List ℕ)) (inputs inputs' faults faults' : ℕ) (result : Status)
+  pub completes : (said : List ℕ → Type 0) (from : List ℕ) (steps : ℕ) (before : Option Files) (reads reads' : ReadCounts) (rest : Option (List ℕ)) (inputs inputs' faults faults' : ℕ) (result : Status)
       → Unrun said gives refuses from before reads reads' result → CompletesRun gives from steps before reads reads' rest inputs inputs' faults faults' result
   completes said from steps before reads reads' rest inputs inputs' faults faults' status.Done h = absurd h
   completes said from steps before reads reads' rest inputs inputs' faults faults' (status.Refused refusal) h = λ files text p input told there short given can tells still stays keeps.

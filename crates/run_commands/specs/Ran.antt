@@ -8,6 +8,7 @@ use Rattle.jump_meaning.specs.Code.{code_of}
 use Rattle.jump_meaning.specs.Runs.{jump_run}
 use Rattle.rg_ports.specs.Count.{Rose}
 use Rattle.rg_ports.specs.Files.{Files}
+use Rattle.rg_ports.specs.declared.reads.ReadCounts.{ReadCounts}
 use Rattle.rg_ports.specs.Written.{Written}
 use Rattle.command_lines.specs.declared.status.Status.{Status}
 use Rattle.command_lines.specs.declared.status.Status.TheVariants as status
@@ -56,7 +57,7 @@ pub record HasProgram (gives : List ℕ → Program → Type 0) (from : List ℕ
 
 -- Each status of a command that runs the program of a file; `untouched` says that nothing was done to the source and the
 -- sink.
-abbrev pub Runs : (List ℕ → Type 0) → (List ℕ → Program → Type 0) → (List ℕ → Refusal → Type 0) → List ℕ → ℕ → Option Files → ℕ → ℕ
+abbrev pub Runs : (List ℕ → Type 0) → (List ℕ → Program → Type 0) → (List ℕ → Refusal → Type 0) → List ℕ → ℕ → Option Files → ReadCounts → ReadCounts
     → Type 0 → Option (List ℕ) → Option (List ℕ) → ℕ → ℕ → Written → Written → ℕ → ℕ → Status → Type 0
 Runs said gives refuses from steps before reads reads' untouched rest left inputs inputs' out out' faults faults' result =
     HasProgram gives from before (Ran said steps rest left inputs inputs' out out' faults faults' result)
@@ -72,9 +73,9 @@ shown_status (More es) = status.Spent
 
 -- Where the shelf holds a text of at most 67,108,864 bytes that reads as a program that can be run, the source tells its
 -- bytes, and no read or write fails, the status is the one that the run shows, or memory is refused.
-abbrev pub CompletesRun : (List ℕ → Program → Type 0) → List ℕ → ℕ → Option Files → ℕ → ℕ → Option (List ℕ) → ℕ → ℕ → ℕ → ℕ → Status → Type 0
+abbrev pub CompletesRun : (List ℕ → Program → Type 0) → List ℕ → ℕ → Option Files → ReadCounts → ReadCounts → Option (List ℕ) → ℕ → ℕ → ℕ → ℕ → Status → Type 0
 CompletesRun gives from steps before reads reads' rest inputs inputs' faults faults' result =
     (files : Files) (text : List ℕ) (program : Program) (input : List ℕ) → before ≡ Some files → get files from ≡ Some text → length text ≤ 67108864
     → gives text program → IsRunnable program → rest ≡ Some input
-    → ¬ Rose reads reads' → ¬ Rose inputs inputs' → ¬ Rose faults faults'
+    → ¬ Rose reads.faults reads'.faults → ¬ Rose inputs inputs' → ¬ Rose faults faults'
     → (result ≡ shown_status (jump_run (code_of program) (codes "main") [] input [] steps)) ⊎ (result ≡ status.Memory)

@@ -6,6 +6,7 @@ use Rattle.jump_meaning.specs.Code.{code_of, function_named}
 use Rattle.jump_meaning.specs.Runs.{IsEntry}
 use Rattle.open_calls.specs.Calls.{has_open_call}
 use Rattle.rg_ports.specs.Files.{Files}
+use Rattle.rg_ports.specs.declared.reads.ReadCounts.{ReadCounts}
 use Rattle.command_lines.specs.declared.status.Status.{Status}
 use Rattle.command_lines.specs.declared.status.Status.TheVariants as status
 use Rattle.command_lines.specs.Lines.{refusal_line, memory_line}
@@ -54,9 +55,9 @@ pub record IsRefusedToRun (said : List ℕ → Type 0) (gives : List ℕ → Pro
   pub line : said (refusal_line from refusal)
 
 -- Why a command ends without a run, by its status, and the line that was said.
-abbrev pub Unrun : (List ℕ → Type 0) → (List ℕ → Program → Type 0) → (List ℕ → Refusal → Type 0) → List ℕ → Option Files → ℕ → ℕ → Status → Type 0
+abbrev pub Unrun : (List ℕ → Type 0) → (List ℕ → Program → Type 0) → (List ℕ → Refusal → Type 0) → List ℕ → Option Files → ReadCounts → ReadCounts → Status → Type 0
 Unrun said gives refuses from before reads reads' (status.Refused refusal) = IsRefusedToRun said gives refuses from before refusal
-Unrun said gives refuses from before reads reads' status.Absent = IsAbsent said from before
+Unrun said gives refuses from before reads reads' status.Absent = IsAbsent said from before reads reads'
 Unrun said gives refuses from before reads reads' status.ReadFault = IsReadFault said reads reads'
 Unrun said gives refuses from before reads reads' status.Memory = said memory_line
 -- no other status comes

@@ -162,7 +162,7 @@ pub fn prepared<R: ProgramReader, H: Shelf, E: Sink>(
     ensures enters { IfOk result (λ ready. EntersMain ready.program) }
     ensures silent { OnOk result (err.new ≡ err.old) }
     ensures unrun { IfErr result (Unrun (λ line. Tells (E.written err.old) (E.written err.new) (E.faults err.old) (E.faults err.new) line)
-        R.gives R.refuses from.now (H.held shelf.old) (H.read_faults shelf.old) (H.read_faults shelf.new)) }
+        R.gives R.refuses from.now (H.held shelf.old) (H.reads shelf.old) (H.reads shelf.new)) }
     ensures kept { H.held shelf.new ≡ H.held shelf.old }
     ensures writes { H.write_faults shelf.new ≡ H.write_faults shelf.old }
 {

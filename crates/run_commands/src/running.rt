@@ -20,10 +20,10 @@ pub fn run_file<R: ProgramReader, H: Shelf, I: Source, O: Sink, E: Sink>(
     err: &mut E,
 ) -> Status
     ensures runs { Runs (λ line. Tells (E.written err.old) (E.written err.new) (E.faults err.old) (E.faults err.new) line)
-        R.gives R.refuses from.now steps (H.held shelf.old) (H.read_faults shelf.old) (H.read_faults shelf.new)
+        R.gives R.refuses from.now steps (H.held shelf.old) (H.reads shelf.old) (H.reads shelf.new)
         ((input.new ≡ input.old) × (out.new ≡ out.old)) (I.rest input.old) (I.rest input.new) (I.faults input.old) (I.faults input.new)
         (O.written out.old) (O.written out.new) (O.faults out.old) (O.faults out.new) result }
-    ensures completes { CompletesRun R.gives from.now steps (H.held shelf.old) (H.read_faults shelf.old) (H.read_faults shelf.new)
+    ensures completes { CompletesRun R.gives from.now steps (H.held shelf.old) (H.reads shelf.old) (H.reads shelf.new)
         (I.rest input.old) (I.faults input.old) (I.faults input.new) (O.faults out.old) (O.faults out.new) result }
     ensures kept { H.held shelf.new ≡ H.held shelf.old }
     ensures writes { H.write_faults shelf.new ≡ H.write_faults shelf.old }

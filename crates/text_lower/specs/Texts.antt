@@ -2,6 +2,7 @@
 use Rattle.std.specs.Prelude.{◌≡◌, ℕ, [], List, Option, None}
 use Rattle.text_reading.specs.Reading.{IsInSubset, IsRefusedFor}
 use Rattle.rg_ports.specs.Files.{Files}
+use Rattle.rg_ports.specs.declared.reads.ReadCounts.{ReadCounts}
 use Rattle.command_lines.specs.declared.lines.Summary.TheVariants as summary
 use Rattle.command_lines.specs.declared.status.Status.{Status}
 use Rattle.file_commands.specs.declared.translator.Translation.{Translation}
@@ -24,11 +25,11 @@ pub record IsLoweredTo (text : List ℕ) (made : Translation) : Type 0 where
 
 -- Each status, with what it says of the files before and after, of the counts of failed reads and writes before and after,
 -- and of the line that was said.
-abbrev pub LowersText : (List ℕ → Type 0) → List ℕ → List ℕ → Option Files → Option Files → ℕ → ℕ → ℕ → ℕ → Status → Type 0
+abbrev pub LowersText : (List ℕ → Type 0) → List ℕ → List ℕ → Option Files → Option Files → ReadCounts → ReadCounts → ℕ → ℕ → Status → Type 0
 LowersText said from to before after reads reads' writes writes' status =
     Writes said IsLoweredTo IsRefusedFor from to None before after reads reads' writes writes' status
 
 -- Where the shelf holds a text of the subset that has at most 1,048,576 bytes, and no read or write fails, the job is done
 -- or memory is refused.
-abbrev pub CompletesText : List ℕ → Option Files → ℕ → ℕ → ℕ → ℕ → Status → Type 0
+abbrev pub CompletesText : List ℕ → Option Files → ReadCounts → ReadCounts → ℕ → ℕ → Status → Type 0
 CompletesText from before reads reads' writes writes' result = Completes IsInSubset from before reads reads' writes writes' result

@@ -56,7 +56,7 @@ module _ (t : List ℕ) (p plain q : Program) (ms : List Move) (reads : IsProgra
       tidied = tidied;
       text = text;
       jumpless = ends.plain;
-      behaves = behaves p plain q ms counts resolved w b ends.alike;
+      behaves = behaves p plain q b ends.alike;
       reads_back = subst (λ z. IsProgramOf z q) (sym text) ends.reads;
       counted = ends.counted ∙ same_variables p plain ms counts resolved lacks w;
     }

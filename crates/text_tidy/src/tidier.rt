@@ -21,13 +21,15 @@ impl Translator for TextTidier {
     ghost refuses = { λ text refusal. IsRefusedForJumps text refusal };
 
     fn translate(&self, alloc: Global, text: &[u8]) -> Result<Translation, ReadStop> {
-        let Tidied { text, changes } = tidy_text(alloc, text)?;
-        Ok(Translation {
-            text,
-            // no report is made
-            report: List::new(alloc),
-            summary: Summary::Tidied { changes },
-        })
+        match tidy_text(alloc, text) {
+            Ok(Tidied { text, changes }) => Ok(Translation {
+                text,
+                // no report is made
+                report: List::new(alloc),
+                summary: Summary::Tidied { changes },
+            }),
+            Err(stop) => Err(stop),
+        }
     }
 
     ghost apart = { λ text refusal without refused. apart text refusal without refused };

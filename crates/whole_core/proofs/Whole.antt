@@ -81,6 +81,7 @@ finished_tops c names (T.Note b ∷ ts) e k n = (tt, finished_tops c names ts e.
 
 pub both_runs : (p q r : Program) → BehaveTheSame p q → BehavesAsStructured q r → BehavesAsStructured p r
 both_runs p q r h k = record {
+  entries = λ m arguments. (λ e. (k.entries m arguments).0 ((h.codes.entries m arguments).0 e), λ e. (h.codes.entries m arguments).1 ((k.entries m arguments).1 e));
   runs = λ m arguments e input answers.
       same_runs_trans (jump_run (code_of p) m arguments input answers) (jump_run (code_of q) m arguments input answers) (structural_run (code_of r) m arguments input answers)
       (h.codes.runs m arguments e input answers) (k.runs m arguments ((h.codes.entries m arguments).0 e) input answers);

@@ -13,6 +13,14 @@ returns-in-Some-Restructure-clause-restructure g c = λ from to report e.
     let same_report : named ≡ report = cc in
     (refl, rw (← same_from, ← same_to, ← same_report) c.write.ensures.writes)
 
+pub returns-in-Some-Restructure-clause-complete : goal.returns-in-Some-Restructure-clause-complete
+returns-in-Some-Restructure-clause-complete g c = λ from to report e.
+    let words = rw c.in-Some-Restructure.field-0-is at c.in-Some-Restructure.ensures in
+    let named = option_map {T = Bor (List ℕ)} {U = List ℕ} (λ name. name.now) c.in-Some-Restructure.report in
+    let same : ◌≡◌ {A = Option Command} (Some (Restructure c.in-Some-Restructure.from.now c.in-Some-Restructure.text.now named)) (Some (Restructure from to report)) = words ∙ e in
+    let same_from : c.in-Some-Restructure.from.now ≡ from = cc in
+    rw (← same_from) c.write.ensures.completes
+
 pub returns-in-Some-Show-clause-show : goal.returns-in-Some-Show-clause-show
 returns-in-Some-Show-clause-show g c = λ from e.
     let words = rw c.in-Some-Show.field-0-is at c.in-Some-Show.ensures in
@@ -20,12 +28,26 @@ returns-in-Some-Show-clause-show g c = λ from e.
     let same_from : c.in-Some-Show.from.now ≡ from = cc in
     (c.show.ensures.kept, c.show.ensures.writes, rw (← same_from) c.show.ensures.shows)
 
+pub returns-in-Some-Show-clause-complete_show : goal.returns-in-Some-Show-clause-complete_show
+returns-in-Some-Show-clause-complete_show g c = λ from e.
+    let words = rw c.in-Some-Show.field-0-is at c.in-Some-Show.ensures in
+    let same : ◌≡◌ {A = Option Command} (Some (Show c.in-Some-Show.from.now)) (Some (Show from)) = words ∙ e in
+    let same_from : c.in-Some-Show.from.now ≡ from = cc in
+    rw (← same_from) c.show.ensures.completes
+
 pub returns-in-Some-Moves-clause-moves : goal.returns-in-Some-Moves-clause-moves
 returns-in-Some-Moves-clause-moves g c = λ from e.
     let words = rw c.in-Some-Moves.field-0-is at c.in-Some-Moves.ensures in
     let same : ◌≡◌ {A = Option Command} (Some (Moves c.in-Some-Moves.from.now)) (Some (Moves from)) = words ∙ e in
     let same_from : c.in-Some-Moves.from.now ≡ from = cc in
     (c.show-in-Some-Moves.ensures.kept, c.show-in-Some-Moves.ensures.writes, rw (← same_from) c.show-in-Some-Moves.ensures.shows)
+
+pub returns-in-Some-Moves-clause-complete_moves : goal.returns-in-Some-Moves-clause-complete_moves
+returns-in-Some-Moves-clause-complete_moves g c = λ from e.
+    let words = rw c.in-Some-Moves.field-0-is at c.in-Some-Moves.ensures in
+    let same : ◌≡◌ {A = Option Command} (Some (Moves c.in-Some-Moves.from.now)) (Some (Moves from)) = words ∙ e in
+    let same_from : c.in-Some-Moves.from.now ≡ from = cc in
+    rw (← same_from) c.show-in-Some-Moves.ensures.completes
 
 pub returns-in-Some-Run-clause-run : goal.returns-in-Some-Run-clause-run
 returns-in-Some-Run-clause-run g c = λ from steps e.

@@ -4,7 +4,7 @@ use Rattle.rg_ports.specs.Calls.{Fails}
 use Rattle.rg_ports.specs.FirstAt.{bytes_of}
 use Rattle.rg_ports.specs.MemoryPorts.{MemoryShelf}
 use Rattle.rg_ports.proofs.FilesLemmas.{get-files}
-use Rattle.rg_ports.proofs.mem_shelf.MemShelfShelf.read.Goals as goal
+use Rattle.rg_ports.proofs.mem_shelf.MemShelf.answer.Goals as goal
 
 -- what the list of files says is what the shelf holds
 found : (c : goal.After-copied_bytes) → bytes_of c.args.name.now c.as_slice.result.now ≡ map.get c.args.self.now.files c.args.name.now
