@@ -1,6 +1,7 @@
 //! The program `regoto`: hands the system's files, streams and words to the one public call.
 #![tactic(auto)]
 
+mod replacing;
 mod shelf;
 mod streams;
 
@@ -59,5 +60,7 @@ fn main(rt: HostRuntime) -> ExitCode {
     ExitCode::from(status.code())
 }
 
+#[cfg(test)]
+mod port_tests;
 #[cfg(test)]
 mod tests;

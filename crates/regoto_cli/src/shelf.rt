@@ -1,29 +1,31 @@
 ghost use Rattle.std.specs.Prelude.{◌≡◌, ◌+◌, ◌≤◌, List, ℕ, Option, None, vec_len, length, IfOk, OnOk, OnErr, IfSome, IsSomeAnd, option_map, Err};
+ghost use Rattle.std.specs.Result.{result_err};
 ghost use Rattle.std.specs.FinMap as map;
 ghost use Rattle.rg_ports.specs.Count.{Rose};
 ghost use Rattle.rg_ports.specs.Files.{HoldsPrefix};
 
+use crate::replacing::put_file;
 use c_types::{Bytes, List};
-use rg_ports::{ReadError, Shelf, WriteError};
+use rg_ports::{NO_READS, ReadCounts, ReadError, Shelf, WriteError, after_read};
 use std::alloc::Global;
 use std::fs;
-use std::io::{ErrorKind, Read, Write};
+use std::io::{ErrorKind, Read};
 use std::rt::Files;
 
 /// The files of the system. It tells none of their contents.
 #[derive(Drop)]
 pub struct FileShelf<'a, R: Files + AllocGlobal> {
     runtime: &'a R,
-    reads: u64,
+    reads: ReadCounts,
     writes: u64,
 }
 
 impl<'a, R: Files + AllocGlobal> FileShelf<'a, R> {
-    /// The files that the runtime reaches. No call has failed yet.
+    /// The files that the runtime reaches. No call was made yet.
     pub fn new(runtime: &'a R) -> Self {
         FileShelf {
             runtime,
-            reads: 0,
+            reads: NO_READS,
             writes: 0,
         }
     }
@@ -32,38 +34,52 @@ impl<'a, R: Files + AllocGlobal> FileShelf<'a, R> {
 impl<'a, R: Files + AllocGlobal> Shelf for FileShelf<'a, R> {
     ghost held = { λ _. None };
 
-    ghost read_faults = { λ shelf. shelf.reads };
+    ghost reads = { λ shelf. shelf.reads };
 
     ghost write_faults = { λ shelf. shelf.writes };
 
     fn read(&mut self, alloc: Global, name: &str, most: usize) -> Result<Bytes, ReadError> {
-        let mut file = match fs::open(self.runtime, name) {
-            Ok(file) => file,
-            Err(error) => {
-                if error.kind() == ErrorKind::NotFound {
-                    return Err(ReadError::Absent);
-                }
-                self.reads = self.reads.saturating_add(1);
-                return Err(ReadError::Failed);
-            }
-        };
-        let answer = read_all(alloc, &mut file, most);
-        if let Err(ReadError::Failed) = answer {
-            self.reads = self.reads.saturating_add(1);
-        }
+        let answer = read_file(self.runtime, alloc, name, most);
+        self.reads = after_read(self.reads, error_of(&answer));
         answer
     }
 
     fn write(&mut self, name: &str, bytes: &[u8]) -> Result<(), WriteError> {
-        let done = match fs::create(self.runtime, name) {
-            Ok(mut file) => write_all(&mut file, bytes),
-            Err(_) => false,
-        };
-        if done {
-            Ok(())
-        } else {
+        let answer = put_file(self.runtime, name, bytes);
+        if let Err(WriteError::Failed) = answer {
             self.writes = self.writes.saturating_add(1);
-            Err(WriteError::Failed)
+        }
+        answer
+    }
+}
+
+/// The error of a read.
+fn error_of(answer: &Result<Bytes, ReadError>) -> Option<ReadError>
+    ensures { result ≡ result_err answer.now }
+{
+    match answer {
+        Ok(_) => None,
+        Err(error) => Some(*error),
+    }
+}
+
+/// The bytes of a file, unless they are more than `most`.
+fn read_file<R: Files>(
+    runtime: &R,
+    alloc: Global,
+    name: &str,
+    most: usize,
+) -> Result<Bytes, ReadError>
+    ensures most { IfOk result (λ bytes. length bytes ≤ most) }
+{
+    match fs::open(runtime, name) {
+        Ok(mut file) => read_all(alloc, &mut file, most),
+        Err(error) => {
+            if error.kind() == ErrorKind::NotFound {
+                Err(ReadError::Absent)
+            } else {
+                Err(ReadError::Failed)
+            }
         }
     }
 }
@@ -93,17 +109,4 @@ fn read_all<F: Read>(alloc: Global, file: &mut F, most: usize) -> Result<Bytes, 
         return Err(ReadError::Memory);
     }
     Ok(List::from_vec(bytes))
-}
-
-/// Writes all the bytes, and answers whether they were taken. A write that takes nothing has failed.
-fn write_all<F: Write>(file: &mut F, bytes: &[u8]) -> bool {
-    let mut at = 0;
-    while at < bytes.len() {
-        match file.write(&bytes[at..]) {
-            Ok(0) => return false,
-            Ok(count) => at += count,
-            Err(_) => return false,
-        }
-    }
-    true
 }
