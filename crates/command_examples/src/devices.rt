@@ -226,17 +226,25 @@ fn shelf_fails(it: &Try, at: usize, found: &Outcome, sound: &Outcome) -> bool {
     }
 }
 
-fn input_fails(it: &Try, found: &Outcome, sound: &Outcome) -> bool {
+/// Whether nothing was written before the first call. Each of the texts reads, if it does, before it writes.
+fn is_empty_at_first(at: usize, found: &Outcome) -> bool {
+    at > 0 || found.out.bytes().is_empty()
+}
+
+fn input_fails(it: &Try, at: usize, found: &Outcome, sound: &Outcome) -> bool {
     tells_fault(found, 4)
         && keeps_all(it, found)
+        && is_empty_at_first(at, found)
         && sound.out.bytes().starts_with(found.out.bytes())
 }
 
-/// Whether a write that fails ends the command with a longer front written than the one before.
-fn output_fails(it: &Try, least: usize, found: &Outcome, sound: &Outcome) -> bool {
+/// Whether a write that fails ends the command with a longer front written than the one before, and the first with
+/// nothing.
+fn output_fails(it: &Try, call: Call, found: &Outcome, sound: &Outcome) -> bool {
     tells_fault(found, 5)
         && keeps_all(it, found)
-        && found.out.bytes().len() >= least
+        && is_empty_at_first(call.at, found)
+        && found.out.bytes().len() >= call.least
         && is_front(found.out.bytes(), sound.out.bytes())
 }
 
@@ -259,8 +267,8 @@ struct Call {
 fn is_failed(it: &Try, call: Call, found: &Outcome, sound: &Outcome) -> bool {
     match call.port {
         Port::Shelf => shelf_fails(it, call.at, found, sound),
-        Port::Input => input_fails(it, found, sound),
-        Port::Out => output_fails(it, call.least, found, sound),
+        Port::Input => input_fails(it, call.at, found, sound),
+        Port::Out => output_fails(it, call, found, sound),
         Port::Err => error_output_fails(it, found, sound),
     }
 }

@@ -19,6 +19,8 @@ mod ports;
 #[cfg(test)]
 mod replays;
 #[cfg(test)]
+mod results;
+#[cfg(test)]
 mod runs;
 #[cfg(test)]
 mod statuses;

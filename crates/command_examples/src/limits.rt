@@ -2,14 +2,24 @@
 
 use crate::ports::{Outcome, on, run};
 use c_types::Memory;
+use rg_ports::MemShelf;
 use std::alloc::Global;
+use std::str;
 
-/// A text, put together of pieces that stand in it so many times, a `#` as the number of the time; and the exit status and
-/// the line on the standard error.
+/// A text that is written: how many bytes it has, and how often it holds a part.
+struct Made {
+    length: usize,
+    part: &'static str,
+    times: usize,
+}
+
+/// A text, put together of pieces that stand in it so many times, a `#` as the number of the time; and the exit status,
+/// the line on the standard error, and what is written, if anything is.
 struct Edge {
     pieces: &'static [(&'static str, u32)],
     code: u8,
     line: &'static str,
+    made: Option<Made>,
 }
 
 static EDGES: [Edge; 9] = [
@@ -17,11 +27,17 @@ static EDGES: [Edge; 9] = [
         pieces: &[("int main(void) { ", 1), ("if (1) {", 399), ("}", 400)],
         code: 0,
         line: "regoto: 0 jumps, 0 moves, 0 guards\n",
+        made: Some(Made {
+            length: 66728,
+            part: "if (1) {\n",
+            times: 399,
+        }),
     },
     Edge {
         pieces: &[("int main(void) { ", 1), ("if (1) {", 400), ("}", 401)],
         code: 1,
         line: "a.c:1:3217: error 11: nested too deeply\n",
+        made: None,
     },
     Edge {
         pieces: &[
@@ -31,6 +47,11 @@ static EDGES: [Edge; 9] = [
         ],
         code: 0,
         line: "regoto: 66 jumps, 132 moves, 0 guards\n",
+        made: Some(Made {
+            length: 49,
+            part: "    return 1 + 1 + 1 + 1 + 1;\n",
+            times: 1,
+        }),
     },
     Edge {
         pieces: &[
@@ -40,6 +61,7 @@ static EDGES: [Edge; 9] = [
         ],
         code: 1,
         line: "a.c:1:5: error 39: function too tangled\n",
+        made: None,
     },
     Edge {
         pieces: &[
@@ -51,6 +73,11 @@ static EDGES: [Edge; 9] = [
         ],
         code: 0,
         line: "regoto: 1 jumps, 2 moves, 0 guards\n",
+        made: Some(Made {
+            length: 19,
+            part: "int main(void) {\n}\n",
+            times: 1,
+        }),
     },
     Edge {
         pieces: &[
@@ -62,6 +89,7 @@ static EDGES: [Edge; 9] = [
         ],
         code: 1,
         line: "a.c:1:5: error 39: function too tangled\n",
+        made: None,
     },
     // one level deeper than the same without `if`
     Edge {
@@ -72,6 +100,7 @@ static EDGES: [Edge; 9] = [
         ],
         code: 1,
         line: "a.c:1:5: error 39: function too tangled\n",
+        made: None,
     },
     // the guard would be tested once for each jump, were it not simplified
     Edge {
@@ -84,6 +113,11 @@ static EDGES: [Edge; 9] = [
         ],
         code: 0,
         line: "regoto: 40 jumps, 899 moves, 1 guards\n",
+        made: Some(Made {
+            length: 10033,
+            part: "!goto_e &&",
+            times: 1,
+        }),
     },
     // many moves beside a large statement, which is not copied
     Edge {
@@ -96,6 +130,11 @@ static EDGES: [Edge; 9] = [
         ],
         code: 0,
         line: "regoto: 132 jumps, 8778 moves, 1 guards\n",
+        made: Some(Made {
+            length: 2883147,
+            part: "        x = x + 1;\n",
+            times: 150000,
+        }),
     },
 ];
 
@@ -104,6 +143,11 @@ static TANGLED: Edge = Edge {
     pieces: &[("int main(void) { ", 1), ("goto L; ", 133), ("L: ; }", 1)],
     code: 0,
     line: "regoto: 133 jumps, 8911 moves, 1 guards\n",
+    made: Some(Made {
+        length: 33375,
+        part: "goto_L = 1;",
+        times: 133,
+    }),
 };
 
 /// The piece with the number in each place of a `#`.
@@ -140,10 +184,26 @@ fn outcome_of(alloc: Global, edge: &Edge) -> Result<Outcome, Memory> {
     ran
 }
 
+fn is_made(made: &Made, written: &[u8]) -> bool {
+    match str::from_utf8(written) {
+        Ok(text) => text.len() == made.length && text.matches(made.part).count() == made.times,
+        Err(_) => false,
+    }
+}
+
+/// Whether this was written, or nothing where nothing is to be.
+fn holds(shelf: &MemShelf, made: &Option<Made>) -> bool {
+    match (made, shelf.held("b.c")) {
+        (Some(made), Some(written)) => is_made(made, written),
+        (None, None) => true,
+        _ => false,
+    }
+}
+
 fn is_met(edge: &Edge, ran: &Outcome) -> bool {
     ran.err.bytes() == edge.line.as_bytes()
         && ran.status.code() == edge.code
-        && ran.shelf.held("b.c").is_some() == (edge.code == 0)
+        && holds(&ran.shelf, &edge.made)
 }
 
 fn is_at_edge(alloc: Global, edge: &Edge) -> bool {

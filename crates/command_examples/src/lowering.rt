@@ -66,7 +66,7 @@ fn writes_letters(alloc: Global, text: &str) -> bool {
 }
 
 /// The text that was written, or an empty one.
-fn written<'a>(ran: &'a Outcome) -> &'a str {
+pub fn written<'a>(ran: &'a Outcome) -> &'a str {
     match ran.shelf.held("b.c") {
         Some(bytes) => str::from_utf8(bytes).unwrap_or(""),
         None => "",

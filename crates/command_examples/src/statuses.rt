@@ -5,7 +5,7 @@ use crate::ports::{Failing, Given, Left, Outcome, SOUND, leaves, on, run, unchan
 use c_types::{Memory, Refusal};
 use regoto::{MOST_BYTES, Status};
 use std::alloc::Global;
-use worked_texts::OVER_STATEMENT;
+use worked_texts::{LOOP_BY_HAND, OVER_STATEMENT};
 
 const SOURCE: &str =
     "int main(void) { int a; a = 1; if (a == 1) goto end; putchar('x'); end: putchar('y'); return 0; }";
@@ -21,7 +21,7 @@ struct Undone {
     line: &'static str,
 }
 
-static UNDONE: [Undone; 25] = [
+static UNDONE: [Undone; 26] = [
     Undone {
         words: &["restructure", "a.c", "b.c"],
         source: "int f(void) { goto no; } int g(void) { return y; }",
@@ -37,6 +37,14 @@ static UNDONE: [Undone; 25] = [
         out: &[],
         code: 1,
         line: "a.c:2:15: error 10: unexpected token",
+    },
+    Undone {
+        words: &["restructure", "a.c", "b.c"],
+        source: "int x; /*",
+        shelf: &[],
+        out: &[],
+        code: 1,
+        line: "a.c:1:8: error 3: comment without end",
     },
     Undone {
         words: &["restructure", "c.c", "b.c"],
@@ -306,19 +314,59 @@ fn blanks(alloc: Global, count: usize) -> Result<String, Memory> {
     Ok(text)
 }
 
-fn is_too_long(alloc: Global, source: &str) -> bool {
+/// Whether a text is refused by this line, and nothing is written.
+fn is_refused(alloc: Global, source: &str, line: &str) -> bool {
     let left = Left {
         code: 1,
-        line: "a.c:1:1: error 1: text too long",
+        line,
         ..unchanged(source)
     };
     leaves(alloc, &WORDS, &on(source), &left)
 }
 
+/// Where the front of so many bytes of a worked text is refused, the reason, and its text.
+fn fault_of_front(length: u32) -> (u32, u32, &'static str) {
+    let token = "unexpected token";
+    match length {
+        1 | 2 => (1, 10, token),
+        10..=12 => (10, 10, token),
+        53 => (52, 10, token),
+        66 | 67 => (66, 4, "bad character constant or string"),
+        _ => (length.saturating_add(1), 10, token),
+    }
+}
+
+fn line_of_front(alloc: Global, length: u32) -> Result<String, Memory> {
+    let (column, reason, text) = fault_of_front(length);
+    let mut line = String::new(alloc);
+    write!(line, "a.c:1:{column}: error {reason}: {text}")?;
+    Ok(line)
+}
+
+fn is_front_refused(alloc: Global, length: u32) -> bool {
+    let front = LOOP_BY_HAND.source.get(..length as usize).unwrap_or("");
+    match line_of_front(alloc, length) {
+        Ok(line) => {
+            let met = is_refused(alloc, front, line.as_str());
+            drop(line);
+            met
+        }
+        Err(_) => false,
+    }
+}
+
+#[test]
+fn refuses_a_text_that_is_cut_off(rt: HostRuntime) {
+    for length in 1..108 {
+        let refused = is_front_refused(rt.alloc(), length);
+        assert!(rt; refused, "{length}");
+    }
+}
+
 fn are_too_many(alloc: Global, count: usize) -> bool {
     match blanks(alloc, count) {
         Ok(source) => {
-            let met = is_too_long(alloc, source.as_str());
+            let met = is_refused(alloc, source.as_str(), "a.c:1:1: error 1: text too long");
             drop(source);
             met
         }

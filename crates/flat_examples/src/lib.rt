@@ -3,4 +3,6 @@
 #![tactic(auto)]
 
 #[cfg(test)]
+mod printed;
+#[cfg(test)]
 mod worked;

@@ -1,4 +1,5 @@
-//! Tokens, comments and places that an independent model of the lexer gave.
+//! Tokens, comments and places that an independent model of the lexer gave; names with `//` or `/*` as gcc
+//! and clang read them.
 use crate::refusals::refused;
 use c_lexer::TokenKind::*;
 use c_lexer::*;
@@ -79,8 +80,46 @@ fn reads_comments_with_backslashes(rt: HostRuntime) -> Result<(), Fail> {
 }
 
 #[test]
+fn gives_the_comments_of_a_program(rt: HostRuntime) -> Result<(), Fail> {
+    let text = b"/* main */ int main(void) { goto end; /* skipped */ putchar('x'); // last
+end: return 0; }";
+    let found = comments(rt.alloc(), text)?;
+    let want = [
+        Span { start: 0, end: 10 },
+        Span { start: 38, end: 51 },
+        Span { start: 66, end: 73 },
+    ];
+    assert_eq!(rt; found.as_slice(), want.as_slice());
+    Ok(())
+}
+
+// What a carriage return, a `/*` and a `//` on a line of their own don't refuse.
+#[test]
+fn reads_lines_as_compilers_do(rt: HostRuntime) -> Result<(), Fail> {
+    let lines: [(&[u8], u64); 8] = [
+        (b"// x\r\r\n", 4),
+        (b"// x\r", 4),
+        (b"#include <a.h> // /*\n", 20),
+        (b"#include <a.h> /* x */\n", 22),
+        (b"#include /* // */ \"a.h\"\r\n", 23),
+        (b"#include <a.h> /* a//b */ // /*", 31),
+        (b"#include <x//y.h> // /*", 23),
+        (b"#include <a/*b> /* x */", 23),
+    ];
+    for (text, end) in lines {
+        let found = scan(rt.alloc(), text)?;
+        let last = match found.tokens.as_slice() {
+            [] => found.comments.as_slice()[0].end,
+            [token, ..] => token.end,
+        };
+        assert_eq!(rt; last, end);
+    }
+    Ok(())
+}
+
+#[test]
 fn refuses_at_the_first_fault(rt: HostRuntime) -> Result<(), Fail> {
-    let faults: [(&[u8], ReadStop); 14] = [
+    let faults: [(&[u8], ReadStop); 22] = [
         (b"x #\n", refused(2, 1, 3, 2)),
         (b"\n\n  @ 08", refused(2, 3, 3, 4)),
         (b"int x; /*", refused(3, 1, 8, 7)),
@@ -95,6 +134,14 @@ fn refuses_at_the_first_fault(rt: HostRuntime) -> Result<(), Fail> {
         (b"int a; // b\\\t\r\nc", refused(2, 1, 12, 11)),
         (b"#include <a> \\\n", refused(2, 1, 14, 13)),
         (b"/* a *\\\n/ x */", refused(3, 1, 1, 0)),
+        (b"// x \r goto L;", refused(2, 1, 6, 5)),
+        (b"#include <a.h>\rint x;\n", refused(2, 1, 15, 14)),
+        (b"/* a *\\\r/ goto L; */", refused(3, 1, 1, 0)),
+        (b"\n#include <a.h> /* x\n*/", refused(6, 2, 1, 1)),
+        (b"#include <a/*b>\n", refused(6, 1, 1, 0)),
+        (b"#include \"//\" /* x\n*/", refused(6, 1, 1, 0)),
+        (b"#include <a.h> \"//\" /*", refused(6, 1, 1, 0)),
+        (b"#include <a/*b> /*/ x\n", refused(6, 1, 1, 0)),
     ];
     for (text, want) in faults {
         match tokens(rt.alloc(), text) {

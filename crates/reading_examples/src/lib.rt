@@ -10,3 +10,5 @@ mod parser;
 mod refusal_texts;
 #[cfg(test)]
 mod refusals;
+#[cfg(test)]
+mod resolving;

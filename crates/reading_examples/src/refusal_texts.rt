@@ -206,7 +206,7 @@ taken | enum { A = 3 }; int a[A];
 1:9: 34 | int x = 1 << 31;
 taken | int x = 1u << 31;
 1:20: 34 | int f(int n, int a[n]) { return 0; }
-1:9: 34 | int x = (void)1;
+1:9: 24 | int x = (void)1;
 1:9: 34 | int x = -(-2147483647 - 1);
 1:26: 34 | enum { A = -1 }; int x = A << 1;
 1:5: 35 | int a[0];
@@ -281,4 +281,22 @@ taken | int f(int a, char b) { return 0; }
 1:7: 43 | int f(int[]) { return 0; }
 taken | int f(const int[]);
 1:8: 43 | void f(long, long) { }
+1:19: 22 | int a[3]; int b = a;
+1:19: 34 | int a[3]; int b = (a);
+1:23: 22 | int a[3]; int b[1] = {a};
+1:17: 22 | int a[3]; int b[a];
+1:22: 22 | int a[3]; enum { E = a };
+1:23: 22 | int a[3]; int f(int x[a]);
+1:45: 22 | int a[3]; void f(int x) { switch (x) { case a: ; } }
+1:23: 24 | void f(void); int b = f();
+1:9: 24 | int b = (void)1;
+1:49: 24 | void g(void); void f(int x) { switch (x) { case g(): ; } }
+1:39: 22 | int a[3]; void f(void) { printf("%d", (a)); }
+1:30: 32 | int main(void) { goto L; L: ;L: ;L: ;L: ;L: ;L: ;L: ;L: ;L: ;L: ;L: ;L: ;L: ;L: ;L: ;L: ;L: ;L: ;L: ;L: ;L: ;L: ;L: ;L: ;L: ;L: ;L: ;L: ;L: ;L: ;L: ;L: ;L: ;L: ;L: ;L: ;L: ;L: ;L: ;L: ;L: ;L: ;L: ;L: ;L: ;L: ;L: ;L: ;L: ;L: ;L: ;L: ;L: ;L: ;L: ;L: ;L: ;L: ;L: ;L: ;L: ;L: ;L: ;L: ;L: ;L: ;L: ; }
+1:49: 31 | void f(void) { switch (1) { case 0: { default: ;default: ;default: ;default: ;default: ;default: ;default: ;default: ;default: ;default: ;default: ;default: ;default: ;default: ;default: ;default: ;default: ;default: ;default: ;default: ;default: ;default: ;default: ;default: ;default: ;default: ;default: ;default: ;default: ;default: ;default: ;default: ;default: ;default: ;default: ;default: ;default: ;default: ;default: ;default: ;default: ;default: ;default: ;default: ;default: ;default: ;default: ;default: ;default: ;default: ;default: ;default: ;default: ;default: ;default: ;default: ;default: ;default: ;default: ;default: ;default: ;default: ;default: ;default: ;default: ;default: ; } } }
+1:6: 39 | void f(void) { switch (1) { goto L; goto L; goto L; goto L; goto L; goto L; goto L; goto L; goto L; goto L; goto L; goto L; goto L; goto L; goto L; goto L; goto L; goto L; goto L; goto L; goto L; goto L; goto L; goto L; goto L; goto L; goto L; goto L; goto L; goto L; goto L; goto L; goto L; goto L; goto L; goto L; goto L; goto L; goto L; goto L; goto L; goto L; goto L; goto L; goto L; goto L; goto L; goto L; goto L; goto L; goto L; goto L; goto L; goto L; goto L; goto L; goto L; goto L; goto L; goto L; goto L; goto L; goto L; goto L; goto L; goto L; goto L; goto L; goto L; goto L; goto L; goto L; goto L; goto L; goto L; goto L; goto L; goto L; goto L; goto L; goto L; goto L; goto L; goto L; goto L; goto L; goto L; goto L; goto L; goto L; goto L; goto L; goto L; goto L; goto L; goto L; goto L; goto L; goto L; goto L; goto L; goto L; goto L; goto L; goto L; goto L; goto L; goto L; goto L; goto L; goto L; goto L; goto L; goto L; goto L; goto L; goto L; goto L; goto L; goto L; goto L; goto L; goto L; goto L; goto L; goto L; goto L; goto L; goto L; goto L; goto L; goto L; goto L; } L: ; }
+1:29: 29 | void f(void) { switch (1) { goto L; goto L; goto L; goto L; goto L; goto L; goto L; goto L; goto L; goto L; goto L; goto L; goto L; goto L; goto L; goto L; goto L; goto L; goto L; goto L; goto L; goto L; goto L; goto L; goto L; goto L; goto L; goto L; goto L; goto L; goto L; goto L; goto L; goto L; goto L; goto L; goto L; goto L; goto L; goto L; goto L; goto L; goto L; goto L; goto L; goto L; goto L; goto L; goto L; goto L; goto L; goto L; goto L; goto L; goto L; goto L; goto L; goto L; goto L; goto L; goto L; goto L; goto L; goto L; goto L; goto L; goto L; goto L; goto L; goto L; goto L; goto L; goto L; goto L; goto L; goto L; goto L; goto L; goto L; goto L; goto L; goto L; goto L; goto L; goto L; goto L; goto L; goto L; goto L; goto L; goto L; goto L; goto L; goto L; goto L; goto L; goto L; goto L; goto L; goto L; goto L; goto L; goto L; goto L; goto L; goto L; goto L; goto L; goto L; goto L; goto L; goto L; goto L; goto L; goto L; goto L; goto L; goto L; goto L; goto L; goto L; goto L; goto L; goto L; goto L; goto L; goto L; goto L; goto L; goto L; goto L; goto L; } L: ; }
+1:6: 39 | void f(void) { switch (1) { { case 1: ; } } int axxxxxxxxxxxxxxxxxxxxxxxxxxxxxxxxxxxxxxxxxxxxxxxxxxxxxxxxxxxxxxx; }
+1:28: 29 | void f(void) { while (1) { case 1: ; break; break; break; break; break; break; break; break; break; break; break; break; break; break; break; break; break; break; break; break; break; break; break; break; break; break; break; break; break; break; break; break; break; break; break; break; break; break; break; break; break; break; break; break; break; break; break; break; break; break; break; break; break; break; break; break; break; break; break; break; break; break; break; break; break; break; break; break; break; break; break; break; break; break; break; break; break; break; break; break; break; break; break; break; break; break; break; break; break; break; break; break; break; break; break; break; break; break; break; break; break; break; break; break; break; break; break; break; break; break; break; break; break; break; break; break; break; break; break; break; break; break; break; break; break; break; break; break; break; break; break; break; } goto L; L: ; }
+1:6: 39 | void f(void) { switch (1) { case 1: { case 1: ;case 1: ;case 1: ;case 1: ;case 1: ;case 1: ;case 1: ;case 1: ;case 1: ;case 1: ;case 1: ;case 1: ;case 1: ;case 1: ;case 1: ;case 1: ;case 1: ;case 1: ;case 1: ;case 1: ;case 1: ;case 1: ;case 1: ;case 1: ;case 1: ;case 1: ;case 1: ;case 1: ;case 1: ;case 1: ;case 1: ;case 1: ;case 1: ;case 1: ;case 1: ;case 1: ;case 1: ;case 1: ;case 1: ;case 1: ;case 1: ;case 1: ;case 1: ;case 1: ;case 1: ;case 1: ;case 1: ;case 1: ;case 1: ;case 1: ;case 1: ;case 1: ;case 1: ;case 1: ;case 1: ;case 1: ;case 1: ;case 1: ;case 1: ;case 1: ;case 1: ;case 1: ;case 1: ;case 1: ;case 1: ;case 1: ; } } }
 "#;

@@ -2,7 +2,7 @@ use crate::running::{Case, first_wrong};
 use c_types::Trap;
 use step_interp::RunAnswer;
 
-static WORKED: [Case<'static>; 14] = [
+static WORKED: [Case<'static>; 21] = [
     Case {
         entry: "main",
         arguments: &[],
@@ -171,9 +171,95 @@ static WORKED: [Case<'static>; 14] = [
         failing_reads: &[],
         failing_writes: &[],
     },
+    Case {
+        entry: "f",
+        arguments: &[3],
+        text: b"int f(int n) { int k = 0; switch (n % 2) { case 0: do { putchar('a'); k++; case 1: putchar('b'); n = n - 2; } while (n > 0); } return k; }",
+        input: b"",
+        budget: 100000,
+        answer: RunAnswer::Ended(1, 82),
+        output: b"bab",
+        left: b"",
+        failing_reads: &[],
+        failing_writes: &[],
+    },
+    Case {
+        entry: "f",
+        arguments: &[2],
+        text: b"int f(int n) { int k = 0; switch (n % 2) { case 0: do { putchar('a'); k++; case 1: putchar('b'); n = n - 2; } while (n > 0); } return k; }",
+        input: b"",
+        budget: 100000,
+        answer: RunAnswer::Ended(1, 56),
+        output: b"ab",
+        left: b"",
+        failing_reads: &[],
+        failing_writes: &[],
+    },
+    Case {
+        entry: "f",
+        arguments: &[-1],
+        text: b"int f(int n) { int k = 0; switch (n % 2) { case 0: do { putchar('a'); k++; case 1: putchar('b'); n = n - 2; } while (n > 0); } return k; }",
+        input: b"",
+        budget: 100000,
+        answer: RunAnswer::Ended(0, 18),
+        output: b"",
+        left: b"",
+        failing_reads: &[],
+        failing_writes: &[],
+    },
+    Case {
+        entry: "main",
+        arguments: &[],
+        text: b"int main(void) { int c; while (1) { c = getchar(); if (c < 'a') { if (c < 0) goto p; goto q; } putchar(c); } p: putchar('p'); q: return c; }",
+        input: b"ab",
+        budget: 100000,
+        answer: RunAnswer::Ended(-1, 99),
+        output: b"abp",
+        left: b"",
+        failing_reads: &[],
+        failing_writes: &[],
+    },
+    Case {
+        entry: "main",
+        arguments: &[],
+        text: b"int main(void) { int c; while (1) { c = getchar(); if (c < 'a') { if (c < 0) goto p; goto q; } putchar(c); } p: putchar('p'); q: return c; }",
+        input: b"aZ",
+        budget: 100000,
+        answer: RunAnswer::Ended(90, 65),
+        output: b"a",
+        left: b"",
+        failing_reads: &[],
+        failing_writes: &[],
+    },
+    // a run has no answers for functions without a body
+    Case {
+        entry: "copy",
+        arguments: &[3],
+        text: b"#include <stdio.h>\nint open_port(int n); void close_port(int n); int copy(int n) { int r = -1; int a = open_port(n); int b; if (a < 0) goto out; b = open_port(n + 1); if (b < 0) goto close_a; r = a + b; close_port(b); close_a: close_port(a); out: return r; }",
+        input: b"",
+        budget: 100000,
+        answer: RunAnswer::Trapped(Trap::NoAnswer, 11),
+        output: b"",
+        left: b"",
+        failing_reads: &[],
+        failing_writes: &[],
+    },
+    // bodies that give the answers 5 and -1, and tell the calls
+    Case {
+        entry: "copy",
+        arguments: &[3],
+        text: b"int open_port(int n) { printf(\"open %d;\", n); return n == 3 ? 5 : -1; } void close_port(int n) { printf(\"close %d;\", n); } int copy(int n) { int r = -1; int a = open_port(n); int b; if (a < 0) goto out; b = open_port(n + 1); if (b < 0) goto close_a; r = a + b; close_port(b); close_a: close_port(a); out: return r; }",
+        input: b"",
+        budget: 100000,
+        answer: RunAnswer::Ended(-1, 110),
+        output: b"open 3;open 4;close 5;",
+        left: b"",
+        failing_reads: &[],
+        failing_writes: &[],
+    },
 ];
 
 #[test]
 fn worked(rt: HostRuntime) {
-    assert_eq!(rt; first_wrong(rt.alloc(), &WORKED), 14);
+    assert_eq!(rt; first_wrong(rt.alloc(), &WORKED), 21);
 }

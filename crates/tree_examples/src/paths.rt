@@ -3,6 +3,7 @@ use c_tree::{
     replace_at,
 };
 use c_types::{IntKind, List, Memory};
+use label_offsets::offset;
 use std::alloc::Global;
 use std::test::Fail;
 
@@ -97,6 +98,32 @@ fn paths_lead_to_items(rt: HostRuntime) -> Result<(), Fail> {
     ] {
         let at = path(alloc, step, item)?;
         assert_eq!(rt; label_at(&body, &at), label);
+    }
+    Ok(())
+}
+
+/// The items of the body in text order, each by the list in which it stands.
+#[test]
+fn offsets_count_items_in_text_order(rt: HostRuntime) -> Result<(), Fail> {
+    let alloc = rt.alloc();
+    let body = body(alloc)?;
+    let places = [
+        (None, 0),
+        (None, 1),
+        (Some((1, Branch::Body)), 0),
+        (Some((1, Branch::Body)), 1),
+        (None, 2),
+        (Some((2, Branch::Then)), 0),
+        (Some((2, Branch::Else)), 0),
+        (Some((2, Branch::Else)), 1),
+        (None, 3),
+        (Some((3, Branch::Section(0))), 0),
+        (Some((3, Branch::Section(1))), 0),
+        (Some((3, Branch::Section(1))), 1),
+    ];
+    for (count, (step, item)) in places.iter().enumerate() {
+        let at = path(alloc, *step, *item)?;
+        assert_eq!(rt; offset(&body, &at), count as u64);
     }
     Ok(())
 }
