@@ -1,0 +1,60 @@
+"""Messages in the form of a compiler, and what is raised where something can't be done."""
+
+from __future__ import annotations
+
+from dataclasses import dataclass
+from pathlib import Path
+
+
+@dataclass
+class Message:
+    """One message at a place of a file; `kind` is `error`, `warning` or `note`."""
+
+    path: Path
+    line: int
+    column: int
+    kind: str
+    text: str
+    source_line: str = ""
+
+    def __str__(self) -> str:
+        head = f"{self.path}:{self.line}:{self.column}: {self.kind}: {self.text}"
+        if not self.source_line:
+            return head
+        front = self.source_line[: self.column - 1]
+        caret = "".join(mark if mark == "\t" else " " for mark in front) + "^"
+        return f"{head}\n{self.source_line}\n{caret}"
+
+
+class Refused(Exception):
+    """A function that isn't restructured: the offset in the file of what stands in the way, and why.
+
+    `in_group` says that it is a group of directives, which may be resolved.
+    """
+
+    def __init__(self, offset: int, why: str, in_group: bool = False) -> None:
+        super().__init__(why)
+        self.offset = offset
+        self.why = why
+        self.in_group = in_group
+
+
+class Unreadable(Exception):
+    """A file that can't be read, with the messages that say why."""
+
+    def __init__(self, messages: list[Message]) -> None:
+        super().__init__("\n".join(map(str, messages)))
+        self.messages = messages
+
+
+class Fault(Exception):
+    """A fault of regoto-c itself: what was put together isn't what was proved."""
+
+
+def message_at(path: Path, text: str, offset: int, kind: str, why: str) -> Message:
+    """Return the message `why` at `offset` of the file at `path`, whose bytes are `text` (latin-1)."""
+    start = text.rfind("\n", 0, offset) + 1
+    end = text.find("\n", offset)
+    line = text[start: end if end >= 0 else len(text)].rstrip("\r")
+    shown = line.encode("latin-1").decode("utf-8", "replace")
+    return Message(path, text.count("\n", 0, offset) + 1, offset - start + 1, kind, why, shown)

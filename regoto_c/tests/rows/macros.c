@@ -1,0 +1,104 @@
+/* Macros, directives and marks of the text: each function with an int is called with 0 to 7, before and after it was restructured. */
+#include "rows.h"
+
+#define EITHER n > 4 || n < 2
+#define NOT !
+#define OR ||
+#define TWICE t(n), n--
+#define PICK n ? n > 3 : 1
+#define JUMP goto end
+#define LABEL(name) label_##name:
+#define TO(name) goto label_##name
+#define IF_JUMP(test, name) if (test) goto name
+#define LOOP_JUMP(test, name) do { if (test) goto name; t(7); } while (0)
+#define CASE(x) case x:
+#define STOP break
+#define RET(x) return x
+#define GIVE return
+#define BEGIN {
+#define END }
+#define EMPTY
+#define STATEMENTS t(1); t(2)
+#define BLOCK { t(3); t(4); }
+#define FOREVER for (;;)
+#define WHEN(x) if (x)
+#define OTHERWISE else
+#define SAY(text) printf(" " #text)
+#define VARIABLE(type, name) type name = n
+#define EACH(i, of) for (int i = 0; i < of; i++)
+
+int hidden_or(int n) { int k = 0; while (EITHER) { if (k++ > 2) goto end; t(k); n = k; } end: return k; }
+
+int hidden_marks(int n) { int k = 0; while (n > 4 OR n < 2) { if (NOT n) JUMP; if (k++ > 2) goto end; t(k); n++; } end: return k; }
+
+int hidden_comma(int n) { while (TWICE, n > 0) { if (n == 3) JUMP; t(n); } end: return n; }
+
+int hidden_choice(int n) { while (PICK) { if (n-- == 5) JUMP; t(n); if (n < 0) break; } end: return n; }
+
+int labels_of_macros(int n) { if (n > 4) TO(one); t(1); LABEL(one) t(2); if (n == 2) TO(two); t(3); LABEL(two); return n; }
+
+int jumps_in_macros(int n) { IF_JUMP(n == 2, end); t(1); LOOP_JUMP(n == 4, end); t(2); IF_JUMP(n > 5, end); else t(3); end: return n; }
+
+int cases_of_macros(int n) { switch (n) { CASE(1) t(1); STOP; CASE(2) CASE(3) t(2); JUMP; default: t(4); } t(5); end: return n; }
+
+int returns_of_macros(int n) { if (n == 1) RET(5); if (n == 2) JUMP; if (n == 3) GIVE n * 2; t(1); end: RET(n); }
+
+int braces_of_macros(int n) { if (n > 3) BEGIN t(1); JUMP; END t(2); end: return n; }
+
+int nothing(int n) { EMPTY; if (n EMPTY > 3) JUMP; EMPTY; t(1 EMPTY); end: EMPTY; return n; }
+
+int several(int n) { if (n > 3) { STATEMENTS; if (n > 5) goto end; BLOCK } else BLOCK STATEMENTS; t(9); end: return n; }
+
+int heads(int n) { FOREVER { WHEN(n > 3) goto end; OTHERWISE t(1); n++; } end: return n; }
+
+int each(int n) { EACH(i, n) { if (i == 4) goto end; EACH(j, 2) t(i + j); } end: return n; }
+
+int texts(int n) { SAY(goto end;); if (n > 3) goto end; SAY(a + b); { VARIABLE(int, k); if (k == 2) goto end; t(k); } end: return n; }
+
+int conditionals(int n) {
+    if (n == 6) goto end;
+#if 1
+    t(1);
+#else
+    t(2);
+#endif
+#ifdef NOT_DEFINED
+    t(3);
+#elif defined EMPTY
+    while (n > 3) { t(n--); if (n == 4) break; }
+#endif
+    t(n
+#ifdef EMPTY
+      + 1
+#endif
+    );
+    if (n
+#ifndef EMPTY
+        + 5
+#endif
+        > 4) goto end;
+#define INSIDE 11
+    t(INSIDE);
+#undef INSIDE
+#pragma GCC diagnostic push
+    t(12);
+#pragma GCC diagnostic pop
+end:
+    return n;
+}
+
+int unrolled(int n) {
+    int i, k = 0;
+    if (n == 1) goto end;
+#pragma GCC unroll 2
+    for (i = 0; i < 3; i++) k += i;
+    t(k);
+end:
+    return n;
+}
+
+int tabs_and_tricks(int n) { if (n > 3)goto/**/end;t(1)/*;*/;/*{*/t('{');t("}"[0]);end:return/**/n;}
+
+int counted(int n) { if (n > 3) goto end; { int line = __LINE__ > 0; if (n == 2) goto end; t(line); } SAY(__LINE__); end: return n; }
+
+int asserted(int n) { if (n == 2) goto end; { int k = n; if (k == 5) goto end; t(__extension__ ({ k + 1; })); } end: return n; }
