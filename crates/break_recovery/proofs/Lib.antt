@@ -3,3 +3,4 @@ pub mod Steps
 pub mod Undeclared
 mod Sizes
 pub mod Numbered
+pub mod Outermost

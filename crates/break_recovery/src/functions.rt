@@ -1,47 +1,55 @@
-ghost use Rattle.std.specs.Prelude.{◌≡◌, ◌+◌, suc, false, true, length, replicate, slice_set, option_map, Some, None, IfOk, OnOk};
+ghost use Rattle.std.specs.Prelude.{◌≡◌, ◌+◌, ℕ, suc, false, true, length, replicate, slice_set, option_map, Some, None, IfOk, OnOk};
 ghost use Rattle.c_tree.specs.Trees.{trees_of};
-ghost use Rattle.jump_meaning.specs.Code.{FunctionTree};
-ghost use Rattle.loop_changes.specs.Slots.{Tells};
+ghost use Rattle.jump_meaning.specs.Code.{FunctionTree, function_tree};
+ghost use Rattle.loop_changes.specs.Slots.{Tells, counts_of};
+ghost use Rattle.next_changes.specs.Places.{removed_at, AreQuietBut, Fewer};
 ghost use Rattle.slot_numbers.specs.Renamed.{renamed_list};
 ghost use Rattle.slot_removal.specs.Numbers.{number};
 ghost use Rattle.tidy_changes.specs.Changes.{undeclared};
+ghost use Rattle.break_recovery.specs.Starts.{StartsAt, IsStart};
 ghost use Rattle.break_recovery.specs.Ends.{IsBodyChanged, WentOn, AreMade, IsNumbered, IsFunctionTidied, TopTidied, AreTidied};
 
-use crate::search::change_list;
+use crate::places::{Start, behind_change, change_from};
 use c_tree::{Function, Item, Top};
 use c_types::{List, Memory};
 use loop_changes::{guard_counts, is_declaration};
 use slot_removal::{Numbers, new_numbers, remove_gone, renumber_list};
 use std::alloc::Global;
 
-/// Takes the first `int g = 0;` out.
-fn undeclare(slot: u32, list: &mut List<Item>)
-    ensures { trees_of list.new ≡ undeclared slot (trees_of list.old) }
+/// Takes the first `int g = 0;` out, and answers where it stood.
+fn undeclare(slot: u32, list: &mut List<Item>) -> Option<usize>
+    ensures gone { trees_of list.new ≡ undeclared slot (trees_of list.old) }
+    ensures place { trees_of list.new ≡ removed_at result (trees_of list.old) }
 {
     let mut i = 0;
     while i < list.len() {
         if is_declaration(slot, &list.as_slice()[i]) {
             list.remove(i);
-            return;
+            return Some(i);
         }
         i += 1;
     }
+    None
 }
 
 /// Makes the next change of a body, if one applies, and answers its slot: the declaration goes too. Each slot
-/// keeps its number. Else the body stays. The counts are those of the function.
+/// keeps its number. Else the body stays. The counts are those of the function. The search starts where no
+/// earlier change can apply, and the start moves on.
 fn change_list_of(
     alloc: Global,
     counts: &List<u64>,
+    start: &mut Start,
     list: &mut List<Item>,
 ) -> Result<Option<u32>, Memory>
-    ensures made { IfOk result (λ it. (f : FunctionTree) → Tells counts.now f → f.body ≡ Some (trees_of list.old) → IsBodyChanged f it (Some (trees_of list.new))) }
+    ensures made { IfOk result (λ it. (f : FunctionTree) → Tells counts.now f → AreQuietBut f 2 start.old.doubt start.old.from (trees_of list.old) → f.body ≡ Some (trees_of list.old) → IsBodyChanged f it (Some (trees_of list.new))) }
     ensures kept { IfOk result (λ it. it ≡ None → list.new ≡ list.old) }
+    ensures start { IfOk result (λ it. (g : ℕ) → it ≡ Some g → (f h : FunctionTree) → Tells counts.now f → Fewer (counts_of f) (counts_of h) → AreQuietBut f 2 start.old.doubt start.old.from (trees_of list.old) → AreQuietBut h 2 start.new.doubt start.new.from (trees_of list.new)) }
 {
-    let change = change_list(alloc, counts, 1, list)?;
+    let change = change_from(alloc, counts, 2, list, *start)?;
     match change {
-        Some(slot) => {
-            undeclare(slot, list);
+        Some((slot, place)) => {
+            let gone = undeclare(slot, list);
+            *start = behind_change(place, gone);
             Ok(Some(slot))
         }
         None => Ok(None),
@@ -51,13 +59,15 @@ fn change_list_of(
 fn change_body(
     alloc: Global,
     counts: &List<u64>,
+    start: &mut Start,
     body: &mut Option<List<Item>>,
 ) -> Result<Option<u32>, Memory>
-    ensures made { IfOk result (λ it. (f : FunctionTree) → Tells counts.now f → f.body ≡ option_map trees_of body.old → IsBodyChanged f it (option_map trees_of body.new)) }
+    ensures made { IfOk result (λ it. (f : FunctionTree) → Tells counts.now f → StartsAt f start.old (option_map trees_of body.old) → f.body ≡ option_map trees_of body.old → IsBodyChanged f it (option_map trees_of body.new)) }
     ensures kept { IfOk result (λ it. it ≡ None → body.new ≡ body.old) }
+    ensures start { IfOk result (λ it. (g : ℕ) → it ≡ Some g → (f h : FunctionTree) → Tells counts.now f → Fewer (counts_of f) (counts_of h) → StartsAt f start.old (option_map trees_of body.old) → StartsAt h start.new (option_map trees_of body.new)) }
 {
     match body {
-        Some(list) => change_list_of(alloc, counts, list),
+        Some(list) => change_list_of(alloc, counts, start, list),
         None => Ok(None),
     }
 }
@@ -83,13 +93,15 @@ fn forget(slot: u32, counts: &mut List<u64>)
 /// Makes the next change with the old numbers, and says whether there was one.
 fn change_once(
     alloc: Global,
+    start: &mut Start,
     gone: &mut List<bool>,
     counts: &mut List<u64>,
     function: &mut Function,
 ) -> Result<bool, Memory>
-    ensures { IfOk result (λ went. WentOn went gone.old counts.old function.old gone.new counts.new function.new) }
+    ensures went { IfOk result (λ went. IsStart counts.old start.old function.old → WentOn went gone.old counts.old function.old gone.new counts.new function.new) }
+    ensures start { IfOk result (λ went. went ≡ true → Tells counts.old (function_tree function.old) → IsStart counts.old start.old function.old → IsStart counts.new start.new function.new) }
 {
-    let change = change_body(alloc, counts, &mut function.body)?;
+    let change = change_body(alloc, counts, start, &mut function.body)?;
     match change {
         Some(slot) => {
             mark(slot, gone);
@@ -127,8 +139,9 @@ fn change_all(alloc: Global, function: &mut Function) -> Result<(u64, List<bool>
 {
     let mut counts = guard_counts(alloc, function)?;
     let mut gone = none_gone(alloc, function.slots.len())?;
+    let mut start = Start { doubt: 0, from: 0 };
     let mut count = 0;
-    'changes: while change_once(alloc, &mut gone, &mut counts, function)? {
+    'changes: while change_once(alloc, &mut start, &mut gone, &mut counts, function)? {
         count = one_more(count)?;
     }
     Ok((count, gone))

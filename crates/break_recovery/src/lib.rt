@@ -3,6 +3,7 @@
 
 mod functions;
 mod here;
+mod places;
 mod program;
 mod search;
 

@@ -16,7 +16,7 @@ use tail_exits::deeper;
 /// Makes the next change of a list at this level, if one applies, and answers its slot. Else the list
 /// stays. The counts are those of the function.
 #[cycle(search)]
-pub fn change_list(
+fn change_list(
     alloc: Global,
     counts: &List<u64>,
     level: u32,
@@ -38,7 +38,7 @@ pub fn change_list(
 }
 
 #[cycle(search)]
-fn change_at(
+pub fn change_at(
     alloc: Global,
     counts: &List<u64>,
     level: u32,

@@ -7,3 +7,5 @@ pub mod Others
 pub mod RenamedDeclared
 pub mod RealTrees
 pub mod Underway
+pub mod Stays
+pub mod Places

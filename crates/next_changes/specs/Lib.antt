@@ -1,3 +1,4 @@
 pub mod Next
 pub mod Laws
 pub mod Underway
+pub mod Places

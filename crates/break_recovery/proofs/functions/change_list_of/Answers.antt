@@ -1,15 +1,31 @@
-use Rattle.std.proofs.Common.{sym, ap, ◌∙◌}
+use Rattle.std.proofs.Common.{sym, subst}
 use Rattle.c_tree.specs.Trees.{trees_of}
-use Rattle.next_changes.specs.Next.{changed_to}
+use Rattle.next_changes.specs.Places.{IsFoundAt}
+use Rattle.next_changes.proofs.Places.{none_next, none_some}
+use Rattle.break_recovery.proofs.Outermost.{found_changed, found_goes_on}
 use Rattle.break_recovery.proofs.Undeclared.{body_changed, body_settled}
 use Rattle.break_recovery.proofs.functions.change_list_of.Goals as goal
 
-pub returns-in-Some-clause-made : goal.returns-in-Some-clause-made
-returns-in-Some-clause-made c =
-    λ f h e. body_changed f c.in-Some.slot (trees_of c.args.list.now) (trees_of c.change_list.new.list) (trees_of c.undeclare.new.list) e
-    (ap (λ s. changed_to s (trees_of c.change_list.new.list)) (sym c.in-Some.is) ∙ c.in_ok-change.ensures.made f h)
-    c.undeclare.ensures
+pub returns-in-Some : goal.returns-in-Some
+returns-in-Some c =
+    let a = trees_of c.args.list.now in
+    let b = trees_of c.change_from.new.list in
+    let g = c.in-Some.slot in
+    let k = c.in-Some.place in
+    record {
+      made = λ f h q e. body_changed f g a b (trees_of c.undeclare-gone.new.list) e (found_changed f g k a b (subst (λ it. IsFoundAt f 2 it a b) c.in-Some.is (c.in_ok-change.ensures.made f h q))) c.undeclare-gone.ensures.gone;
+      kept = λ e. none_some g (sym e);
+      start = λ x e f h t l q.
+          let r = c.behind_change.result in
+          found_goes_on f h l g k a b (trees_of c.undeclare-gone.new.list) c.undeclare-gone.result r.doubt r.from (subst (λ it. IsFoundAt f 2 it a b) c.in-Some.is (c.in_ok-change.ensures.made f t q)) c.undeclare-gone.ensures.place c.behind_change.ensures;
+    }
 
-pub returns-in-None-clause-made : goal.returns-in-None-clause-made
-returns-in-None-clause-made c =
-    λ f h e. body_settled f (trees_of c.args.list.now) e (ap (λ s. changed_to s (trees_of c.change_list.new.list)) (sym c.in-None.is) ∙ c.in_ok-change.ensures.made f h)
+pub returns-in-None : goal.returns-in-None
+returns-in-None c =
+    let a = trees_of c.args.list.now in
+    let b = trees_of c.change_from.new.list in
+    record {
+      made = λ f h q e. body_settled f a e (sym (none_next f 1 a (subst (λ it. IsFoundAt f 2 it a b) c.in-None.is (c.in_ok-change.ensures.made f h q))));
+      kept = λ e. c.in_ok-change.ensures.kept c.in-None.is;
+      start = λ g e. none_some g e;
+    }

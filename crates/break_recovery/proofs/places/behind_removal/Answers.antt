@@ -1,0 +1,8 @@
+use Rattle.break_recovery.proofs.Outermost.{goes_before, goes_behind}
+use Rattle.break_recovery.proofs.places.behind_removal.Goals as goal
+
+pub returns-then-place-at : goal.returns-then-place-at
+returns-then-place-at c = goes_before c.args.place c.args.at c.if-place-at.true
+
+pub returns : goal.returns
+returns c = rw (c.saturating_sub.ensures, c.saturating_sub-2.ensures) (goes_behind c.args.place c.args.at)

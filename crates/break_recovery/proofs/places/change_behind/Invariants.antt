@@ -1,0 +1,12 @@
+use Rattle.std.proofs.Common.{◌≡◌, ◌-◌, length}
+use Rattle.c_tree.specs.Trees.{trees_of}
+use Rattle.jump_meaning.specs.Code.{FunctionTree}
+use Rattle.loop_changes.specs.Slots.{Tells}
+use Rattle.next_changes.specs.Places.{AreQuiet}
+use Rattle.break_recovery.proofs.places.change_behind.Given as goal
+
+abbrev pub invariant-loop-i : goal.invariant-loop-i
+invariant-loop-i l = (l.list ≡ l.initial.list) × ((f : FunctionTree) → Tells l.counts f → AreQuiet f l.level l.from (trees_of l.initial.list) → AreQuiet f l.level l.i (trees_of l.initial.list))
+
+abbrev pub decreases-loop-i : goal.decreases-loop-i
+decreases-loop-i l = length l.list - l.i

@@ -1,0 +1,13 @@
+use Rattle.c_tree.specs.Trees.{trees_of}
+use Rattle.tail_exits.proofs.Counted.{if_ok_more}
+use Rattle.break_recovery.proofs.Outermost.{no_doubt}
+use Rattle.break_recovery.proofs.places.change_from.Goals as goal
+
+pub returns : goal.returns
+returns c =
+    let s = c.args.start in
+    record {
+      made = if_ok_more c.change_behind.result _ _
+          (λ it k f h q. k f h (no_doubt f c.args.level s.doubt s.from (trees_of c.args.list.now) c.if-start.false q)) c.change_behind.ensures.made;
+      kept = c.change_behind.ensures.kept;
+    }

@@ -1,0 +1,123 @@
+//! The next change of the outermost list, sought from a place on.
+
+ghost use Rattle.std.specs.Prelude.{◌≡◌, ◌<◌, Some, None, IfOk};
+ghost use Rattle.c_tree.specs.Trees.{trees_of};
+ghost use Rattle.jump_meaning.specs.Code.{FunctionTree};
+ghost use Rattle.loop_changes.specs.Slots.{Tells};
+ghost use Rattle.next_changes.specs.Next.{put, next_at, changed_to};
+ghost use Rattle.next_changes.specs.Places.{behind, replaced, AreQuiet, AreQuietBut, IsFoundAt, GoesOn};
+
+use crate::search::change_at;
+use c_tree::Item;
+use c_types::{List, Memory};
+use std::alloc::Global;
+
+/// Where the search for the next change goes on: at one place that is in doubt, and from another on.
+#[derive(Clone, Copy)]
+pub struct Start {
+    pub doubt: usize,
+    pub from: usize,
+}
+
+/// Makes the change at this place, if one applies, and answers its slot. Else the list stays.
+fn change_place(
+    alloc: Global,
+    counts: &List<u64>,
+    level: u32,
+    list: &mut List<Item>,
+    place: usize,
+) -> Result<Option<u32>, Memory>
+    ensures made { IfOk result (λ it. (f : FunctionTree) → Tells counts.now f → changed_to it (trees_of list.new) ≡ put (λ c. replaced place c (trees_of list.old)) (next_at f level (behind place (trees_of list.old)))) }
+    ensures kept { IfOk result (λ it. it ≡ None → list.new ≡ list.old) }
+{
+    if place < list.len() {
+        return change_at(alloc, counts, level, list, place);
+    }
+    Ok(None)
+}
+
+/// Makes the first change from this place on, if one applies, and answers its slot and its place. Else the list stays.
+fn change_behind(
+    alloc: Global,
+    counts: &List<u64>,
+    level: u32,
+    list: &mut List<Item>,
+    from: usize,
+) -> Result<Option<(u32, usize)>, Memory>
+    ensures made { IfOk result (λ it. (f : FunctionTree) → Tells counts.now f → AreQuiet f level from (trees_of list.old) → IsFoundAt f level it (trees_of list.old) (trees_of list.new)) }
+    ensures kept { IfOk result (λ it. it ≡ None → list.new ≡ list.old) }
+{
+    let mut i = from;
+    while i < list.len() {
+        let change = change_place(alloc, counts, level, list, i)?;
+        match change {
+            Some(slot) => return Ok(Some((slot, i))),
+            None => i += 1,
+        }
+    }
+    Ok(None)
+}
+
+/// The same of the whole list, at the place in doubt first.
+fn change_doubt(
+    alloc: Global,
+    counts: &List<u64>,
+    level: u32,
+    list: &mut List<Item>,
+    start: Start,
+) -> Result<Option<(u32, usize)>, Memory>
+    requires { start.doubt < start.from }
+    ensures made { IfOk result (λ it. (f : FunctionTree) → Tells counts.now f → AreQuietBut f level start.doubt start.from (trees_of list.old) → IsFoundAt f level it (trees_of list.old) (trees_of list.new)) }
+    ensures kept { IfOk result (λ it. it ≡ None → list.new ≡ list.old) }
+{
+    let change = change_place(alloc, counts, level, list, start.doubt)?;
+    match change {
+        Some(slot) => Ok(Some((slot, start.doubt))),
+        None => change_behind(alloc, counts, level, list, start.from),
+    }
+}
+
+/// The same of the whole list, where no change applies before the start, but for the place in doubt.
+pub fn change_from(
+    alloc: Global,
+    counts: &List<u64>,
+    level: u32,
+    list: &mut List<Item>,
+    start: Start,
+) -> Result<Option<(u32, usize)>, Memory>
+    ensures made { IfOk result (λ it. (f : FunctionTree) → Tells counts.now f → AreQuietBut f level start.doubt start.from (trees_of list.old) → IsFoundAt f level it (trees_of list.old) (trees_of list.new)) }
+    ensures kept { IfOk result (λ it. it ≡ None → list.new ≡ list.old) }
+{
+    if start.doubt < start.from {
+        return change_doubt(alloc, counts, level, list, start);
+    }
+    change_behind(alloc, counts, level, list, start.from)
+}
+
+/// Where the search goes on behind a change at this place, with the declaration gone from that one.
+pub fn behind_change(place: usize, gone: Option<usize>) -> Start
+    ensures { GoesOn place gone result.doubt result.from }
+{
+    match gone {
+        None => Start {
+            doubt: place,
+            from: place,
+        },
+        Some(at) => behind_removal(place, at),
+    }
+}
+
+fn behind_removal(place: usize, at: usize) -> Start
+    ensures { GoesOn place (Some at) result.doubt result.from }
+{
+    if place < at {
+        return Start {
+            doubt: place,
+            from: place,
+        };
+    }
+    Start {
+        doubt: at.saturating_sub(1),
+        from: place.saturating_sub(1),
+    }
+}
