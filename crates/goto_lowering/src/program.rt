@@ -3,6 +3,7 @@ ghost use Rattle.flat_names.specs.Gathered.{AreGathered};
 ghost use Rattle.jump_meaning.specs.Runs.{BehaveTheSame};
 ghost use Rattle.resolved_core.specs.Counts.{IsResolved};
 ghost use Rattle.goto_lowering.specs.Tops.{IsNext};
+ghost use Rattle.lowered_programs.specs.Expressions.{KeepsExpressions};
 ghost use Rattle.lowered_forms.specs.Lowering.{LoweredTops as AreLowered, IsTopLowered, IsLoweredProgram, top_gotos, tops_gotos, program_gotos};
 
 use crate::functions::{LoweredFunction, lower_function};
@@ -96,13 +97,15 @@ fn lower_tops(
 
 /// A resolved program in which the body of each function is one flat list of assignments, calls, returns, labels,
 /// gotos, and `if`s whose then-list is one goto, behind the declarations of its variables; and how many gotos it has.
-/// It behaves as the program does: from every entry, on every input and all answers. Want of memory is the only failure,
-/// and the program is given up then.
+/// It behaves as the program does: from every entry, on every input and all answers. A full expression of it is one of the
+/// program, or has at most two counted tokens more than an initialiser or a selector of that, or is made and has at most
+/// three. Want of memory is the only failure, and the program is given up then.
 pub fn lower(alloc: Global, program: Program) -> Result<(Program, u64), Memory>
     requires { IsResolved program }
     ensures lowered { IfOk result (λ r. IsLoweredProgram program r.0) }
     ensures gotos { IfOk result (λ r. r.1 ≡ program_gotos r.0) }
     ensures behaves { IfOk result (λ r. BehaveTheSame program r.0) }
+    ensures expressions { IfOk result (λ r. KeepsExpressions program r.0) }
 {
     let used = names(alloc, &program)?;
     // a list holds at most 4,294,967,295 names, which its slice tells

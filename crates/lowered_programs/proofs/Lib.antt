@@ -9,4 +9,5 @@ pub mod LoweredKinds
 pub mod Marks
 pub mod Numbered
 pub mod GotosStand
+pub mod Expressions
 pub mod TheLaws

@@ -6,9 +6,12 @@ use Rattle.lowered_core.specs.Functions.{IsLowered}
 use Rattle.c_resolved.specs.Limits.{FlatCounts}
 use Rattle.c_resolved.specs.Resolved.{IsResolvedWith}
 use Rattle.lowered_forms.specs.Lowering.{IsLoweredProgram}
+use Rattle.lowered_programs.specs.Expressions.{KeepsExpressions}
 
 pub record LoweredProgramLaws : Type 0 where
   -- each function with a body of what a resolved program is lowered to has the flat list of gotos of that body
   pub rewritten : (counts : FlatCounts) (p q : Program) → IsResolvedWith counts p → IsLoweredProgram p q → RewrittenTops IsLowered p.tops q.tops
   -- so it behaves the same
   pub behaves : (counts : FlatCounts) (p q : Program) → IsResolvedWith counts p → IsLoweredProgram p q → BehaveTheSame p q
+  -- and its full expressions come from those of the program
+  pub expressions : (counts : FlatCounts) (p q : Program) → IsResolvedWith counts p → IsLoweredProgram p q → KeepsExpressions p q
