@@ -15,7 +15,7 @@ use Rattle.file_jumps.specs.Jumps.{first_jump}
 use Rattle.jumpless_sources.specs.Laws.{TopLacksJumps}
 use Rattle.jumpless_sources.proofs.Files.{jumpless_sources}
 use Rattle.text_reading.specs.Reading.{counts_of, IsProgramOf}
-use Rattle.text_reading.proofs.Readings.{faultless}
+use Rattle.text_reading.proofs.Readings.{faultless, same_program}
 use Rattle.text_jumps.specs.Jumps.{jump_of_tokens, jump_of_syntax, text_jump, IsRefusedForJumps, IsWithoutJumps}
 use Rattle.text_jumps.specs.Laws.{TextJumpLaws}
 
@@ -30,7 +30,7 @@ lacks_jumps t p h e =
     let xs = file_of (word_of t tokens) h.syntax_of in
     let found = sym (ap (jump_of_tokens t) (scan_read_back t h.pieces h.spells) ∙ ap (jump_of_syntax t tokens) (parses t tokens h.syntax_of h.derives)) ∙ e in
     let none : first_jump xs ≡ None = none_before (λ at. refusal_of 60 t (offset_of t tokens at)) (first_jump xs) found in
-    subst (λ (z : Program). All TopLacksJumps z.tops) (sym h.is) (jumpless_sources (file_at counts_of t tokens (comments_of h.pieces) xs) xs start none)
+    subst (λ (z : Program). All TopLacksJumps z.tops) (same_program t h.pieces xs ∙ sym h.is) (jumpless_sources (file_at counts_of t tokens (comments_of h.pieces) xs) xs start none)
 
 none_is_some : (o : Option Refusal) (refusal : Refusal) → o ≡ None → o ≡ Some refusal → ⊥
 none_is_some o refusal e f = cc

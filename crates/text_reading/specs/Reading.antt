@@ -1,5 +1,5 @@
 -- What a text reads as: its program, or the refusal for its first fault (ISO/IEC 9899:2011, 5.1.1.2; docs/SUBSET.md).
-use Rattle.std.specs.Prelude.{◌≡◌, ◌⊎◌, ℕ, List, Some, None, Result}
+use Rattle.std.specs.Prelude.{◌≡◌, ◌⊎◌, ℕ, List, Result}
 use Rattle.c_types.specs.declared.refusal.Refusal.{Refusal}
 use Rattle.c_lexer.specs.Pieces.{Piece, Spells, tokens_of, comments_of}
 use Rattle.c_lexer.specs.Faults.{IsFirstFault}
@@ -12,7 +12,10 @@ use Rattle.c_source.specs.Parts.{file_of}
 use Rattle.c_kinds.specs.declared.typed.Fault.{Fault}
 use Rattle.c_statements.specs.Functions.{FlatCounts}
 use Rattle.c_reading.specs.Reading.{reading as reading_with}
-use Rattle.c_scopes.specs.Resolving.{program_of, violation_of, file_at, refused}
+use Rattle.c_scopes.specs.Resolving.{refused}
+use Rattle.rule_defs.specs.Violations.{IsLeast, IsFaultless}
+use Rattle.rule_defs.specs.Files.{IsViolation}
+use Rattle.rule_defs.specs.Programs.{program, file_written}
 use Rattle.c_tree.specs.declared.tree.Program.{Program}
 use Rattle.c_tree.specs.Trees.{trees_of}
 use Rattle.resolved_core.specs.Counts.{flat_counts}
@@ -41,7 +44,7 @@ pub record HasViolation (t : List ℕ) (refusal : Refusal) : Type 0 where
   pub syntax_of : Syntax
   pub derives : Derives (classes_of t (tokens_of pieces)) syntax_of
   pub violation : Fault
-  pub least : violation_of (file_at counts_of t (tokens_of pieces) (comments_of pieces) (file_of (word_of t (tokens_of pieces)) syntax_of)) (file_of (word_of t (tokens_of pieces)) syntax_of) ≡ Some violation
+  pub least : IsLeast (IsViolation (file_written counts_of t (tokens_of pieces) (comments_of pieces) (file_of (word_of t (tokens_of pieces)) syntax_of)) (file_of (word_of t (tokens_of pieces)) syntax_of)) violation
   pub place : refusal ≡ refused t (tokens_of pieces) violation
 
 -- the first fault of a text: of its bytes, else of its tokens, else of the rules for names, kinds and statements
@@ -57,8 +60,8 @@ pub record IsProgramOf (t : List ℕ) (p : Program) : Type 0 where
   pub spells : Spells pieces t
   pub syntax_of : Syntax
   pub derives : Derives (classes_of t (tokens_of pieces)) syntax_of
-  pub faultless : violation_of (file_at counts_of t (tokens_of pieces) (comments_of pieces) (file_of (word_of t (tokens_of pieces)) syntax_of)) (file_of (word_of t (tokens_of pieces)) syntax_of) ≡ None
-  pub is : p ≡ program_of (file_at counts_of t (tokens_of pieces) (comments_of pieces) (file_of (word_of t (tokens_of pieces)) syntax_of)) (file_of (word_of t (tokens_of pieces)) syntax_of)
+  pub faultless : IsFaultless (IsViolation (file_written counts_of t (tokens_of pieces) (comments_of pieces) (file_of (word_of t (tokens_of pieces)) syntax_of)) (file_of (word_of t (tokens_of pieces)) syntax_of))
+  pub is : p ≡ program (file_written counts_of t (tokens_of pieces) (comments_of pieces) (file_of (word_of t (tokens_of pieces)) syntax_of)) (file_of (word_of t (tokens_of pieces)) syntax_of)
 
 -- a text without fault
 abbrev pub IsInSubset : List ℕ → Type 0

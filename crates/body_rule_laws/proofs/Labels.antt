@@ -1,0 +1,104 @@
+-- The labels of a function: known ones, and ones that stand twice.
+use Rattle.std.proofs.Common.{◌≡◌, ◌⊎◌, inl, inr, ℕ, Bool, true, false, cond, ◌||◌, List, [], ◌∷◌, ◌++◌, map, length, Option, Some, is_some, refl, sym, ap, subst, ◌∙◌, bytes_eq, true≢false}
+use Rattle.c_kinds.specs.declared.typed.Fault.{Fault}
+use Rattle.c_kinds.specs.Scopes.{Names, found, with_entry, fault_if}
+use Rattle.c_kinds.proofs.Entries.{same_names, names_same, found_entry}
+use Rattle.c_statements.specs.Context.{has_label}
+use Rattle.c_statements.specs.Labels.{with_number, numbers_from, numbers, twice_from, twice_faults}
+use Rattle.rule_defs.specs.Behind.{SomeBehind, IsOne}
+use Rattle.rule_defs.specs.Functions.{LabelTwice}
+use Rattle.rule_defs.specs.Violations.{broken}
+use Rattle.rule_laws.specs.Finds.{Finds}
+use Rattle.rule_laws.proofs.Finding.{finds_none, finds_both, finds_same, finds_if}
+
+-- ---- known labels
+
+either : (t : Bool) (n : ℕ) (o : Option ℕ) → is_some (cond t (Some n) o) ≡ (t || is_some o)
+either true n o = refl
+either false n o = refl
+
+same_or : (b c : Bool) → (b ≡ true → c ≡ true) → c ≡ (b || c)
+same_or true c f = f refl
+same_or false c f = refl
+
+-- a name is known behind these and one more
+has_more : (q n : List ℕ) (known : Names ℕ) → has_label (with_number n known) q ≡ (bytes_eq q n || has_label known q)
+has_more q n known = by (has_label known n) refl
+  where
+    by : (b : Bool) → has_label known n ≡ b → has_label (cond b known (with_entry n (length known) known)) q ≡ (bytes_eq q n || has_label known q)
+    by true e = same_or (bytes_eq q n) (has_label known q) (λ g. subst (λ z. has_label known z ≡ true) (sym (same_names q n g)) e)
+    by false e = ap is_some (found_entry q n (length known) known) ∙ either (bytes_eq q n) (length known) (found q known)
+
+or_parts : (a b : Bool) → (a || b) ≡ true → (a ≡ true) ⊎ (b ≡ true)
+or_parts true b e = inl refl
+or_parts false b e = inr e
+
+or_left : (a b : Bool) → a ≡ true → (a || b) ≡ true
+or_left true b e = refl
+or_left false b e = absurd (true≢false (sym e))
+
+or_right : (a b : Bool) → b ≡ true → (a || b) ≡ true
+or_right true b e = refl
+or_right false b e = e
+
+known_one : (ns : List (List ℕ)) (known : Names ℕ) (q : List ℕ) → has_label (numbers_from known ns) q ≡ true → (has_label known q ≡ true) ⊎ IsOne q ns
+known_one [] known q e = inl e
+known_one (n ∷ ns) known q e = elim (known_one ns (with_number n known) q e) [
+  | inl g ↦ elim (or_parts (bytes_eq q n) (has_label known q) (sym (has_more q n known) ∙ g)) [ inl h ↦ inr (inl (same_names q n h)) | inr h ↦ inl h ]
+  | inr h ↦ inr (inr h)
+]
+
+one_known : (ns : List (List ℕ)) (known : Names ℕ) (q : List ℕ) → (has_label known q ≡ true) ⊎ IsOne q ns → has_label (numbers_from known ns) q ≡ true
+one_known [] known q (inl e) = e
+one_known [] known q (inr h) = absurd h
+one_known (n ∷ ns) known q (inl e) = one_known ns (with_number n known) q (inl (has_more q n known ∙ or_right (bytes_eq q n) (has_label known q) e))
+one_known (n ∷ ns) known q (inr (inl e)) = one_known ns (with_number n known) q (inl (has_more q n known ∙ or_left (bytes_eq q n) (has_label known q) (names_same q n e)))
+one_known (n ∷ ns) known q (inr (inr h)) = one_known ns (with_number n known) q (inr h)
+
+pub label_known : (ns : List (List ℕ)) (q : List ℕ) → has_label (numbers ns) q ≡ true → IsOne q ns
+label_known ns q e = elim (known_one ns [] q e) [ inl g ↦ absurd (true≢false (sym g)) | inr h ↦ h ]
+
+pub known_label : (ns : List (List ℕ)) (q : List ℕ) → IsOne q ns → has_label (numbers ns) q ≡ true
+known_label ns q h = one_known ns [] q (inr h)
+
+-- ---- labels that stand twice
+
+module _ (word : ℕ → List ℕ) where
+  one_more : (q : List ℕ) (before : List ℕ) (at : ℕ) → IsOne q (map word (before ++ at ∷ [])) → IsOne q (map word before) ⊎ (q ≡ word at)
+  one_more q [] at (inl e) = inr e
+  one_more q [] at (inr h) = absurd h
+  one_more q (b ∷ bs) at (inl e) = inl (inl e)
+  one_more q (b ∷ bs) at (inr h) = elim (one_more q bs at h) [ inl a ↦ inl (inr a) | inr e ↦ inr e ]
+
+  more_one : (q : List ℕ) (before : List ℕ) (at : ℕ) → IsOne q (map word before) ⊎ (q ≡ word at) → IsOne q (map word (before ++ at ∷ []))
+  more_one q [] at (inl h) = absurd h
+  more_one q [] at (inr e) = inl e
+  more_one q (b ∷ bs) at (inl (inl e)) = inl e
+  more_one q (b ∷ bs) at (inl (inr h)) = inr (more_one q bs at (inl h))
+  more_one q (b ∷ bs) at (inr e) = inr (more_one q bs at (inr e))
+
+  abbrev Knows : List ℕ → Names ℕ → Type 0
+  Knows before known = (q : List ℕ) → (has_label known q ≡ true → IsOne q (map word before)) × (IsOne q (map word before) → has_label known q ≡ true)
+
+  knows_more : (before : List ℕ) (known : Names ℕ) (at : ℕ) → Knows before known → Knows (before ++ at ∷ []) (with_number (word at) known)
+  knows_more before known at k q = (
+    λ e. more_one q before at (elim (or_parts (bytes_eq q (word at)) (has_label known q) (sym (has_more q (word at) known) ∙ e)) [ inl g ↦ inr (same_names q (word at) g) | inr g ↦ inl ((k q).0 g) ]),
+    λ h. has_more q (word at) known ∙ elim (one_more q before at h) [
+      | inl a ↦ or_right (bytes_eq q (word at)) (has_label known q) ((k q).1 a)
+      | inr e ↦ or_left (bytes_eq q (word at)) (has_label known q) (names_same q (word at) e)
+    ],
+  )
+
+  twice : (ats before : List ℕ) (known : Names ℕ) → Knows before known → Finds (twice_from known word ats) (λ v. SomeBehind (λ b at. LabelTwice word b at v) before ats)
+  twice [] before known k = finds_none
+  twice (at ∷ ats) before known k =
+      finds_both (fault_if (has_label known (word at)) at 32) (twice_from (with_number (word at) known) word ats) _ _
+      (finds_same (fault_if (has_label known (word at)) at 32) _ (λ v. LabelTwice word before at v) (finds_if (has_label known (word at)) at 32)
+      (λ v p. subst (LabelTwice word before at) (sym p.1) (LabelTwice.label_twice ((k (word at)).0 p.0))) fro)
+      (twice ats (before ++ at ∷ []) (with_number (word at) known) (knows_more before known at k))
+    where
+      fro : (v : Fault) → LabelTwice word before at v → (has_label known (word at) ≡ true) × (v ≡ broken at 32)
+      fro v (LabelTwice.label_twice h) = ((k (word at)).1 h, refl)
+
+  pub labels_twice : (ats : List ℕ) → Finds (twice_faults word ats) (λ v. SomeBehind (λ b at. LabelTwice word b at v) [] ats)
+  labels_twice ats = twice ats [] [] (λ q. (λ e. absurd (true≢false (sym e)), λ h. absurd h))

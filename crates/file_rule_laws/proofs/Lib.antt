@@ -1,0 +1,3 @@
+pub mod FileScope
+pub mod FunctionNames
+pub mod TheLaws

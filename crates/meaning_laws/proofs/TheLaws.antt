@@ -1,0 +1,15 @@
+-- The laws of this crate.
+use Rattle.meaning_laws.specs.Laws.{MeaningLaws}
+use Rattle.meaning_laws.proofs.Lookups.{bound_is, is_bound, unbound_is, is_unbound}
+use Rattle.meaning_laws.proofs.Formats.{format_is, is_format}
+use Rattle.meaning_laws.proofs.Meanings.{typed_is, is_typed, target_is, is_target, wrong_not}
+
+pub meaning_laws : MeaningLaws
+meaning_laws = record {
+  bound = λ name ss b. (bound_is name ss b, is_bound name ss b);
+  unbound = λ name ss. (unbound_is name ss, is_unbound name ss);
+  format = λ bytes ws. (format_is bytes ws, is_format bytes ws);
+  means = λ env t x. (typed_is env t x, is_typed env t x);
+  right = wrong_not;
+  target = λ env t y. (target_is env t y, is_target env t y);
+}

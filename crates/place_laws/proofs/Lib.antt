@@ -1,0 +1,4 @@
+pub mod Scopes
+pub mod AlikeTerms
+pub mod Standing
+pub mod FileStanding

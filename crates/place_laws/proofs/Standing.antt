@@ -1,0 +1,162 @@
+-- A walk stands at a place: the names are the same there, and it has as many slots as there are variables before.
+use Rattle.std.proofs.Common.{◌≡◌, ℕ, ◌+◌, List, [], ◌∷◌, ◌++◌, length, length-append, Option, Some, None, refl, ap, sym, subst, ◌∙◌, arith, add-zero, add_assoc}
+use Rattle.c_tree.specs.declared.tree.Slot.{Slot}
+use Rattle.c_source.specs.Items.{Declarator, Start, NoStart, StartValue, StartNames, Item, Declares, States, Plain, From, Statement, Null, Evaluate, If, IfElse, While, DoWhile, For, Switch, Block, Goto, Break, Continue, Return, Unread, Body, Braces, Lone, Items, NoItem, Then}
+use Rattle.c_source.specs.Tops.{Parameter}
+use Rattle.c_kinds.specs.declared.binding.Binding.TheVariants.{Local}
+use Rattle.c_kinds.specs.Scopes.{Scope, bind}
+use Rattle.c_statements.specs.declared.extents.Kinded.{Kinded}
+use Rattle.c_statements.specs.Context.{Context, Walk, enter}
+use Rattle.c_statements.specs.Declarations.{kinded, shape_of, slot_of, declared, all_declared}
+use Rattle.c_statements.specs.Functions.{parameter_shape, parameter_slot, bind_parameter, bind_parameters}
+use Rattle.c_statements.specs.Functions as functions
+use Rattle.c_statements.specs.Statements.{behind_start as start_walked, behind_item, behind_plain, behind_statement, behind_body, behind_items}
+use Rattle.rule_defs.specs.Bindings.{with_declaration}
+use Rattle.rule_defs.specs.Places.{Place, within, within_loop, within_switch, past, entered, behind, behind_name, behind_names, behind_start, behind_parameter, behind_parameters, variables_of_start, variables_in, variables_of_plain, variables_of_statement, variables_of_body, variables_of_list}
+pub use Rattle.place_laws.proofs.Scopes.{AreMaps}
+use Rattle.place_laws.proofs.Scopes.{maps_bind}
+
+pub record Stands (w : Walk) (p : Place) : Type 0 where
+  pub maps : AreMaps w.scopes p.scopes
+  pub count : length w.slots ≡ p.variables
+
+-- ---- in a list of its own
+
+pub stands_within : (w : Walk) (p : Place) → Stands w p → Stands (enter w) (within p)
+stands_within w p h = record { maps = (λ name. refl, h.maps); count = h.count }
+
+pub stands_in_loop : (w : Walk) (p : Place) → Stands w p → Stands w (within_loop p)
+stands_in_loop w p h = record { maps = h.maps; count = h.count }
+
+pub stands_in_switch : (w : Walk) (p : Place) → Stands w p → Stands w (within_switch p)
+stands_in_switch w p h = record { maps = h.maps; count = h.count }
+
+-- ---- behind declarations
+
+one_more : (xs : List Slot) (x : Slot) → length (xs ++ x ∷ []) ≡ length xs + 1
+one_more xs x = length-append xs (x ∷ [])
+
+pub stands_name : (word : ℕ → List ℕ) (k : Kinded) (d : Declarator) (w : Walk) (p : Place) → Stands w p → Stands (declared word k d w) (behind_name word k d p)
+stands_name word k d w p h = record {
+  maps = maps_bind (word d.name) (Local (length w.slots) (shape_of k d)) (Local p.variables (shape_of k d)) w.scopes p.scopes (ap (λ n. Local n (shape_of k d)) h.count) h.maps;
+  count = one_more w.slots _ ∙ ap (λ n. n + 1) h.count;
+}
+
+pub stands_names : (word : ℕ → List ℕ) (k : Kinded) (ds : List Declarator) (w : Walk) (p : Place) → Stands w p → Stands (all_declared word k ds w) (behind_names word k ds p)
+stands_names word k [] w p h = h
+stands_names word k (d ∷ ds) w p h = stands_names word k ds (declared word k d w) (behind_name word k d p) (stands_name word k d w p h)
+
+pub stands_start : (ctx : Context) (s : Start) (w : Walk) (p : Place) → Stands w p → Stands (start_walked ctx s w) (behind_start ctx.word s p)
+stands_start ctx NoStart w p h = h
+stands_start ctx (StartValue t) w p h = h
+stands_start ctx (StartNames d) w p h = stands_names ctx.word (kinded ctx.word d) d.names w p h
+
+-- ---- how many slots are more behind a statement
+
+-- so many more, and then so many more
+in_turn : (a b m n : ℕ) {c : ℕ} → b ≡ a + m → c ≡ b + n → c ≡ a + (m + n)
+in_turn a b m n e f = f ∙ ap (λ z. z + n) e ∙ add_assoc a m n
+
+names_count : (word : ℕ → List ℕ) (k : Kinded) (ds : List Declarator) (w : Walk) → length (all_declared word k ds w).slots ≡ length w.slots + length ds
+names_count word k [] w = sym (add-zero (length w.slots))
+names_count word k (d ∷ ds) w =
+    let e = names_count word k ds (declared word k d w) in
+    let f = one_more w.slots (slot_of (record { word = word; scopes = w.scopes }) k d) in
+    omega arith
+
+start_count : (ctx : Context) (s : Start) (w : Walk) → length (start_walked ctx s w).slots ≡ length w.slots + variables_of_start s
+start_count ctx NoStart w = sym (add-zero (length w.slots))
+start_count ctx (StartValue t) w = sym (add-zero (length w.slots))
+start_count ctx (StartNames d) w = names_count ctx.word (kinded ctx.word d) d.names w
+
+mutual
+  item_count : (ctx : Context) (x : Item) (w : Walk) → length (behind_item ctx x w).slots ≡ length w.slots + variables_in x
+  item_count ctx (Declares first after d) w = names_count ctx.word (kinded ctx.word d) d.names w
+  item_count ctx (States ls p) w = plain_count ctx p w
+
+  plain_count : (ctx : Context) (p : Plain) (w : Walk) → length (behind_plain ctx p w).slots ≡ length w.slots + variables_of_plain p
+  plain_count ctx (From first after s) w = statement_count ctx s w
+
+  statement_count : (ctx : Context) (s : Statement) (w : Walk) → length (behind_statement ctx s w).slots ≡ length w.slots + variables_of_statement s
+  statement_count ctx (If t b) w = body_count ctx b w
+  statement_count ctx (IfElse t b c) w = in_turn (length w.slots) (length (behind_body ctx b w).slots) (variables_of_body b) (variables_of_body c) (body_count ctx b w) (body_count ctx c (behind_body ctx b w))
+  statement_count ctx (While t b) w = body_count ctx b w
+  statement_count ctx (DoWhile b t) w = body_count ctx b w
+  statement_count ctx (For start t u b) w =
+      in_turn (length w.slots) (length (start_walked ctx start (enter w)).slots) (variables_of_start start) (variables_of_body b) (start_count ctx start (enter w)) (body_count ctx b (start_walked ctx start (enter w)))
+  statement_count ctx (Switch t b) w = body_count ctx b w
+  statement_count ctx (Block b) w = body_count ctx b w
+  statement_count ctx Null w = sym (add-zero (length w.slots))
+  statement_count ctx (Evaluate t) w = sym (add-zero (length w.slots))
+  statement_count ctx (Goto t) w = sym (add-zero (length w.slots))
+  statement_count ctx Break w = sym (add-zero (length w.slots))
+  statement_count ctx Continue w = sym (add-zero (length w.slots))
+  statement_count ctx (Return t) w = sym (add-zero (length w.slots))
+  statement_count ctx Unread w = sym (add-zero (length w.slots))
+
+  body_count : (ctx : Context) (b : Body) (w : Walk) → length (behind_body ctx b w).slots ≡ length w.slots + variables_of_body b
+  body_count ctx (Braces first after xs) w = list_count ctx xs (enter w)
+  body_count ctx (Lone first after x) w = item_count ctx x (enter w)
+
+  list_count : (ctx : Context) (xs : Items) (w : Walk) → length (behind_items ctx xs w).slots ≡ length w.slots + variables_of_list xs
+  list_count ctx NoItem w = sym (add-zero (length w.slots))
+  list_count ctx (Then x xs) w = in_turn (length w.slots) (length (behind_item ctx x w).slots) (variables_in x) (variables_of_list xs) (item_count ctx x w) (list_count ctx xs (behind_item ctx x w))
+
+-- the scopes are what they were
+body_scopes : (ctx : Context) (b : Body) (w : Walk) → (behind_body ctx b w).scopes ≡ w.scopes
+body_scopes ctx (Braces first after xs) w = refl
+body_scopes ctx (Lone first after x) w = refl
+
+statement_scopes : (ctx : Context) (s : Statement) (w : Walk) → (behind_statement ctx s w).scopes ≡ w.scopes
+statement_scopes ctx (If t b) w = body_scopes ctx b w
+statement_scopes ctx (IfElse t b c) w = body_scopes ctx c (behind_body ctx b w) ∙ body_scopes ctx b w
+statement_scopes ctx (While t b) w = body_scopes ctx b w
+statement_scopes ctx (DoWhile b t) w = body_scopes ctx b w
+statement_scopes ctx (For start t u b) w = refl
+statement_scopes ctx (Switch t b) w = body_scopes ctx b w
+statement_scopes ctx (Block b) w = body_scopes ctx b w
+statement_scopes ctx Null w = refl
+statement_scopes ctx (Evaluate t) w = refl
+statement_scopes ctx (Goto t) w = refl
+statement_scopes ctx Break w = refl
+statement_scopes ctx Continue w = refl
+statement_scopes ctx (Return t) w = refl
+statement_scopes ctx Unread w = refl
+
+stands_past : (w v : Walk) (p : Place) (n : ℕ) → Stands w p → v.scopes ≡ w.scopes → length v.slots ≡ length w.slots + n → Stands v (past n p)
+stands_past w v p n h e f = record { maps = subst (λ ss. AreMaps ss p.scopes) (sym e) h.maps; count = f ∙ ap (λ i. i + n) h.count }
+
+-- ---- behind items
+
+pub stands_body : (ctx : Context) (b : Body) (w : Walk) (p : Place) → Stands w p → Stands (behind_body ctx b w) (past (variables_of_body b) p)
+stands_body ctx b w p h = stands_past w (behind_body ctx b w) p (variables_of_body b) h (body_scopes ctx b w) (body_count ctx b w)
+
+plain_scopes : (ctx : Context) (s : Plain) (w : Walk) → (behind_plain ctx s w).scopes ≡ w.scopes
+plain_scopes ctx (From first after s) w = statement_scopes ctx s w
+
+pub stands_plain : (ctx : Context) (s : Plain) (w : Walk) (p : Place) → Stands w p → Stands (behind_plain ctx s w) (past (variables_of_plain s) p)
+stands_plain ctx s w p h = stands_past w (behind_plain ctx s w) p (variables_of_plain s) h (plain_scopes ctx s w) (plain_count ctx s w)
+
+pub stands_item : (ctx : Context) (x : Item) (w : Walk) (p : Place) → Stands w p → Stands (behind_item ctx x w) (behind ctx.word x p)
+stands_item ctx (Declares first after d) w p h = stands_names ctx.word (kinded ctx.word d) d.names w p h
+stands_item ctx (States ls s) w p h = stands_plain ctx s w p h
+
+-- ---- functions
+
+pub stands_entered : (ms ss : List Scope) → AreMaps ms ss → Stands (functions.entered ms) (entered ss)
+stands_entered ms ss h = record { maps = (λ name. refl, h); count = refl }
+
+pub stands_parameter : (word : ℕ → List ℕ) (x : Parameter) (w : Walk) (p : Place) → Stands w p → Stands (bind_parameter word x w) (behind_parameter word x p)
+stands_parameter word x w p h = record {
+  maps = by_name x.name;
+  count = one_more w.slots (parameter_slot word x) ∙ ap (λ n. n + 1) h.count;
+}
+  where
+    by_name : (o : Option ℕ) → AreMaps (elim o [ Some at ↦ bind (word at) (Local (length w.slots) (parameter_shape word x)) w.scopes | None ↦ w.scopes ])
+        (elim o [ Some at ↦ with_declaration (word at) (Local p.variables (parameter_shape word x)) p.scopes | None ↦ p.scopes ])
+    by_name (Some at) = maps_bind (word at) (Local (length w.slots) (parameter_shape word x)) (Local p.variables (parameter_shape word x)) w.scopes p.scopes (ap (λ n. Local n (parameter_shape word x)) h.count) h.maps
+    by_name None = h.maps
+
+pub stands_parameters : (word : ℕ → List ℕ) (xs : List Parameter) (w : Walk) (p : Place) → Stands w p → Stands (bind_parameters word xs w) (behind_parameters word xs p)
+stands_parameters word [] w p h = h
+stands_parameters word (x ∷ xs) w p h = stands_parameters word xs (bind_parameter word x w) (behind_parameter word x p) (stands_parameter word x w p h)

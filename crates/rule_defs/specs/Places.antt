@@ -1,0 +1,110 @@
+-- The places of a function. What is known at one is told by what stands above it, and in front of it in its own list.
+use Rattle.std.specs.Prelude.{ℕ, ◌+◌, List, [], ◌∷◌, length, Some, None}
+use Rattle.c_source.specs.Items.{Declarator, Declaration, Start, StartNames, Item, Declares, States, Plain, From, Statement, If, IfElse, While, DoWhile, For, Switch, Block, Body, Braces, Lone, Items, NoItem, Then}
+use Rattle.c_source.specs.Tops.{Parameter}
+use Rattle.c_kinds.specs.declared.binding.Binding.TheVariants.{Local}
+use Rattle.c_kinds.specs.Scopes.{Env, Scope}
+use Rattle.c_statements.specs.declared.extents.Kinded.{Kinded}
+use Rattle.c_statements.specs.Context.{Around, no_construct, in_loop, in_switch}
+use Rattle.c_statements.specs.Declarations.{kinded, shape_of}
+use Rattle.c_statements.specs.Functions.{parameter_shape}
+use Rattle.rule_defs.specs.Bindings.{with_declaration}
+
+pub record Place : Type 0 where
+  -- the scopes round it, the nearest first, each with its declarations before the place
+  pub scopes : List Scope
+  -- how many variables the function has before it, with its parameters and those of nested lists
+  pub variables : ℕ
+  -- the constructs round it
+  pub around : Around
+
+abbrev pub env_of : (ℕ → List ℕ) → Place → Env
+env_of word p = record { word = word; scopes = p.scopes }
+
+-- ---- into a construct
+
+-- a list is a scope of its own
+abbrev pub within : Place → Place
+within p = record { scopes = [] ∷ p.scopes; variables = p.variables; around = p.around }
+
+abbrev pub within_loop : Place → Place
+within_loop p = record { scopes = p.scopes; variables = p.variables; around = in_loop p.around }
+
+abbrev pub within_switch : Place → Place
+within_switch p = record { scopes = p.scopes; variables = p.variables; around = in_switch p.around }
+
+-- ---- how many variables are declared in a statement, at any depth
+
+abbrev pub variables_of_start : Start → ℕ
+variables_of_start (StartNames d) = length d.names
+variables_of_start _ = 0
+
+abbrev mutual
+  pub variables_in : Item → ℕ
+  variables_in (Declares first after d) = length d.names
+  variables_in (States ls p) = variables_of_plain p
+
+  pub variables_of_plain : Plain → ℕ
+  variables_of_plain (From first after s) = variables_of_statement s
+
+  pub variables_of_statement : Statement → ℕ
+  variables_of_statement (If t b) = variables_of_body b
+  variables_of_statement (IfElse t b c) = variables_of_body b + variables_of_body c
+  variables_of_statement (While t b) = variables_of_body b
+  variables_of_statement (DoWhile b t) = variables_of_body b
+  variables_of_statement (For start t u b) = variables_of_start start + variables_of_body b
+  variables_of_statement (Switch t b) = variables_of_body b
+  variables_of_statement (Block b) = variables_of_body b
+  variables_of_statement _ = 0
+
+  pub variables_of_body : Body → ℕ
+  variables_of_body (Braces first after xs) = variables_of_list xs
+  variables_of_body (Lone first after x) = variables_in x
+
+  pub variables_of_list : Items → ℕ
+  variables_of_list NoItem = 0
+  variables_of_list (Then x xs) = variables_in x + variables_of_list xs
+
+-- ---- behind what stands in front
+
+-- behind a declarator, and before its initialiser
+abbrev pub behind_name : (ℕ → List ℕ) → Kinded → Declarator → Place → Place
+behind_name word k d p = record { scopes = with_declaration (word d.name) (Local p.variables (shape_of k d)) p.scopes; variables = p.variables + 1; around = p.around }
+
+abbrev pub behind_names : (ℕ → List ℕ) → Kinded → List Declarator → Place → Place
+behind_names word k [] p = p
+behind_names word k (d ∷ ds) p = behind_names word k ds (behind_name word k d p)
+
+abbrev pub behind_declaration : (ℕ → List ℕ) → Declaration → Place → Place
+behind_declaration word d p = behind_names word (kinded word d) d.names p
+
+-- behind a nested list, whose names are out of scope
+abbrev pub past : ℕ → Place → Place
+past variables p = record { scopes = p.scopes; variables = p.variables + variables; around = p.around }
+
+abbrev pub behind : (ℕ → List ℕ) → Item → Place → Place
+behind word (Declares first after d) p = behind_declaration word d p
+behind word (States ls s) p = past (variables_of_plain s) p
+
+-- behind the first part of a `for`, which has a scope of its own
+abbrev pub behind_start : (ℕ → List ℕ) → Start → Place → Place
+behind_start word (StartNames d) p = behind_declaration word d p
+behind_start word _ p = p
+
+-- ---- functions
+
+-- in front of the parameters: they and the outermost list are one scope
+abbrev pub entered : List Scope → Place
+entered scopes = record { scopes = [] ∷ scopes; variables = 0; around = no_construct }
+
+abbrev pub behind_parameter : (ℕ → List ℕ) → Parameter → Place → Place
+behind_parameter word x p =
+    record {
+      scopes = elim x.name [ Some at ↦ with_declaration (word at) (Local p.variables (parameter_shape word x)) p.scopes | None ↦ p.scopes ];
+      variables = p.variables + 1;
+      around = p.around;
+    }
+
+abbrev pub behind_parameters : (ℕ → List ℕ) → List Parameter → Place → Place
+behind_parameters word [] p = p
+behind_parameters word (x ∷ xs) p = behind_parameters word xs (behind_parameter word x p)

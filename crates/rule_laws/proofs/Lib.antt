@@ -1,0 +1,7 @@
+pub mod Finding
+pub mod Bound
+pub mod Uses
+pub mod Calls
+pub mod Expressions
+pub mod Least
+pub mod TheLaws
