@@ -1,1 +1,2 @@
 pub mod Restructure
+pub mod Works

@@ -2,8 +2,6 @@ ghost use Rattle.std.specs.Prelude.{◌≡◌, ◌↔◌, ℕ, List, Option, map
 ghost use Rattle.command_lines.specs.Lines.{Tells, usage_line};
 ghost use Rattle.command_lines.specs.Command.{Restructure, Run, Demo, Help, Show, Moves, Replay, Tidy, Lower, command_of};
 ghost use Rattle.command_lines.specs.Help.{Helps};
-ghost use Rattle.file_commands.specs.Translated.{Completes as CompletesWhere};
-ghost use Rattle.file_commands.specs.Written.{Writes};
 ghost use Rattle.demo_runs.specs.Demos.{ShowsDemo, CompletesDemo};
 ghost use Rattle.text_runs.specs.Texts.{RunsText, CompletesText};
 ghost use Rattle.text_replay.specs.Texts.{ReplaysText, CompletesText as CompletesReplay};
@@ -11,37 +9,12 @@ ghost use Rattle.text_tidy.specs.Texts.{TidiesText, CompletesText as CompletesTi
 ghost use Rattle.text_lower.specs.Texts.{LowersText, CompletesText as CompletesLower};
 ghost use Rattle.regoto.specs.Restructure.{Restructures, ShowsRestructured, Completes};
 
-use crate::restructurer::Restructurer;
-use command_lines::{Job, Status, command, tell, write_help};
-use demo_runs::demo;
-use file_commands::{Part, Targets, Translator, show, write};
-use replay_commands::replay_file;
+use crate::works::TextWorks;
+use command_lines::Status;
+use command_table::carry_out;
+use file_commands::Part;
 use rg_ports::{Shelf, Sink, Source};
-use run_commands::run_file;
 use std::alloc::Global;
-use text_lower::TextLowerer;
-use text_replay::TextReplayer;
-use text_runs::TextReader;
-use text_tidy::TextTidier;
-
-/// Reads one file, and writes what becomes of its text to another, which may be the same; no report is written.
-fn write_text<T: Translator, H: Shelf, E: Sink>(
-    alloc: Global,
-    translator: &T,
-    from: &str,
-    text: &str,
-    shelf: &mut H,
-    err: &mut E,
-) -> Status
-    ensures writes { Writes (λ line. Tells (E.written err.old) (E.written err.new) (E.faults err.old) (E.faults err.new) line)
-        T.gives T.refuses from.now text.now None (H.held shelf.old) (H.held shelf.new)
-        (H.reads shelf.old) (H.reads shelf.new) (H.write_faults shelf.old) (H.write_faults shelf.new) result }
-    ensures completes { CompletesWhere T.accepts from.now (H.held shelf.old) (H.reads shelf.old) (H.reads shelf.new)
-        (H.write_faults shelf.old) (H.write_faults shelf.new) result }
-{
-    let to = Targets { text, report: None };
-    write(alloc, translator, from, &to, shelf, err)
-}
 
 /// Carries out the command that the words after the program's name are, through these ports.
 /// docs/COMMANDS.md lists the words, the statuses and the lines on `err`.
@@ -137,32 +110,5 @@ pub fn regoto<H: Shelf, I: Source, O: Sink, E: Sink>(
     // Every other command leaves the input untouched.
     ensures input { ((from : List ℕ) (steps : ℕ) → ¬ (command_of (map string_bytes words.now) ≡ Some (Run from steps))) → input.new ≡ input.old }
 {
-    match command(words) {
-        None => {
-            tell(err, "regoto: unknown use, try help\n");
-            Status::Usage
-        }
-        Some(Job::Restructure(from, text, report)) => {
-            write(
-                alloc,
-                &Restructurer,
-                from,
-                &Targets { text, report },
-                shelf,
-                err,
-            )
-        }
-        Some(Job::Run(from, steps)) => {
-            run_file(alloc, &TextReader, from, steps, shelf, input, out, err)
-        }
-        Some(Job::Demo(count)) => demo(alloc, count, out, err),
-        Some(Job::Help) => write_help(out, err),
-        Some(Job::Show(from)) => show(alloc, &Restructurer, from, Part::Text, shelf, out, err),
-        Some(Job::Moves(from)) => show(alloc, &Restructurer, from, Part::Report, shelf, out, err),
-        Some(Job::Replay(from, report, to)) => {
-            replay_file(alloc, &TextReplayer, from, report, to, shelf, err)
-        }
-        Some(Job::Tidy(from, to)) => write_text(alloc, &TextTidier, from, to, shelf, err),
-        Some(Job::Lower(from, to)) => write_text(alloc, &TextLowerer, from, to, shelf, err),
-    }
+    carry_out(alloc, &TextWorks, words, shelf, input, out, err)
 }

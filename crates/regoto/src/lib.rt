@@ -3,6 +3,7 @@
 
 mod call;
 mod restructurer;
+mod works;
 
 pub use call::regoto;
 pub use command_lines::{Job, STEPS, Status, command};

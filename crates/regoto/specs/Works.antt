@@ -1,0 +1,26 @@
+-- What the commands do with texts.
+use Rattle.std.specs.Prelude.{ℕ, List, Option}
+use Rattle.command_table.specs.Effects.{Effects}
+use Rattle.demo_runs.specs.Demos.{ShowsDemo, CompletesDemo}
+use Rattle.text_runs.specs.Texts.{RunsText, CompletesText}
+use Rattle.text_replay.specs.Texts.{ReplaysText, CompletesText as CompletesReplay}
+use Rattle.text_tidy.specs.Texts.{TidiesText, CompletesText as CompletesTidy}
+use Rattle.text_lower.specs.Texts.{LowersText, CompletesText as CompletesLower}
+use Rattle.regoto.specs.Restructure.{Restructures, ShowsRestructured, Completes}
+
+abbrev pub text_effects : Effects
+text_effects = record {
+  restructures = Restructures;
+  shows = ShowsRestructured;
+  completes = Completes;
+  runs = RunsText;
+  completes_run = CompletesText;
+  replays = ReplaysText;
+  completes_replay = CompletesReplay;
+  tidies = TidiesText;
+  completes_tidy = CompletesTidy;
+  lowers = LowersText;
+  completes_lower = CompletesLower;
+  demonstrates = ShowsDemo;
+  completes_demo = CompletesDemo;
+}
