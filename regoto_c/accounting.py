@@ -7,6 +7,7 @@ from collections import Counter
 from typing import TYPE_CHECKING, Any, Iterator
 
 from . import forms, libclang
+from .clang_types import Type, type_of
 from .forms import Items
 from .lexing import TokenKind
 from .libclang import Kind
@@ -84,7 +85,7 @@ def uses_of(cutter: Cutter, renames: dict[int, str]) -> Counter[tuple[str, str]]
     entities: dict[int, tuple[str, str]] = {}
     found: Counter[tuple[str, str]] = Counter()
     for cursor in cutter.syntax.references:
-        if cursor._kind_id != Kind.DECL_REF_EXPR.value:
+        if cursor.kind != Kind.DECL_REF_EXPR:
             continue
         entity = libclang.referenced(cursor)
         if entity is None:
@@ -95,11 +96,20 @@ def uses_of(cutter: Cutter, renames: dict[int, str]) -> Counter[tuple[str, str]]
             if number in top:
                 entities[number] = (renames.get(libclang.name_offset(entity), name), "top")
             elif number in inner:
-                entities[number] = (name, "piece")
+                entities[number] = (_own_name(cutter, entity), "piece")
             else:
-                entities[number] = (name, "parameter" if entity._kind_id == Kind.PARM_DECL.value else "outside")
+                entities[number] = (name, "parameter" if entity.kind == Kind.PARM_DECL else "outside")
         found[entities[number]] += 1
     return found
+
+
+def _own_name(cutter: Cutter, variable: Any) -> str:
+    """Return the name of a variable, or the macro that makes it: a name may be made of the number of a line."""
+    name, offset = libclang.spelling(variable), libclang.name_offset(variable)
+    if cutter.file.text.startswith(name, offset):
+        return name
+    invocation = cutter.file.invocation_at(offset)
+    return f"{invocation.name}()" if invocation else name
 
 
 def types_of(cutter: Cutter, renames: dict[int, str]) -> dict[str, str]:
@@ -107,7 +117,7 @@ def types_of(cutter: Cutter, renames: dict[int, str]) -> dict[str, str]:
     found = {}
     for cursor in _variables(cutter):
         name = renames.get(libclang.name_offset(cursor), libclang.spelling(cursor))
-        found[name] = _type_name(libclang.type_of(cutter.file.unit, cursor))
+        found[name] = _type_name(type_of(cursor))
     return found
 
 
@@ -116,11 +126,11 @@ def _variables(cutter: Cutter) -> list[Any]:
     return [
         cursor
         for cursor in cutter.declarations.kept + cutter.declarations.variables
-        if cursor._kind_id == Kind.VAR_DECL.value and libclang.storage_class(cursor) != _EXTERN
+        if cursor.kind == Kind.VAR_DECL and libclang.storage_class(cursor) != _EXTERN
     ]
 
 
-def _type_name(type_: Any) -> str:
+def _type_name(type_: Type) -> str:
     """Return the name of a type, without `const` and `restrict` of the variable itself."""
     words = _PLACE.sub("", type_.spelling)  # of a type without a name
     if "[" in words and "(*" not in words or "*" not in words:

@@ -3,15 +3,16 @@
 from __future__ import annotations
 
 import argparse
+import os
 import sys
 from functools import partial
 from pathlib import Path
 from typing import Iterator
 
-from .core import NoCore, find_core
+from .core_program import NoCore, find_core
 from .flags import Database
 from .messages import Message
-from .restructuring import Options
+from .options import Options
 from .work import DONE, FAULT, LEFT, UNREADABLE, WORDS, Request, Result, carry_out, difference, replace
 
 _VERSION = Path(__file__).resolve().parent.parent / "VERSION"
@@ -49,7 +50,8 @@ def parser() -> argparse.ArgumentParser:
     made.add_argument("--core", metavar="PROGRAM", type=Path, help="the program that restructures the control flow")
     made.add_argument("--try-core", action="store_true",
                       help="use ./regoto, which runs its sources before any proof where it isn't built")
-    made.add_argument("--jobs", metavar="N", type=int, default=1, help="work on N files at once")
+    made.add_argument("--jobs", metavar="N", type=int, default=len(os.sched_getaffinity(0)),
+                      help="work with N processes; by default with as many as there are processors")
     made.add_argument("--quiet", action="store_true", help="say nothing but warnings and errors")
     made.add_argument("--version", action="version", version=_version())
     return made
@@ -74,7 +76,8 @@ def main(words: list[str]) -> int:
         print(f"regoto-c: {why}", file=sys.stderr)
         return UNREADABLE
     functions = frozenset(name for name in asked.functions.split(",") if name)
-    options = Options(core, functions, asked.configured, asked.tidy)
+    share = asked.jobs if len(asked.files) == 1 else 1  # of several files each has one process
+    options = Options(core, functions, asked.configured, asked.tidy, share)
     try:
         requests = list(_requests(asked, words[cut + 1:], options))
     except (OSError, ValueError, KeyError) as why:
@@ -112,7 +115,7 @@ def _results(asked: argparse.Namespace, requests: list[Request]) -> Iterator[Res
     if asked.jobs > 1 and len(requests) > 1:
         from concurrent.futures import ProcessPoolExecutor  # slow to load
 
-        with ProcessPoolExecutor(asked.jobs) as pool:
+        with ProcessPoolExecutor(min(asked.jobs, len(requests))) as pool:
             yield from _shown(pool.map(carry_out, requests), requests, shows, asked)
     else:
         yield from _shown(map(carry_out, requests), requests, shows, asked)

@@ -16,7 +16,7 @@ from typing import Sequence
 
 from .commands import Command, Source, read_command
 from .line_markers import prepare
-from .flags import FOR_LIBCLANG
+from .flags import for_libclang
 from .restructuring import Options, restructured
 
 
@@ -83,7 +83,7 @@ def _restructured(command: Command, source: Source, folder: Path, options: Optio
     if not prepared.has_goto:
         return None
     try:
-        flags = [*command.reading(), *FOR_LIBCLANG]
+        flags = [*command.reading(), *for_libclang(prepared.text)]
         outcome = restructured(folder / (source.path.stem + ".c"), prepared.text, flags, options)
     except Exception as error:  # whatever it is, the file is compiled
         raise LeftAsItIs(f"{type(error).__name__}: {error}") from error

@@ -3,11 +3,9 @@
 from __future__ import annotations
 
 import re
-from ctypes import POINTER, Structure, c_uint, c_void_p
 from dataclasses import dataclass, field
 from typing import Iterator, Sequence
 
-from . import libclang
 from .reading import SourceFile
 from .words import Token
 
@@ -110,31 +108,11 @@ def walk(groups: Sequence[Conditional]) -> Iterator[Conditional]:
 
 def decide(file: SourceFile, groups: Sequence[Conditional]) -> None:
     """Say of each group which branch the flags of the file take."""
-    ranges = skipped(file)
+    ranges = file.unit.skipped()
     for group in walk(groups):
         left = [index for index, branch in enumerate(group.branches)
                 if not any(start <= branch.start < end for start, end in ranges)]
         group.taken = left[0] if len(left) == 1 else None
-
-
-class _Ranges(Structure):
-    _fields_ = [("count", c_uint), ("ranges", POINTER(libclang.cindex.SourceRange))]
-
-
-def skipped(file: SourceFile) -> list[tuple[int, int]]:
-    """Return the parts of the file that conditional directives leave out."""
-    library = libclang.cindex.conf.lib
-    call = library.clang_getSkippedRanges
-    call.restype, call.argtypes = POINTER(_Ranges), [c_void_p, c_void_p]
-    dispose = library.clang_disposeSourceRangeList
-    dispose.restype, dispose.argtypes = None, [POINTER(_Ranges)]
-    found = call(file.unit, file.unit.get_file(file.unit.spelling))
-    if not found:
-        return []
-    ranges = [found.contents.ranges[index] for index in range(found.contents.count)]
-    places = [(each.start.offset, each.end.offset) for each in ranges]
-    dispose(found)
-    return places
 
 
 def under(sequence: Sequence[Token], groups: Sequence[Conditional], choice: Choice) -> list[Token]:

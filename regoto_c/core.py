@@ -2,75 +2,49 @@
 
 from __future__ import annotations
 
+import os
 import re
-import subprocess
-import tempfile
-from dataclasses import dataclass, field
 from pathlib import Path
 
-from .core_text import bodies_of
 from .forms import Items, skeleton_lines
 from .messages import Fault
 from .pieces import Form, Piece
+from .records import dataclass, field
 
-_TOP = Path(__file__).resolve().parent.parent
-_BUILT = _TOP / "crates" / "regoto_cli" / "out" / "regoto_cli"
+CORE_NAMES = ("goto_", "switch_")  # how its variables begin
 _LONGEST = 1_000_000
 _OVER_LIMITS = ("11", "39")
+_HEAD = re.compile(r"^(?:int|void) (f\d+)\(void\) \{", re.MULTILINE)
 _REFUSAL = re.compile(r":(\d+):\d+: error (\d+): (.*)$")
-
-
-class NoCore(Exception):
-    """There is no program to call, and what to do about it."""
 
 
 @dataclass
 class Skeleton:
-    """What the core gets of one function: its items, its pieces, and names that it may not take."""
+    """What the core gets of one function: its lines of C, those that declare its pieces, and names that it may not take."""
 
     name: str
-    items: Items
-    pieces: dict[str, Piece]
-    returns_values: bool
+    lines: list[str]
+    prototypes: list[str]
     reserved: set[str] = field(default_factory=set)
 
-    def lines(self) -> list[str]:
-        """Return the function as lines of C."""
-        kinds = {piece.name: piece.kind for piece in self.pieces.values() if piece.form is Form.SELECTOR}
-        result = "int" if self.returns_values else "void"
-        return [f"{result} {self.name}(void) {{", *skeleton_lines(self.items, kinds), "}"]
+
+def skeleton_of(
+    name: str, items: Items, pieces: dict[str, Piece], returns_values: bool, reserved: set[str]
+) -> Skeleton:
+    """Return the skeleton of a function."""
+    kinds = {piece.name: piece.kind for piece in pieces.values() if piece.form is Form.SELECTOR}
+    head = f"{'int' if returns_values else 'void'} {name}(void) {{"
+    lines = [head, *skeleton_lines(items, kinds), "}"]
+    return Skeleton(name, lines, [piece.prototype for piece in pieces.values()], reserved)
 
 
 @dataclass
 class Answer:
-    """What the core made of a skeleton: the items of its body, and its lines of the report; or why it refused it."""
+    """What the core made of a skeleton: its text, and its lines of the report; or why it refused it."""
 
-    items: Items = field(default_factory=list)
+    text: str = ""
     report: list[str] = field(default_factory=list)
     refusal: str = ""
-
-
-def find_core(given: Path | None, may_try: bool = False) -> Path:
-    """Return the core: the given program, else the one that is built here, else ./regoto if it may be tried.
-
-    Raises `NoCore` where there is none, or where a source is newer.
-    """
-    if given is not None:
-        if not given.is_file():
-            raise NoCore(f"no program {given}")
-        return given.resolve()
-    if not (_TOP / "crates").is_dir() and (_TOP / "regoto").is_file():
-        return _TOP / "regoto"
-    if may_try:
-        return _TOP / "regoto"
-    if not _BUILT.is_file():
-        raise NoCore("the proved program isn't built; ./regoto --build proves and builds it (--core names another)")
-    built = _BUILT.stat().st_mtime
-    for source in [_TOP / "crates.txt", *(_TOP / "crates").rglob("*")]:
-        if "out" not in source.relative_to(_TOP).parts and source.is_file() and source.stat().st_mtime > built:
-            name = source.relative_to(_TOP)
-            raise NoCore(f"{name} is newer than the proved program; ./regoto --build builds it (--core names another)")
-    return _BUILT
 
 
 def answers_of(core: Path, skeletons: list[Skeleton], tidy: bool) -> list[Answer]:
@@ -82,8 +56,7 @@ def answers_of(core: Path, skeletons: list[Skeleton], tidy: bool) -> list[Answer
     batch: list[Skeleton] = []
     size = 0
     for skeleton in skeletons:
-        length = sum(len(line) + 1 for line in skeleton.lines()) + sum(
-            len(piece.prototype) + 1 for piece in skeleton.pieces.values())
+        length = sum(len(line) + 1 for line in [*skeleton.lines, *skeleton.prototypes])
         if batch and size + length > _LONGEST:
             answers += _answers(core, batch, tidy)
             batch, size = [], 0
@@ -100,9 +73,11 @@ def _answers(core: Path, skeletons: list[Skeleton], tidy: bool) -> list[Answer]:
         text, firsts = _text(left)
         result, report, refusal = _call(core, text, tidy)
         if refusal is None:
-            bodies = bodies_of(result)
+            texts = _functions_in(result)
             for skeleton in left:
-                answers[skeleton.name].items = bodies[skeleton.name]
+                if skeleton.name not in texts:
+                    raise Fault(f"the core wrote no {skeleton.name}")
+                answers[skeleton.name].text = texts[skeleton.name]
             for line in report.splitlines():
                 answers[line.split(" ", 1)[0]].report.append(line.split(" ", 1)[1])
             break
@@ -112,33 +87,75 @@ def _answers(core: Path, skeletons: list[Skeleton], tidy: bool) -> list[Answer]:
     return [answers[skeleton.name] for skeleton in skeletons]
 
 
+def _functions_in(text: str) -> dict[str, str]:
+    """Return the text of each function that the core wrote."""
+    heads = list(_HEAD.finditer(text))
+    ends = [*(head.start() for head in heads[1:]), len(text)]
+    return {head.group(1): text[head.start():end] for head, end in zip(heads, ends)}
+
+
 def _text(skeletons: list[Skeleton]) -> tuple[str, list[int]]:
     """Return the text of all skeletons, and the line on which each begins."""
     reserved = sorted(set().union(*(skeleton.reserved for skeleton in skeletons)))
     lines = [f"enum {{ {', '.join(reserved)} }};"] if reserved else []
-    prototypes = {piece.prototype: None for skeleton in skeletons for piece in skeleton.pieces.values()}
+    prototypes = {prototype: None for skeleton in skeletons for prototype in skeleton.prototypes}
     lines += prototypes
     firsts = []
     for skeleton in skeletons:
         firsts.append(len(lines) + 1)
-        lines += skeleton.lines()
+        lines += skeleton.lines
     return "\n".join(lines) + "\n", firsts
 
 
 def _call(core: Path, text: str, tidy: bool) -> tuple[str, str, tuple[int, str] | None]:
     """Run the core on a text; return the result and the report, or the line and the reason of a refusal."""
-    with tempfile.TemporaryDirectory(prefix="regoto-c-") as folder:
-        source, result, report, tidied = (Path(folder) / name for name in ("in.c", "out.c", "moves", "tidied.c"))
-        source.write_text(text, "latin-1")
-        words = [str(core), "restructure", str(source), str(result), "--report", str(report)]
-        run = subprocess.run(words, capture_output=True, text=True, check=False)
-        refusal = _REFUSAL.search(run.stderr.strip())
-        if run.returncode == 1 and refusal and refusal.group(2) in _OVER_LIMITS:
+    folder = _new_folder()
+    try:
+        _write(f"{folder}/in.c", text)
+        words = [str(core), "restructure", f"{folder}/in.c", f"{folder}/out.c", "--report", f"{folder}/moves"]
+        status, said = _run(folder, words)
+        refusal = _REFUSAL.search(said)
+        if status == 1 and refusal and refusal.group(2) in _OVER_LIMITS:
             return "", "", (int(refusal.group(1)), refusal.group(3))
-        if run.returncode == 0 and tidy:
-            words = [str(core), "tidy", str(result), str(tidied)]
-            run = subprocess.run(words, capture_output=True, text=True, check=False)
-            result = tidied
-        if run.returncode:
-            raise Fault(f"the core ended with status {run.returncode}: {run.stderr.strip()}")
-        return result.read_text("latin-1"), report.read_text("latin-1"), None
+        result = f"{folder}/out.c"
+        if status == 0 and tidy:
+            result = f"{folder}/tidied.c"
+            status, said = _run(folder, [str(core), "tidy", f"{folder}/out.c", result])
+        if status:
+            raise Fault(f"the core ended with status {status}: {said}")
+        return _read(result), _read(f"{folder}/moves"), None
+    finally:
+        for name in os.listdir(folder):
+            os.unlink(f"{folder}/{name}")
+        os.rmdir(folder)
+
+
+def _new_folder() -> str:
+    """Make a folder that only its owner may read; the modules tempfile and subprocess take long to load."""
+    while True:
+        folder = os.path.join(os.environ.get("TMPDIR") or "/tmp", f"regoto-c-{os.urandom(6).hex()}")
+        try:
+            os.mkdir(folder, 0o700)
+        except FileExistsError:
+            continue
+        return folder
+
+
+def _run(folder: str, words: list[str]) -> tuple[int, str]:
+    """Run a program; return its exit status, less than 0 where a signal ended it, and what it said."""
+    said = f"{folder}/said"
+    out = (os.POSIX_SPAWN_OPEN, 1, os.devnull, os.O_WRONLY, 0)
+    errors = (os.POSIX_SPAWN_OPEN, 2, said, os.O_WRONLY | os.O_CREAT, 0o600)
+    child = os.posix_spawn(words[0], words, os.environ, file_actions=[out, errors])
+    _, status = os.waitpid(child, 0)
+    return os.waitstatus_to_exitcode(status), _read(said).strip()
+
+
+def _write(path: str, text: str) -> None:
+    with open(path, "w", encoding="latin-1", newline="") as file:
+        file.write(text)
+
+
+def _read(path: str) -> str:
+    with open(path, encoding="latin-1", newline="") as file:
+        return file.read()

@@ -12,18 +12,16 @@ from .messages import Fault
 _TYPES = frozenset("int unsigned long signed char".split())
 
 
-def bodies_of(text: str) -> dict[str, Items]:
-    """Return the body of each function in a text that the core wrote.
+def body_of(text: str) -> Items:
+    """Return the body of a function that the core wrote.
 
     Raises `Fault` where the text has another form than the core writes.
     """
     reader = _Reader(text)
-    bodies: dict[str, Items] = {}
-    while not reader.is_at_end:
-        name, items = reader.function()
-        if items is not None:
-            bodies[name] = items
-    return bodies
+    items = reader.function()
+    if not reader.is_at_end:
+        raise Fault(f"the core wrote '{reader.next()}' behind a function")
+    return items
 
 
 class _Reader:
@@ -52,20 +50,12 @@ class _Reader:
             if not self.accept(word):
                 raise Fault(f"the core wrote '{self.words[self.at]}' where '{word}' was expected")
 
-    def function(self) -> tuple[str, Items | None]:
-        """Read one declaration of the file; the items are None where it isn't a function with a body."""
-        name = ""
-        while self.words[self.at] not in ("(", "{", ""):
-            name = self.next()
-        if self.accept("{"):
-            while self.next() not in ("}", ""):
-                pass
-            self.expect(";")
-            return "", None
-        self.expect("(")
-        self.accept("void")
-        self.expect(")")
-        return (name, None) if self.accept(";") else (name, self.block())
+    def function(self) -> Items:
+        """Read a function."""
+        while self.words[self.at] not in ("(", ""):
+            self.at += 1
+        self.expect("(", "void", ")")
+        return self.block()
 
     def block(self) -> Items:
         self.expect("{")

@@ -2,15 +2,16 @@
 
 from __future__ import annotations
 
-from dataclasses import dataclass, field
 from typing import TYPE_CHECKING, Any
 
 from . import libclang, syntax
+from .clang_types import type_behind, type_of
 from .declarators import CONST, RESTRICT, Declarator, Parts, own_words, parts_of, refuse_unmovable
 from .initialisers import Initialised, Render, initialised
 from .messages import Refused
 from .pieces import check_expression
 from .reading import Edit, edited
+from .records import dataclass, field
 from .syntax import Node
 
 if TYPE_CHECKING:
@@ -72,7 +73,7 @@ class Declarations:
         found = []
         for cursor in self.fixed:
             found.append(cursor)
-            if cursor._kind_id == libclang.Kind.ENUM_DECL.value:
+            if cursor.kind == libclang.Kind.ENUM_DECL:
                 found += libclang.children(cursor)
         return [cursor for cursor in found if libclang.spelling(cursor)]
 
@@ -117,9 +118,8 @@ class Declarations:
                 raise Refused(units.starts[unit], "a variable without a type of its own")
         for child in node.children:
             check_expression(child)
-            if child.kind == libclang.Kind.TYPEDEF_DECL.value:
-                child.cursor._tu = self.cutter.file.unit
-                if libclang.is_variable(child.cursor.underlying_typedef_type):
+            if child.kind == libclang.Kind.TYPEDEF_DECL:
+                if type_behind(child.cursor).is_variable:
                     raise Refused(child.start, "a type of variable length in a block")
 
     def _move_whole(self, node: Node, at: int, stop: int, in_head: bool) -> None:
@@ -179,15 +179,15 @@ class Declarations:
         at = one.name + 1
         if not (self.cutter.is_token(at, "[") and units.mates[at] == at + 1):
             return []
-        type_ = libclang.type_of(self.cutter.file.unit, one.cursor)
-        return [Edit(units.starts[at + 1], units.starts[at + 1], str(type_.element_count))]
+        type_ = type_of(one.cursor)
+        return [Edit(units.starts[at + 1], units.starts[at + 1], str(type_.count))]
 
     def _cleared(self, parts: Parts, one: Declarator) -> list[Edit]:
         """Return what leaves out the words that a variable at the top doesn't keep."""
         own = own_words(self.cutter, parts, one)
         gone = set(_STORAGE)
-        type_ = libclang.type_of(self.cutter.file.unit, one.cursor)
-        if one.equals is not None and libclang.is_const(type_):
+        type_ = type_of(one.cursor)
+        if one.equals is not None and type_.is_const:
             gone |= CONST
             self.drops_const = True
             if not any(self.cutter.units.words[unit] in CONST for unit in own):
@@ -227,4 +227,4 @@ def _storage(cursor: Any) -> int:
 
 
 def _is_static(cursor: Any) -> bool:
-    return bool(cursor._kind_id == syntax.VARIABLE and _storage(cursor) == _STATIC_CLASS)
+    return bool(cursor.kind == syntax.VARIABLE and _storage(cursor) == _STATIC_CLASS)

@@ -2,18 +2,19 @@
 
 from __future__ import annotations
 
-from dataclasses import dataclass
 from typing import Any
 
 from . import libclang, syntax
+from .clang_types import type_of
 from .ground import Ground
 from .libclang import Kind
 from .messages import Refused
+from .records import dataclass
 from .syntax import Node
 from .units import UnitKind
 
-FUNCTION = Kind.FUNCTION_DECL.value
-TYPEDEF = Kind.TYPEDEF_DECL.value
+FUNCTION = Kind.FUNCTION_DECL
+TYPEDEF = Kind.TYPEDEF_DECL
 CONST = frozenset(("const", "__const", "__const__"))
 RESTRICT = frozenset(("restrict", "__restrict", "__restrict__"))
 _WITH_BRACKETS = frozenset(
@@ -108,11 +109,10 @@ def refuse_unmovable(ground: Ground, declarator: Declarator) -> None:
     """Raise `Refused` where a variable can't be declared at the top of the function."""
     cursor = declarator.cursor
     start = ground.units.starts[declarator.name]
-    type_ = libclang.type_of(ground.file.unit, cursor)
-    if libclang.is_variable(type_):
+    if type_of(cursor).is_variable:
         raise Refused(start, "an array of variable length in a block")
     for child in libclang.children(cursor):
-        if child._kind_id == Kind.ASM_LABEL_ATTR.value:
+        if child.kind == Kind.ASM_LABEL_ATTR:
             raise Refused(start, "a variable in a register of its own")
-        if child._kind_id == Kind.UNEXPOSED_ATTR.value and "cleanup" in libclang.printed(cursor):
+        if child.kind == Kind.UNEXPOSED_ATTR and "cleanup" in libclang.printed(cursor):
             raise Refused(start, "a variable with a cleanup in a block")

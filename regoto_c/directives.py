@@ -7,14 +7,13 @@ statements round it that is whole for each branch. What a macro stands for is lo
 
 from __future__ import annotations
 
-from dataclasses import dataclass
-
 from . import preprocessing
 from .conditionals import Conditional, condition_of, word_of
 from .judging import Body, Group, Judge, body_of
 from .macros import kept
 from .messages import Refused
 from .reading import Edit, Function, SourceFile, edited
+from .records import dataclass
 from .words import Token
 
 _FOR_THE_NEXT = ("omp", "acc", "unroll", "nounroll", "ivdep", "loop", "GCC unroll", "GCC ivdep", "clang loop")
@@ -66,7 +65,7 @@ def _conditional(body: Body, conditional: Conditional) -> Group:
     inside = [token for token in body.tokens if token.is_directive and start <= token.start < end]
     for directive in inside:
         if word_of(directive) == "include":
-            return Group(start, end, "an #include in a function", directive.start)
+            return Group(start, end, "an #include in a function", directive.start, resolvable=True)
     judge = Judge(body, start, end)
     return judge.with_next() if any(map(_is_for_the_next, inside)) else judge.group()
 

@@ -2,7 +2,6 @@
 
 from __future__ import annotations
 
-from dataclasses import dataclass, field
 from typing import TYPE_CHECKING, Sequence
 
 from . import forms
@@ -13,6 +12,7 @@ from .lexing import TokenKind, tokens_of
 from .messages import Fault
 from .pieces import Form
 from .reading import Edit, SourceFile
+from .records import dataclass, field
 
 if TYPE_CHECKING:
     from .cutting import Cutter

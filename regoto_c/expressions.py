@@ -6,9 +6,10 @@ import re
 from typing import Any
 
 from . import libclang
+from .clang_types import TypeKind, type_of
 from .ground import Ground
 from .lexing import TokenKind, tokens_of
-from .libclang import Kind, TypeKind
+from .libclang import Kind
 from .reading import SourceFile
 from .syntax import Node
 from .units import UnitKind
@@ -85,7 +86,7 @@ def _text_level(file: SourceFile, name: str, seen: frozenset[str]) -> int:
 
 def is_truth(ground: Ground, node: Node, first: int, behind: int) -> bool:
     """Return whether a test has the value 0 or 1: a comparison, `!`, `&&`, `||`, or a truth value by its type."""
-    if libclang.type_of(ground.file.unit, node.cursor).kind == TypeKind.BOOL:
+    if type_of(node.cursor).kind == TypeKind.BOOL:
         return True
     units = ground.units
     while ground.is_token(first, "(") and units.mates[first] == behind - 1:
@@ -98,10 +99,10 @@ def is_truth(ground: Ground, node: Node, first: int, behind: int) -> bool:
 
 def kind_of(file: SourceFile, cursor: Any) -> str | None:
     """Return the kind of a selector, or None where it is wider than `long`."""
-    kind = libclang.type_of(file.unit, cursor)
+    kind = type_of(cursor)
     if kind.kind == TypeKind.ENUM:
-        kind = kind.get_declaration().enum_type.get_canonical()
-    size = kind.get_size()
+        kind = kind.of_enumeration
+    size = kind.size
     unsigned = kind.kind in (TypeKind.UINT, TypeKind.ULONG, TypeKind.ULONGLONG, TypeKind.UINT128)
     if size <= 4:
         return "unsigned" if unsigned and size == 4 else "int"
@@ -112,9 +113,9 @@ def kind_of(file: SourceFile, cursor: Any) -> str | None:
 
 def is_narrow(file: SourceFile, cursor: Any, kind: str) -> bool:
     """Return whether the type of a constant, before it is converted for a case label, isn't wider than a kind."""
-    while cursor._kind_id == Kind.UNEXPOSED_EXPR.value and (below := libclang.children(cursor)):
+    while cursor.kind == Kind.UNEXPOSED_EXPR and (below := libclang.children(cursor)):
         cursor = below[0]
-    return bool(libclang.type_of(file.unit, cursor).get_size() <= (4 if kind in ("int", "unsigned") else 8))
+    return bool(type_of(cursor).size <= (4 if kind in ("int", "unsigned") else 8))
 
 
 def _long_size(file: SourceFile) -> int:

@@ -2,8 +2,7 @@
 
 from __future__ import annotations
 
-import json
-import shlex
+import re
 from pathlib import Path
 
 _WITH_WORD = frozenset("-I -D -U -isystem -iquote -idirafter -include -imacros -iprefix -isysroot -x -target".split())
@@ -16,11 +15,17 @@ _WHOLE = frozenset("""
     -msse -msse2 -msse3 -mssse3 -msse4 -msse4.1 -msse4.2 -mavx -mavx2 -maes -mpclmul""".split())
 
 # What gcc's preprocessed headers have that libclang doesn't know; only libclang's reading sees these.
-FOR_LIBCLANG = [
-    "-D_Float32=float", "-D_Float64=double", "-D_Float128=__float128", "-D_Float32x=double", "-D_Float64x=long double",
-    "-D_Float16=float", "-D__malloc__(...)=__malloc__", "-D__builtin_va_arg_pack()=0",
-    "-D__builtin_va_arg_pack_len()=0", "-D_mm_prefetch=regoto_c_mm_prefetch",
-]
+_FLOATS = {"_Float32": "float", "_Float64": "double", "_Float128": "__float128", "_Float32x": "double",
+           "_Float64x": "long double", "_Float16": "float"}
+_OTHERS = ["-D__malloc__(...)=__malloc__", "-D__builtin_va_arg_pack()=0", "-D__builtin_va_arg_pack_len()=0",
+           "-D_mm_prefetch=regoto_c_mm_prefetch"]
+
+
+def for_libclang(text: str) -> list[str]:
+    """Return the flags with which libclang reads a preprocessed text; types that it defines itself stay."""
+    types = [f"-D{name}={meaning}" for name, meaning in _FLOATS.items()
+             if not re.search(rf"\btypedef\b[^;]*\b{name}\s*;", text)]
+    return [*types, *_OTHERS]
 
 
 def kept(words: list[str]) -> list[str]:
@@ -45,6 +50,9 @@ class Database:
 
     def __init__(self, folder: Path) -> None:
         """Read the database in a folder; raises `OSError` or `ValueError` where there is none."""
+        import json
+        import shlex
+
         self.flags: dict[Path, list[str]] = {}
         for entry in json.loads((folder / "compile_commands.json").read_text()):
             directory = Path(entry["directory"])

@@ -10,11 +10,11 @@ from .units import Comment, UnitKind, Units, units_of
 
 
 class NeedsExpansion(Exception):
-    """An invocation that holds a part of what has to be taken apart, by its offset."""
+    """Invocations, by their offsets, that hold a part of what has to be taken apart, or a name that has to change."""
 
-    def __init__(self, offset: int) -> None:
-        super().__init__(offset)
-        self.offset = offset
+    def __init__(self, *offsets: int) -> None:
+        super().__init__(*offsets)
+        self.offsets = offsets
 
 
 class Ground:
@@ -26,7 +26,7 @@ class Ground:
         self.file = file
         self.function = function
         self.units: Units = units_of(file, function)
-        self.syntax = Syntax(file.unit, function.compound, self.looks_for_concerns)
+        self.syntax = Syntax(function.compound, self.looks_for_concerns)
 
     # -- units
 
@@ -52,6 +52,8 @@ class Ground:
             return self.units.faults[at]
         if self.units.kinds[at] is UnitKind.GROUP:
             return Refused(self.units.starts[at], "a jump or a label stands in a conditional group", True)
+        if why.endswith("expected here") and self.units.faults:  # half of a statement stands in a group
+            return self.units.faults[min(self.units.faults, key=lambda unit: abs(unit - at))]
         return Refused(self.units.starts[at], why)
 
     def scan(self, at: int, word: str, limit: int) -> int:

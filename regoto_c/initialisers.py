@@ -2,15 +2,17 @@
 
 from __future__ import annotations
 
-from dataclasses import dataclass
-from typing import Any, Callable
+from typing import Callable
 
 from . import libclang
+from .clang_library import Cursor
+from .clang_types import Type, TypeKind, type_of
 from .declarators import Declarator, Parts
 from .ground import Ground
-from .libclang import TypeKind
+from .libclang import Kind
 from .messages import Refused
 from .reading import Edit
+from .records import dataclass
 from .units import UnitKind
 
 Render = Callable[[int, int, list[Edit]], str]
@@ -65,11 +67,11 @@ def initialised(ground: Ground, parts: Parts, one: Declarator, edits: list[Edit]
     units = ground.units
     assert one.equals is not None
     value = (one.equals + 1, one.behind)
-    type_ = libclang.type_of(ground.file.unit, one.cursor)
+    type_ = type_of(one.cursor)
     start = units.starts[one.name]
-    if libclang.has_const_member(type_):
+    if type_.has_const_member:
         raise Refused(start, "a variable with a member that is const")
-    form = _form(ground, type_, *value)
+    form = _form(ground, type_, one.cursor, *value)
     if form != "plain" and _is_special(type_):
         raise Refused(start, "a volatile or atomic variable with an initialiser of this form")
     return Initialised(
@@ -81,8 +83,10 @@ def initialised(ground: Ground, parts: Parts, one: Declarator, edits: list[Edit]
     )
 
 
-def _form(ground: Ground, type_: Any, first: int, behind: int) -> str:
+def _form(ground: Ground, type_: Type, cursor: Cursor, first: int, behind: int) -> str:
     braces = ground.is_token(first, "{")
+    if ground.units.kinds[first] is UnitKind.INVOCATION:
+        braces = libclang.children(cursor)[-1].kind == Kind.INIT_LIST_EXPR
     if type_.kind != TypeKind.CONSTANTARRAY:
         return "compound" if braces else "plain"
     words = ground.units.words[first:behind]
@@ -94,12 +98,12 @@ def _form(ground: Ground, type_: Any, first: int, behind: int) -> str:
     return "bytes" if has_its_length else "text"
 
 
-def _is_special(type_: Any) -> bool:
+def _is_special(type_: Type) -> bool:
     inner = type_
     while inner.kind == TypeKind.CONSTANTARRAY:
-        inner = inner.element_type.get_canonical()
+        inner = inner.element
     is_array = inner is not type_
-    return "_Atomic" in inner.spelling or (is_array and inner.is_volatile_qualified())
+    return "_Atomic" in inner.spelling or (is_array and inner.is_volatile)
 
 
 def _type_spans(ground: Ground, parts: Parts, one: Declarator) -> list[tuple[int, int]] | None:

@@ -2,7 +2,7 @@
 
 from __future__ import annotations
 
-from bisect import bisect_left
+from bisect import bisect_left, bisect_right
 from dataclasses import dataclass, field
 from typing import Iterator
 
@@ -122,12 +122,13 @@ class Judge:
 
     def _is_label(self, at: int) -> bool:
         """Whether the colon at an index is a label's, not that of `?:`."""
-        for row in self.body.rows:
-            for start, behind in row.spans:
-                if start <= at < behind:
-                    shape = shapes.covering(self.before[start:at + 1], 1)
-                    if shape.label and shape.taken == at + 1 - start or self.before[start].text in ("case", "default"):
-                        return True
+        for row in reversed(self.body.rows):  # the innermost statement comes first
+            place = bisect_right(row.spans, (at, len(self.body.taken))) - 1
+            if place >= 0 and at < row.spans[place][1]:
+                start = row.spans[place][0]
+                shape = shapes.covering(self.before[start:at + 1], 1)
+                is_case = self.before[start].text in ("case", "default")
+                return is_case or bool(shape.label) and shape.taken == at + 1 - start
         return False
 
     def group(self) -> Group:
@@ -212,7 +213,7 @@ class Judge:
 
     def _widened(self, only_behind: bool = False) -> Group | None:
         """Return the least row of statements round the group that is whole, if there is one."""
-        for row in self._rows():
+        for row in self.rows():
             items = self._items(row)
             here = next(at for at, (start, end) in enumerate(items) if start <= self.start and self.end <= end)
             for back in range(min(3, here + 1)):
@@ -238,7 +239,7 @@ class Judge:
                 items.append((start, end))
         return items
 
-    def _rows(self) -> list[Row]:
+    def rows(self) -> list[Row]:
         """Return the lists of statements that hold the group, innermost first, without the body's own."""
         taken = self.body.taken
         return [row for row in self.body.rows[:0:-1] if row.behind < len(taken)

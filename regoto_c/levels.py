@@ -47,10 +47,10 @@ class _Level:
     def __init__(self, file: SourceFile, function: Function, runs: Sequence[Run]) -> None:
         self.file, self.function, self.runs = file, function, runs
         taken = set(file.all_words())
-        self.leave = _new_name("leave", taken)
-        self.label = _new_name("leave_end", taken)
+        self.leave = new_name("leave", taken)
+        self.label = new_name("leave_end", taken)
         self.step = "\t" if "\n\t" in file.text[function.body:function.end] else "    "
-        self.names = [_new_name(f"{function.name}_part_{number}", taken) for number, _ in enumerate(runs, 1)]
+        self.names = [new_name(f"{function.name}_part_{number}", taken) for number, _ in enumerate(runs, 1)]
 
     def text(self) -> str:
         """Return the file with a function for each run behind the function itself."""
@@ -122,7 +122,7 @@ class _Level:
         return [Edit(place, place, f"\n{self.step}int {self.leave};"), *edits] if edits else []
 
 
-def _new_name(name: str, taken: set[str]) -> str:
+def new_name(name: str, taken: set[str]) -> str:
     """Return the name, or one with a number behind it that isn't taken."""
     number = 2
     new = name
@@ -167,6 +167,6 @@ def reduced(file: SourceFile, function: Function, restructure: Restructure, leve
 
 def too_many(file: SourceFile, function: Function) -> str:
     """Return how many gotos and labels a function has, and how many there may be."""
-    found = found_in([Syntax(file.unit, function.compound, False).body])
+    found = found_in([Syntax(function.compound, False).body])
     return (f"{len(found.gotos)} gotos and {len(set(found.labels))} labels are too many for one function; "
             "there may be some 130 jumps, and 60 labels")

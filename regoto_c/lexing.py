@@ -4,8 +4,9 @@ from __future__ import annotations
 
 import re
 from bisect import bisect_left, bisect_right
-from dataclasses import dataclass
 from enum import IntEnum
+
+from .records import dataclass
 
 
 class TokenKind(IntEnum):
@@ -24,6 +25,7 @@ class TokenKind(IntEnum):
 
 _TOKEN = re.compile(
     r"""
+    (?:
       (?P<DIRECTIVE>^[ \t]*(?:\#|%:)
           (?:\\[ \t]*\r?\n|/\*.*?\*/|//(?:\\\r?\n|[^\n])*|"(?:\\[^\n]|[^"\\\n])*"|'(?:\\[^\n]|[^'\\\n])*'|[^\n])*)
     | (?P<COMMENT>/\*.*?\*/|//(?:\\\r?\n|[^\n])*)
@@ -36,6 +38,8 @@ _TOKEN = re.compile(
     | (?P<MARK>%:%:|\.\.\.|<<=|>>=|<%|%>|<:|:>|%:|->|\+\+|--|<<|>>|<=|>=|==|!=|&&|\|\||[-+*/%&|^]=|\#\#
               |[][(){}.&*+\-~!/%<>^|?:;=,\#@`])
     | (?P<OTHER>[^\s])
+    )
+    [ \t\r]*(?:\n[ \t]*(?![ \t\#%]))*  # white space up to the next token, but not in front of a directive
     """,
     re.VERBOSE | re.DOTALL | re.ASCII | re.MULTILINE,
 )
@@ -73,11 +77,10 @@ def tokens_of(text: str, spans: list[tuple[int, int]] | None = None) -> Tokens:
     ends: list[int] = []
     numbers: list[int] = []
     for span in spans or [(0, len(text))]:
-        for match in _TOKEN.finditer(text, *span):
-            start, end = match.span()
-            offsets.append(start)
-            ends.append(end)
-            numbers.append(match.lastindex or 0)
+        matches = list(_TOKEN.finditer(text, *span))
+        offsets += [match.start() for match in matches]
+        ends += [match.end(match.lastindex or 0) for match in matches]
+        numbers += [match.lastindex or 0 for match in matches]
     for at, number in enumerate(numbers):
         if number == _DIRECTIVE:
             while text[offsets[at]] in " \t":

@@ -9,26 +9,42 @@ from __future__ import annotations
 import re
 from dataclasses import dataclass, field
 
+from .messages import Message, message_at
+from .edits import Edit, edited, unedited
+
 _MARKER = r'^[ \t]*#[ \t]*(?:line[ \t]+)?\d+[ \t]+"[^"\n]*"[^\n]*'
 _SCAN = re.compile(rf'(?P<marker>{_MARKER})|"(?:\\.|[^"\\\n])*"|\'(?:\\.|[^\'\\\n])*\'|[{{}};]|\bgoto\b', re.MULTILINE)
 _NUMBER = re.compile(r'[ \t]*#[ \t]*(?:line[ \t]+)?(\d+)([ \t]+"[^"\n]*"[^\n]*)')
 _INLINE = re.compile(r"\b(?:inline|__inline|__inline__)\b.*\)\s*$", re.DOTALL)
 _ENTERS = re.compile(r" [12]\b")  # the file is entered or left
 _STUB = ";/*@regoto_c@{}*/"
-_STUBBED = re.compile(r";/\*@regoto_c@(\d+)\*/")
 
 
 @dataclass
 class Prepared:
-    """Preprocessed text that is fit for restructuring; `bodies` are those that were taken out of it."""
+    """Preprocessed text that is fit for restructuring.
+
+    `edits` made it of the source, and `blocks` has what each block that isn't as it was before was made of.
+    """
 
     text: str
-    bodies: list[str] = field(default_factory=list)
     has_goto: bool = False
+    edits: list[Edit] = field(default_factory=list)
+    blocks: dict[str, str] = field(default_factory=dict)
 
     def whole(self, text: str) -> str:
-        """Return a text, made from this one, with the bodies put back."""
-        return _STUBBED.sub(lambda found: self.bodies[int(found.group(1))], text)
+        """Return a text, made from this one, in which blocks that weren't restructured are as they were before."""
+        for new, old in self.blocks.items():
+            text = text.replace(new, old)
+        return text
+
+    def place(self, source: str, message: Message) -> Message:
+        """Return a message on this text as one on its source."""
+        start = 0
+        for _ in range(message.line - 1):
+            start = self.text.index("\n", start) + 1
+        offset = unedited(source, self.edits, start + message.column - 1)
+        return message_at(message.path, source, offset, message.kind, message.text)
 
 
 @dataclass
@@ -47,8 +63,8 @@ class _Scan:
 
     def __init__(self, text: str) -> None:
         self.text = text
-        self.edits: list[tuple[int, int, str]] = []
-        self.bodies: list[str] = []
+        self.edits: list[Edit] = []
+        self.blocks: dict[str, str] = {}
         self.has_goto = False
         self.marker, self.marker_end = "", 0
         self.boundary = 0
@@ -75,11 +91,7 @@ class _Scan:
                 block.has_goto = True
             if depth == 0:
                 self.boundary = found.end() if word[0] in "};#" else self.boundary
-        out, at = [], 0
-        for start, end, new in self.edits:
-            out += [self.text[at:start], new]
-            at = end
-        return Prepared("".join([*out, self.text[at:]]), self.bodies, self.has_goto)
+        return Prepared(edited(self.text, self.edits), self.has_goto, self.edits, self.blocks)
 
     def _in_system_header(self) -> bool:
         found = _NUMBER.match(self.marker)
@@ -89,13 +101,18 @@ class _Scan:
         """Note what is to be done with a block."""
         if block.in_system_header:
             if _INLINE.search(block.head):
-                self.edits.append((block.start, end, _STUB.format(len(self.bodies)) + self._lines_again(block, end)))
-                self.bodies.append(self.text[block.start:end])
+                stub = _STUB.format(len(self.blocks)) + self._lines_again(block, end)
+                self.edits.append(Edit(block.start, end, stub))
+                self.blocks[stub] = self.text[block.start:end]
         elif block.has_goto:
             self.has_goto = True
-            self.edits += [(start, stop, "") for start, stop in block.markers]
-            if block.markers:
-                self.edits.append((end, end, self._lines_again(block, end)))
+            edits = [Edit(start, stop, "") for start, stop in block.markers]
+            if edits:
+                edits.append(Edit(end, end, self._lines_again(block, end)))
+                inside = [Edit(edit.start - block.start, edit.end - block.start, edit.text) for edit in edits]
+                old = self.text[block.start:end]
+                self.blocks[edited(old, inside)] = old
+            self.edits += edits
 
     def _lines_again(self, block: _Block, end: int) -> str:
         """Return a marker that says on which line the text behind a block stands."""

@@ -3,7 +3,6 @@
 from __future__ import annotations
 
 import re
-from dataclasses import dataclass
 from typing import TYPE_CHECKING
 
 from . import forms, syntax
@@ -11,6 +10,7 @@ from .declarations import Replacement
 from .forms import Items
 from .libclang import Kind
 from .pieces import Form, check_statement, words_of
+from .records import dataclass
 from .syntax import Node
 from .units import Comment, UnitKind
 
@@ -18,7 +18,7 @@ if TYPE_CHECKING:
     from .cutting import Cutter
 
 _FALLS = re.compile(r"fall", re.IGNORECASE)
-_ATTRIBUTED = (syntax.NULL, Kind.UNEXPOSED_STMT.value)
+_ATTRIBUTED = (syntax.NULL, Kind.UNEXPOSED_STMT)
 _JUMPS = (forms.Goto, forms.Break, forms.Continue, forms.Return)
 
 

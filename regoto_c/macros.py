@@ -12,10 +12,11 @@ from typing import Any, Collection, Sequence
 from . import preprocessing, shapes
 from .expanding import Body, Expander, Use
 from .messages import Refused
-from .preprocessing import MORE_THAN_EXPRESSION, Failed
+from .plain_macros import may_bear
+from .preprocessing import Failed
 from .reading import Edit, Function, Invocation, SourceFile
 from .shapes import End
-from .words import HEADS, JUMPS, NAMES, Token, texts
+from .words import JUMPS, Token, texts
 
 
 @dataclass(frozen=True)
@@ -102,27 +103,6 @@ def expander_of(file: SourceFile) -> Expander:
     return made
 
 
-def _may_bear(file: SourceFile, function: Function) -> bool:
-    """Return whether a macro that is named in a function may hold more than a part of an expression."""
-    low, high = file.tokens.first_from(function.body), file.tokens.first_from(function.end)
-    left, reached = [name for name in set(file.tokens.spellings[low:high]) if name in file.macros], set[str]()
-    for invocation in file.invocations:
-        if function.body <= invocation.start < function.end:
-            left += NAMES.findall(file.text[invocation.start:invocation.end])
-    while left:
-        name = left.pop()
-        text = file.macro_text(name) if name not in reached else None
-        if name in JUMPS or name in HEADS:
-            return True
-        reached.add(name)
-        if text is None:
-            continue
-        if MORE_THAN_EXPRESSION.search(text) or text.count("(") != text.count(")"):
-            return True
-        left += NAMES.findall(text)
-    return False
-
-
 def meanings_in(file: SourceFile, function: Function) -> list[Meaning]:
     """Return what the invocations in a function stand for, but for those that are surely a part of an expression.
 
@@ -135,7 +115,7 @@ def meanings_in(file: SourceFile, function: Function) -> list[Meaning]:
 
 
 def _meanings_in(file: SourceFile, function: Function) -> list[Meaning]:
-    if not _may_bear(file, function):
+    if not may_bear(file, function):
         return []
     try:
         expander = expander_of(file)

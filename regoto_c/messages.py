@@ -2,8 +2,12 @@
 
 from __future__ import annotations
 
-from dataclasses import dataclass
+import re
+from bisect import bisect_right
+from functools import lru_cache
 from pathlib import Path
+
+from .records import dataclass
 
 
 @dataclass
@@ -51,10 +55,18 @@ class Fault(Exception):
     """A fault of regoto-c itself: what was put together isn't what was proved."""
 
 
+@lru_cache(maxsize=2)
+def _line_starts(text: str) -> list[int]:
+    """Return where the lines of a text begin."""
+    return [0, *(match.end() for match in re.finditer("\n", text))]
+
+
 def message_at(path: Path, text: str, offset: int, kind: str, why: str) -> Message:
     """Return the message `why` at `offset` of the file at `path`, whose bytes are `text` (latin-1)."""
-    start = text.rfind("\n", 0, offset) + 1
+    starts = _line_starts(text)
+    line_number = bisect_right(starts, offset)
+    start = starts[line_number - 1]
     end = text.find("\n", offset)
     line = text[start: end if end >= 0 else len(text)].rstrip("\r")
     shown = line.encode("latin-1").decode("utf-8", "replace")
-    return Message(path, text.count("\n", 0, offset) + 1, offset - start + 1, kind, why, shown)
+    return Message(path, line_number, offset - start + 1, kind, why, shown)

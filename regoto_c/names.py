@@ -3,12 +3,14 @@
 from __future__ import annotations
 
 import re
-from dataclasses import dataclass
 from typing import TYPE_CHECKING, Any
 
 from . import libclang
+from .ground import NeedsExpansion
 from .lexing import TokenKind
 from .messages import Refused
+from .records import dataclass
+from .scopes import Scopes
 from .units import UnitKind
 
 if TYPE_CHECKING:
@@ -17,6 +19,7 @@ if TYPE_CHECKING:
 _NO_VARIABLE = frozenset((".", "->", "struct", "union", "enum", "goto"))
 _NAME = re.compile(r"[A-Za-z_$\x80-\xff][\w$\x80-\xff]*", re.ASCII)
 _MAKES_TEXT = re.compile(r"#")
+_CONDITIONAL = re.compile(r"(?:#|%:)\s*(?:if|el|endif)")
 
 
 @dataclass
@@ -30,12 +33,17 @@ class Use:
 
 
 class Names:
-    """Decides the names of the moved variables of a function; `renames` has the offset of each name that changes."""
+    """Decides the names of the moved variables of a function; `renames` has the offset of each name that changes.
+
+    `asked` has, in order, the names of variables that need new ones, which `take` gives them.
+    """
 
     def __init__(self, cutter: Cutter) -> None:
         self.cutter = cutter
         self.file = cutter.file
         self.renames: dict[int, str] = {}
+        self.asked: list[str] = []
+        self.places: dict[int, int] = {}
         self.moved = cutter.declarations.variables
         self.fixed = cutter.declarations.fixed_entities()
         self.wanted = {libclang.spelling(cursor) for cursor in [*self.moved, *self.fixed]}
@@ -50,6 +58,7 @@ class Names:
         self.uses = self._uses()
         self.declared = self._declared()
         self.loose = self._loose()
+        self.scopes = Scopes(self.cutter.syntax.body)
         for cursor in self.fixed:
             self._check_fixed(cursor)
         for name in sorted(self.wanted):
@@ -59,13 +68,13 @@ class Names:
         """Let one variable have the name, if nothing else has it, and give the others new ones."""
         fixed = [cursor for cursor in self.fixed if libclang.spelling(cursor) == name]
         waiting = {libclang.identity(cursor): cursor for cursor in self.moved if libclang.spelling(cursor) == name}
-        faults: list[tuple[int, Refused]] = []
+        faults: list[tuple[int, Exception]] = []
         keeps = not fixed and not self._is_taken(name)
         for entity, cursor in list(waiting.items())[1 if keeps and len(waiting) == 1 else 0:]:
             try:
                 self._check_rename(name, entity, cursor)
-            except Refused as refused:
-                faults.append((entity, refused))
+            except (Refused, NeedsExpansion) as fault:
+                faults.append((entity, fault))
         keeper = None
         if keeps and waiting:
             keeper = faults.pop(0)[0] if faults else next(iter(waiting))
@@ -110,7 +119,7 @@ class Names:
             if kind is TokenKind.NAME and word in self.wanted and before not in _NO_VARIABLE:
                 if tokens.offsets[at] not in known and not self._is_label(at):
                     found.setdefault(word, []).append(tokens.offsets[at])
-            elif kind is TokenKind.DIRECTIVE:
+            elif kind is TokenKind.DIRECTIVE and not _CONDITIONAL.match(word):
                 for match in _NAME.finditer(word):
                     if match.group() in self.wanted:
                         found.setdefault(match.group(), []).append(tokens.offsets[at])
@@ -130,7 +139,10 @@ class Names:
         inner = set(self.declared.values()) - moved - kept
         if any(libclang.spelling(cursor) == name for cursor in self.cutter.declarations.kept):
             return True
-        return any(use.name == name and use.entity not in moved | inner for use in self.uses)
+        if any(use.name == name and use.entity not in moved | inner for use in self.uses):
+            return True
+        return any(not self._is_in_directive(offset) and self.scopes.meant(name, offset) is None
+                   for offset in self._in_groups(name))
 
     def _check_fixed(self, cursor: Any) -> None:
         """Raise `Refused` where a type, an enumerator or a function would take a name that means something else."""
@@ -145,39 +157,54 @@ class Names:
     # -- new names
 
     def _check_rename(self, name: str, entity: int, cursor: Any) -> None:
-        """Raise `Refused` where a variable can't get another name."""
+        """Raise `Refused` where a variable can't get another name, or `NeedsExpansion` where macros stand in the way."""
         start = libclang.name_offset(cursor)
-        for use in self.uses:
-            if use.entity == entity and not use.written:
-                raise Refused(start, f"'{name}' has to get another name, and a macro names it")
-            if use.entity == entity:
-                self._check_invocation(use, name)
-        for offset in self.loose.get(name, []):
-            if self.cutter.units.kinds[self.cutter.units.at(offset)] is UnitKind.GROUP:
+        for offset in self._in_groups(name):
+            if self._is_in_directive(offset) or self.scopes.meant(name, offset) == entity:
                 why = f"'{name}' has to get another name, and a group of directives names it"
                 raise Refused(start, why, True)
+        uses = [use for use in self.uses if use.entity == entity]
+        hiding = [use.offset for use in uses if not use.written or self._makes_text(use)]
+        if hiding:
+            raise NeedsExpansion(*hiding)
+
+    def _is_in_directive(self, offset: int) -> bool:
+        return self.file.text.startswith(("#", "%:"), offset)
+
+    def _in_groups(self, name: str) -> list[int]:
+        """Return where a group of directives has a name that isn't known to mean anything."""
+        units = self.cutter.units
+        return [offset for offset in self.loose.get(name, []) if units.kinds[units.at(offset)] is UnitKind.GROUP]
 
     def _rename(self, name: str, entity: int, cursor: Any) -> None:
-        new = self._fresh(name)
+        number = len(self.asked)
+        self.asked.append(name)
         places = [use.offset for use in self.uses if use.entity == entity]
         for offset in [libclang.name_offset(cursor), *places]:
-            if self.renames.setdefault(offset, new) != new:
+            if self.places.setdefault(offset, number) != number:
                 raise Refused(offset, f"'{name}' means two variables in one macro argument")
 
-    def _check_invocation(self, use: Use, name: str) -> None:
-        """Raise `Refused` where a macro may make a text or another name of this name."""
+    def _makes_text(self, use: Use) -> bool:
+        """Return whether a macro may make a text or another name of a name."""
         invocation = self.file.invocation_at(use.offset)
         if invocation is None or invocation.name == "assert":
-            return
+            return False
         words = {word for word in _NAME.findall(self.file.text[invocation.start: invocation.end])}
-        for macro in words | self.file.words_behind(words):
-            if _MAKES_TEXT.search(self.file.macro_text(macro) or ""):
-                raise Refused(use.offset, f"'{name}' has to get another name, and a macro makes a text of it")
+        return any(_MAKES_TEXT.search(self.file.macro_text(macro) or "")
+                   for macro in words | self.file.words_behind(words))
 
-    def _fresh(self, name: str) -> str:
-        used = self.file.all_words()
+    def take(self, names: list[str]) -> None:
+        """Give the variables these names, one for each that is asked for."""
+        self.renames = {offset: names[number] for offset, number in self.places.items()}
+
+
+def new_names(asked: list[str], used: set[str]) -> list[str]:
+    """Return a name that isn't used for each that is asked for; it counts as used then."""
+    found = []
+    for name in asked:
         number = 2
         while f"{name}_{number}" in used:
             number += 1
-        used.add(f"{name}_{number}")
-        return f"{name}_{number}"
+        found.append(f"{name}_{number}")
+        used.add(found[-1])
+    return found

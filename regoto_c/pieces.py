@@ -3,7 +3,6 @@
 from __future__ import annotations
 
 import re
-from dataclasses import dataclass
 from enum import Enum
 from typing import Any
 
@@ -11,6 +10,7 @@ from . import libclang, syntax
 from .libclang import Kind
 from .messages import Refused
 from .reading import SourceFile
+from .records import dataclass
 from .syntax import Node, Syntax
 
 
@@ -51,7 +51,7 @@ class Piece:
 _RETURNS_TWICE = frozenset("""
     setjmp _setjmp __setjmp sigsetjmp __sigsetjmp _sigsetjmp __builtin_setjmp savectx vfork __vfork getcontext
     """.split())
-_FUNCTION = Kind.FUNCTION_DECL.value
+_FUNCTION = Kind.FUNCTION_DECL
 _WORDS = re.compile(r"[A-Za-z_]\w*")
 
 _CONCERNS = {
@@ -67,7 +67,7 @@ def returns_twice(file: SourceFile, tree: Syntax, words: set[str]) -> int | None
         return None
     for cursor in tree.references:
         entity = libclang.referenced(cursor)
-        if entity is None or entity._kind_id != _FUNCTION:
+        if entity is None or entity.kind != _FUNCTION:
             continue
         number = libclang.identity(entity)
         if number not in file.returning_twice:
@@ -81,7 +81,7 @@ def _does_return_twice(function: Any) -> bool:
     """Return whether a function may return twice, by its name or by an attribute."""
     if libclang.spelling(function) in _RETURNS_TWICE:
         return True
-    has_attribute = any(child._kind_id == Kind.UNEXPOSED_ATTR.value for child in libclang.children(function))
+    has_attribute = any(child.kind == Kind.UNEXPOSED_ATTR for child in libclang.children(function))
     return has_attribute and "returns_twice" in libclang.printed(function)
 
 

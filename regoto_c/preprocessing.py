@@ -7,12 +7,14 @@ import re
 import shutil
 import subprocess
 import tempfile
+from concurrent.futures import ThreadPoolExecutor
 from dataclasses import dataclass, field
-from functools import lru_cache
+from functools import cached_property, lru_cache
 from pathlib import Path
 from typing import Sequence
 
 from .lexing import tokens_of
+from .plain_macros import is_more_than_expression
 from .words import HEADS, JUMPS, NAMES
 
 MARKER = re.compile(r'#(?:line)? (\d+) "((?:[^"\\]|\\.)*)"')
@@ -22,7 +24,6 @@ UNDEFINE = re.compile(r"#\s*undef\s+(\S+)")
 HIDDEN = re.compile(r"\b(__LINE__|__FILE__|__FILE_NAME__|__BASE_FILE__|__COUNTER__|__DATE__|__TIME__|__TIMESTAMP__"
                     r"|__INCLUDE_LEVEL__|_Pragma|__pragma)\b")
 SHOWN = re.compile(r"regoto_hidden_(\w+?)_end")
-MORE_THAN_EXPRESSION = re.compile(r"[{};\[\]]|##|<%|%>|:\s*$|^\s*\w+\s*:")
 
 
 def hide(text: str) -> str:
@@ -56,7 +57,13 @@ class Preprocessed:
     """What the preprocessor makes of a file: its lines, each with its line of the file, and the changes of macros."""
 
     lines: list[tuple[int, str]] = field(default_factory=list)
-    events: list[Event] = field(default_factory=list)
+    directives: list[tuple[int, str]] = field(default_factory=list)
+
+    @cached_property
+    def events(self) -> list[Event]:
+        """The changes of macros in order, each with its line."""
+        found = [(line, *_event(text)) for line, text in self.directives]
+        return [event for event in found if event[1] != "__LINE__"]
 
 
 class Definitions:
@@ -96,7 +103,7 @@ class Definitions:
         if names & JUMPS or names & HEADS:
             return True
         bodies = [self.now[name].body for name in names if name in self.now]
-        return any(MORE_THAN_EXPRESSION.search(body) or body.count("(") != body.count(")") for body in bodies)
+        return any(map(is_more_than_expression, bodies))
 
 
 def names_with(events: Sequence[Event], word: str) -> frozenset[str]:
@@ -156,16 +163,13 @@ def read(output: str, name: str) -> Preprocessed:
     result = Preprocessed()
     line, inside = 0, False
     for each in output.split("\n"):
-        found = MARKER.match(each)
-        if found:
+        if each.startswith("#") and (found := MARKER.match(each)):
             inside = found.group(2) == "/" + name
             if inside:
                 line = int(found.group(1))
             continue
         if each.startswith(("#define", "#undef")):
-            macro, definition = _event(each)
-            if macro != "__LINE__":
-                result.events.append((line, macro, definition))
+            result.directives.append((line, each))
         elif each and not each.isspace():
             result.lines.append((line, each))
         line += inside
@@ -178,14 +182,15 @@ def differs(path: Path, before: str, after: str, flags: Sequence[str]) -> str | 
     A compiler that doesn't take the first text with these flags doesn't count; without any, Failed is raised.
     """
     compared = False
-    for program in programs():
-        try:
-            first = preprocessed(program, path, before, flags)
-        except Failed:
-            continue
-        compared = True
-        if not _same_tokens(first, preprocessed(program, path, after, flags)):
-            return Path(program).name
+    with ThreadPoolExecutor() as pool:
+        runs = [(program, pool.submit(preprocessed, program, path, before, flags),
+                 pool.submit(preprocessed, program, path, after, flags)) for program in programs()]
+        for program, first, second in runs:
+            if isinstance(first.exception(), Failed):
+                continue
+            compared = True
+            if not _same_tokens(first.result(), second.result()):
+                return Path(program).name
     if not compared:
         raise Failed("no compiler (clang or gcc) takes the file")
     return None

@@ -3,27 +3,27 @@
 from __future__ import annotations
 
 import re
-from bisect import bisect_right
-from dataclasses import dataclass, field
-from functools import cache
+from bisect import bisect_left, bisect_right
+from operator import attrgetter
 from pathlib import Path
-from typing import Any
+from typing import Any, Collection, Iterable
 
-from . import libclang
+from . import hollow, libclang
+from .clang_units import Unit
+from .edits import Edit, Shift, edited
 from .lexing import Tokens, tokens_of
-from .libclang import Kind, TranslationUnit
-from .messages import Message, Unreadable
+from .libclang import Kind
+from .messages import Fault, Unreadable
+from .parsing import parsed
+from .records import dataclass, field
 
-_ERROR = 3
-# what gcc takes with a warning
-_TAKEN = [f"-Wno-{name}" for name in (
-    "return-type", "implicit-function-declaration", "implicit-int", "int-conversion", "incompatible-pointer-types",
-    "incompatible-function-pointer-types")]
-_WORD = re.compile(r"[A-Za-z_$][\w$]*")
-_MACRO_DEFINITION = Kind.MACRO_DEFINITION.value
-_MACRO_INSTANTIATION = Kind.MACRO_INSTANTIATION.value
-_FUNCTION = Kind.FUNCTION_DECL.value
-_COMPOUND = Kind.COMPOUND_STMT.value
+WORD = re.compile(r"[A-Za-z_$][\w$]*")
+_GOTO = re.compile(r"goto\b")
+_MACRO_DEFINITION = Kind.MACRO_DEFINITION
+_MACRO_INSTANTIATION = Kind.MACRO_INSTANTIATION
+_FUNCTION = Kind.FUNCTION_DECL
+_COMPOUND = Kind.COMPOUND_STMT
+_start_of = attrgetter("start")
 
 
 @dataclass
@@ -47,56 +47,70 @@ class Function:
     start: int
     body: int
     end: int
-    cursor: Any
-    compound: Any
+    cursor: Any = field(compare=False)
+    compound: Any = field(compare=False)
     name_offset: int
     is_written: bool
+
+    def moved(self, shift: Shift) -> Function:
+        """Return the function where it stands with some edits, without cursors."""
+        start, body, end, name = map(shift.of, (self.start, self.body, self.end, self.name_offset))
+        return Function(self.name, start, body, end, None, None, name, self.is_written)
 
 
 @dataclass
 class SourceFile:
     """A file that libclang has read without errors.
 
-    `text` has one character for each byte (latin-1), so that offsets are those of libclang. `tokens` are those of the
-    functions with a goto alone.
+    `text` has one character for each byte (latin-1), so that offsets are those of libclang. `jumping` are the numbers of
+    the functions with a goto; `tokens` and `invocations` are those of them alone. `left_out` are bodies of functions that
+    libclang hasn't read, and that aren't among `functions`.
     """
 
     path: Path
     text: str
     flags: list[str]
-    unit: Any
+    unit: Unit
     tokens: Tokens = field(default_factory=lambda: tokens_of("", [(0, 0)]))
     invocations: list[Invocation] = field(default_factory=list)
     functions: list[Function] = field(default_factory=list)
+    left_out: list[tuple[int, int]] = field(default_factory=list)
+    jumping: list[int] = field(default_factory=list)
     macros: dict[str, Any] = field(default_factory=dict)
     has_memcpy: bool = False
     words: set[str] = field(default_factory=set)
     returning_twice: dict[int, bool] = field(default_factory=dict)
     mentioned: dict[str, bool] = field(default_factory=dict)
     macro_words: dict[str, frozenset[str]] = field(default_factory=dict)
+    plain: dict[str, list[str] | None] = field(default_factory=dict)
 
     def invocation_at(self, offset: int) -> Invocation | None:
         """Return the outermost invocation in which `offset` lies, or None."""
-        index = bisect_right(self.invocations, offset, key=lambda invocation: invocation.start) - 1
+        index = bisect_right(self.invocations, offset, key=_start_of) - 1
         if index >= 0 and offset < self.invocations[index].end:
             return self.invocations[index]
         return None
 
+    def invocations_in(self, function: Function) -> list[Invocation]:
+        """Return the outermost invocations that begin in a function's body."""
+        low = bisect_left(self.invocations, function.body, key=_start_of)
+        return self.invocations[low:bisect_left(self.invocations, function.end, low, key=_start_of)]
+
     def words_in(self, function: Function) -> set[str]:
         """Return the words in a function, those in comments and strings too."""
-        return set(_WORD.findall(self.text, function.start, function.end))
+        return set(WORD.findall(self.text, function.start, function.end))
 
     def has_goto(self, function: Function) -> bool:
         """Return whether a function has a goto, written in it or in the text of a macro that it names."""
+        if _GOTO.search(self.text, function.start, function.end):
+            return True
         words = self.words_in(function)
-        return "goto" in words or "goto" in self.words_behind(words)
+        return "goto" in self.words_behind(words)
 
     def mentions(self, word: str) -> bool:
         """Return whether a word stands in the file or in one that it includes."""
         if word not in self.mentioned:
-            wide = word.encode()
-            self.mentioned[word] = word in self.text or any(
-                wide in _content(str(include.include.name)) for include in self.unit.get_includes())
+            self.mentioned[word] = word in self.text or self.unit.includes(word.encode())
         return self.mentioned[word]
 
     def words_behind(self, words: set[str]) -> set[str]:
@@ -114,134 +128,132 @@ class SourceFile:
 
     def _words_of_macro(self, name: str) -> frozenset[str]:
         if name not in self.macro_words:
-            self.macro_words[name] = frozenset(_WORD.findall(self.macro_text(name) or ""))
+            self.macro_words[name] = frozenset(WORD.findall(self.macro_text(name) or ""))
         return self.macro_words[name]
 
     def all_words(self) -> set[str]:
         """Return all names in the file and in the texts of macros; what is added to it counts as one of them."""
         if not self.words:
-            self.words = set(_WORD.findall(self.text))
+            self.words = set(WORD.findall(self.text))
             self.words |= self.words_behind(self.words) | set(self.macros)
         return self.words
 
     def macro_text(self, name: str) -> str | None:
         """Return the last definition of a macro, from its name to its end; None for one that is built in."""
         cursor = self.macros.get(name)
-        return libclang.text_of(self.unit, cursor) if cursor is not None else None
+        return libclang.text_of(cursor) if cursor is not None else None
 
 
-@dataclass
-class Edit:
-    """The text that takes the place of the bytes from `start` to `end` of a file."""
+def read(path: Path, text: str, flags: list[str]) -> SourceFile:
+    """Parse `text` as the content of the file at `path`; its tokens are those of the functions with a goto.
 
-    start: int
-    end: int
-    text: str
-
-
-def edited(text: str, edits: list[Edit]) -> str:
-    """Return `text` with all edits made, which don't overlap."""
-    out: list[str] = []
-    at = 0
-    for edit in sorted(edits, key=lambda edit: edit.start):
-        out += [text[at: edit.start], edit.text]
-        at = edit.end
-    return "".join(out) + text[at:]
-
-
-def unedited(text: str, edits: list[Edit], offset: int) -> int:
-    """Return where in `text` an offset of the text with these edits lies; inside of one, as far as they are alike."""
-    moved = 0
-    for edit in sorted(edits, key=lambda edit: edit.start):
-        if offset < edit.start + moved:
-            break
-        if offset < edit.start + moved + len(edit.text):
-            pairs = enumerate(zip(edit.text, text[edit.start: edit.end]))
-            alike = next((at for at, (new, old) in pairs if new != old), min(len(edit.text), edit.end - edit.start))
-            return edit.start + min(offset - edit.start - moved, alike)
-        moved += len(edit.text) - (edit.end - edit.start)
-    return offset - moved
-
-
-def read(path: Path, text: str, flags: list[str], numbers: list[int] | None = None) -> SourceFile:
-    """Parse `text` as the content of the file at `path`.
-
-    Its tokens are those of the functions with these numbers, or of those with a goto.
     Raises `Unreadable` with clang's own messages where it has errors.
     """
-    unit = _parsed(path, text, flags)
-    faults = [_message(diagnostic, path, text) for diagnostic in unit.diagnostics if diagnostic.severity >= _ERROR]
-    if faults:
-        raise Unreadable(faults)
-    file = SourceFile(path, text, flags, unit)
-    _gather(file)
-    if numbers is None:
-        numbers = [number for number, function in enumerate(file.functions) if file.has_goto(function)]
-    file.tokens = tokens_of(text, [(file.functions[number].start, file.functions[number].end) for number in numbers])
+    return read_without(path, text, flags, [])
+
+
+def read_without(path: Path, text: str, flags: list[str], bodies: list[tuple[int, int]]) -> SourceFile:
+    """Do that without some bodies of functions, from `{` to behind `}`; these functions aren't in the file then."""
+    file = SourceFile(path, text, flags, parsed(path, hollow.without(text, bodies), flags, text), left_out=bodies)
+    invocations = _gather(file)
+    file.jumping = [number for number, function in enumerate(file.functions) if file.has_goto(function)]
+    _look_at(file, file.jumping, invocations)
     return file
 
 
-def _parsed(path: Path, text: str, flags: list[str]) -> Any:
+def bodies_in(path: Path, text: str, flags: list[str]) -> list[tuple[int, int]]:
+    """Return where the bodies of all functions stand, from `{` to behind `}`.
+
+    Raises `Unreadable` with clang's own messages where the file has errors.
+    """
+    file = SourceFile(path, text, flags, parsed(path, text, flags, detailed=False))
+    _gather(file)
+    return [(function.body, function.end) for function in file.functions]
+
+
+def read_again(file: SourceFile, edits: list[Edit], numbers: Collection[int]) -> SourceFile:
+    """Parse a file with these edits, for the functions with these numbers; others have no edit and needn't be read.
+
+    Raises `Unreadable` with clang's own messages where it has errors, and `Fault` where it can't be read as it was.
+    """
+    text, shift = edited(file.text, edits), Shift(edits)
+    places = [function.moved(shift) for function in file.functions]
+    out = [number for number, place in enumerate(places)
+           if number not in numbers and place.is_written and hollow.may_go(text, place.body, place.end)]
+    again = _without(file, edits, text, places, out, numbers) if out or file.left_out else None
+    if again is None:
+        if file.left_out:
+            raise Fault("the file can't be read without some of its functions")
+        again = SourceFile(file.path, text, file.flags, parsed(file.path, text, file.flags))
+        _look_at(again, numbers, _gather(again))
+    return again
+
+
+def _without(
+    file: SourceFile, edits: list[Edit], text: str, places: list[Function], out: list[int], numbers: Collection[int]
+) -> SourceFile | None:
+    """Parse the text without the bodies of the functions `out`; None where the others aren't at their places then."""
+    shift = Shift(edits)
+    bodies = [(shift.of(start), shift.of(end)) for start, end in file.left_out]
+    every = sorted([*bodies, *((places[number].body, places[number].end) for number in out)])
     try:
-        return TranslationUnit.from_source(
-            str(path),
-            ["-w", "-fdouble-square-bracket-attributes", *_TAKEN, *flags],
-            [(str(path), text.encode("latin-1"))],
-            TranslationUnit.PARSE_DETAILED_PROCESSING_RECORD,
-        )
-    except libclang.cindex.TranslationUnitLoadError:
-        raise Unreadable([Message(path, 1, 1, "error", "libclang can't read this file with these flags")]) from None
+        unit = parsed(file.path, hollow.without(text, every), file.flags, text)
+    except Unreadable:
+        return None
+    again = SourceFile(file.path, text, file.flags, unit, left_out=bodies)
+    invocations = _gather(again, None if any("#" in edit.text for edit in edits) else file)
+    found = {function.body: function for function in again.functions}
+    kept = set(range(len(places))) - set(out)
+    again.functions = [found.get(place.body, place) if number in kept else place
+                       for number, place in enumerate(places)]
+    if len(found) != len(kept) or again.functions != places:
+        return None
+    _look_at(again, numbers, invocations)
+    return again
 
 
-@cache
-def _content(name: str) -> bytes:
-    """Return the bytes of an included file, none where it can't be read."""
-    try:
-        return Path(name).read_bytes()
-    except OSError:
-        return b""
-
-
-def _message(diagnostic: Any, path: Path, text: str) -> Message:
-    """Return a message of clang's with its source line."""
-    place = diagnostic.location
-    if place.file is None:
-        return Message(path, 1, 1, "error", diagnostic.spelling)
-    name = Path(place.file.name)
-    lines = (text if name == path else _content(str(name)).decode("latin-1")).split("\n")
-    line = lines[place.line - 1].rstrip("\r") if place.line <= len(lines) else ""
-    shown = line.encode("latin-1").decode("utf-8", "replace")
-    return Message(name, place.line, place.column, "error", diagnostic.spelling, shown)
-
-
-def _gather(file: SourceFile) -> None:
-    """Find the invocations, the macros and the functions of a file."""
-    spans: list[Invocation] = []
+def _gather(file: SourceFile, known: SourceFile | None = None) -> list[Any]:
+    """Find the functions of a file and its macros, if they aren't `known`; return the cursors of all invocations."""
+    invocations: list[Any] = []
     for cursor in libclang.children(file.unit.cursor):
-        kind = cursor._kind_id
-        if kind == _MACRO_DEFINITION:
+        kind = cursor.kind
+        if kind == _MACRO_INSTANTIATION:
+            invocations.append(cursor)
+        elif kind == _MACRO_DEFINITION and known is None:
             file.macros[libclang.spelling(cursor)] = cursor
-        elif kind == _FUNCTION and not file.has_memcpy and libclang.spelling(cursor) == "memcpy":
-            file.has_memcpy = True
-        elif not libclang.is_in_main_file(cursor):
-            continue
-        elif kind == _MACRO_INSTANTIATION:
-            spans.append(Invocation(libclang.spelling(cursor), *libclang.extent(cursor), cursor))
         elif kind == _FUNCTION:
-            function = _function(file, cursor)
-            if function is not None:
-                file.functions.append(function)
+            if known is None and not file.has_memcpy and libclang.spelling(cursor) == "memcpy":
+                file.has_memcpy = True
+            elif libclang.is_definition(cursor) and libclang.is_in_main_file(cursor):
+                file.functions.append(_function(file, cursor))
+    if known is not None:
+        file.macros, file.macro_words, file.plain = known.macros, known.macro_words, known.plain
+        file.has_memcpy, file.mentioned = known.has_memcpy, known.mentioned
+    return invocations
+
+
+def _look_at(file: SourceFile, numbers: Iterable[int], invocations: list[Any]) -> None:
+    """Find the tokens and the outermost invocations of some functions."""
+    chosen = [file.functions[number] for number in sorted(numbers)]
+    file.tokens = tokens_of(file.text, [(function.start, function.end) for function in chosen])
+    starts, spans = [function.start for function in chosen], []
+    for cursor in invocations:
+        if not libclang.is_in_main_file(cursor):
+            continue
+        at = bisect_right(starts, libclang.name_offset(cursor)) - 1
+        if at >= 0:
+            start, end = libclang.extent(cursor)
+            if start < chosen[at].end:
+                spans.append(Invocation(libclang.spelling(cursor), start, end, cursor))
     spans.sort(key=lambda span: (span.start, -span.end))
     for span in spans:
         if not file.invocations or span.start >= file.invocations[-1].end:
             file.invocations.append(span)
 
 
-def _function(file: SourceFile, cursor: Any) -> Function | None:
-    """Return the function that is defined at a cursor, or None where it is only declared."""
-    compounds = [child for child in libclang.children(cursor) if child._kind_id == _COMPOUND]
-    if not compounds:
-        return None
+def _function(file: SourceFile, cursor: Any) -> Function:
+    """Return the function that is defined at a cursor."""
+    compounds = [child for child in libclang.children(cursor) if child.kind == _COMPOUND]
     start, end = libclang.extent(cursor)
     body, behind = libclang.extent(compounds[-1])
     text = file.text

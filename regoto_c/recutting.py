@@ -15,8 +15,8 @@ from .reading import Function, SourceFile
 from .syntax import Node
 from .units import UnitKind
 
-_BINARY = Kind.BINARY_OPERATOR.value
-_CONDITIONAL = Kind.CONDITIONAL_OPERATOR.value
+_BINARY = Kind.BINARY_OPERATOR
+_CONDITIONAL = Kind.CONDITIONAL_OPERATOR
 
 
 class ResultCutter(Cutter):
@@ -58,12 +58,12 @@ class ResultCutter(Cutter):
             return forms.Set(name, self.expression(right, first, end))
         if end == first + 1 and self.units.words[first] in ("0", "1"):
             return forms.Set(name, Number(int(self.units.words[first])))
-        inner = Node(right._kind_id, libclang.start_offset(right), right)
+        inner = Node(right.kind, libclang.start_offset(right), right)
         if name.startswith("switch_"):
             return forms.Set(name, super().selector(inner, first, end))
         left = self.left_of_zero(right, first, end)
         plain = self.bare(right)  # without the conversion of a truth value to the guard's type
-        if left is None and not is_truth(self, Node(plain._kind_id, inner.start, plain), first, end):
+        if left is None and not is_truth(self, Node(plain.kind, inner.start, plain), first, end):
             raise self.fault(at, "a guard gets a value that isn't 0 or 1")
         whole = self.asked(first, end)
         asked = whole if left is None else self.asked(first, left)
@@ -75,7 +75,7 @@ class ResultCutter(Cutter):
     def left_of_zero(self, cursor: Any, first: int, end: int) -> int | None:
         """Return the unit of the mark if an expression is one that is compared with 0 by `!=`, else None."""
         cursor = self.bare(cursor)
-        if cursor._kind_id != _BINARY or not (self.is_token(end - 1, "0") and self.is_token(end - 2, "!=")):
+        if cursor.kind != _BINARY or not (self.is_token(end - 1, "0") and self.is_token(end - 2, "!=")):
             return None
         right = libclang.children(cursor)[1]
         return end - 2 if self.units.at(libclang.start_offset(right)) == end - 1 else None
@@ -97,16 +97,16 @@ class ResultCutter(Cutter):
         if not self.names_core(first, behind):
             return super().selector(node, first, behind)
         cursor = self.bare(node.cursor)
-        if cursor._kind_id != _CONDITIONAL or not self.is_token(first + 1, "?"):
+        if cursor.kind != _CONDITIONAL or not self.is_token(first + 1, "?"):
             raise self.fault(first, "a selector of another form")
         condition, constant, other = libclang.children(cursor)
         colon = self.scan(first, ":", behind)
-        inner = Node(other._kind_id, libclang.start_offset(other), node.cursor)
+        inner = Node(other.kind, libclang.start_offset(other), node.cursor)
         if self.units.at(inner.start) != colon + 1:
             raise self.fault(first, "a selector of another form")
         self.spans.append((self.units.starts[first], self.units.starts[colon + 1]))
         selector = self.selector(inner if not self.names_core(colon + 1, behind) else
-                                 Node(other._kind_id, inner.start, other), colon + 1, behind)
+                                 Node(other.kind, inner.start, other), colon + 1, behind)
         value = libclang.constant_value(constant)
         if value is None:
             raise self.fault(first, "a selector of another form")
@@ -114,7 +114,7 @@ class ResultCutter(Cutter):
 
     def bare(self, cursor: Any) -> Any:
         """Return an expression without implicit conversions."""
-        while cursor._kind_id == Kind.UNEXPOSED_EXPR.value:
+        while cursor.kind == Kind.UNEXPOSED_EXPR:
             cursor = libclang.children(cursor)[0]
         return cursor
 
@@ -160,7 +160,7 @@ class ResultCutter(Cutter):
         cuts: list[int] = []
         nodes: list[Any] = []
         mark = ""
-        while cursor._kind_id == _BINARY:
+        while cursor.kind == _BINARY:
             left, right = libclang.children(cursor)
             cut = self.units.at(libclang.start_offset(right)) - 1
             if cuts and cut >= cuts[0]:

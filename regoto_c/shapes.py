@@ -122,6 +122,8 @@ class _Reader:
             row.spans.append((start, self.at))
 
     def body(self, loop: bool, switch: bool) -> None:
+        while self.text() in ("case", "default"):
+            self.jumping(self.text(), loop, switch)
         if self.at >= len(self.tokens):
             raise _Stop(End.HEAD)
         self.statement(loop, switch, False)

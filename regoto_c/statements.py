@@ -4,7 +4,6 @@ from __future__ import annotations
 
 from abc import abstractmethod
 from collections import Counter
-from dataclasses import dataclass
 
 from . import forms, libclang, syntax
 from .forms import Ask, Items
@@ -13,6 +12,7 @@ from .expressions import is_truth, kind_of
 from .messages import Refused
 from .pieces import Form, Piece, check_expression
 from .reading import Function, SourceFile
+from .records import dataclass
 from .syntax import Node
 from .units import Comment, UnitKind
 

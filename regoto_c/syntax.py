@@ -2,40 +2,41 @@
 
 from __future__ import annotations
 
-from dataclasses import dataclass, field
 from typing import Any
 
 from . import libclang
-from .libclang import Kind, TypeKind
+from .clang_types import TypeKind, type_of
+from .libclang import Kind
+from .records import dataclass, field
 
-LABEL = Kind.LABEL_STMT.value
-COMPOUND = Kind.COMPOUND_STMT.value
-CASE = Kind.CASE_STMT.value
-DEFAULT = Kind.DEFAULT_STMT.value
-IF = Kind.IF_STMT.value
-SWITCH = Kind.SWITCH_STMT.value
-WHILE = Kind.WHILE_STMT.value
-DO = Kind.DO_STMT.value
-FOR = Kind.FOR_STMT.value
-GOTO = Kind.GOTO_STMT.value
-INDIRECT_GOTO = Kind.INDIRECT_GOTO_STMT.value
-CONTINUE = Kind.CONTINUE_STMT.value
-BREAK = Kind.BREAK_STMT.value
-RETURN = Kind.RETURN_STMT.value
-ASM = Kind.ASM_STMT.value
-NULL = Kind.NULL_STMT.value
-DECLARATION = Kind.DECL_STMT.value
-STATEMENT_EXPRESSION = Kind.StmtExpr.value
-COMPOUND_LITERAL = Kind.COMPOUND_LITERAL_EXPR.value
-LABEL_ADDRESS = Kind.ADDR_LABEL_EXPR.value
-REFERENCE = Kind.DECL_REF_EXPR.value
-VARIABLE = Kind.VAR_DECL.value
-TAGS = (Kind.STRUCT_DECL.value, Kind.UNION_DECL.value, Kind.ENUM_DECL.value)
+LABEL = Kind.LABEL_STMT
+COMPOUND = Kind.COMPOUND_STMT
+CASE = Kind.CASE_STMT
+DEFAULT = Kind.DEFAULT_STMT
+IF = Kind.IF_STMT
+SWITCH = Kind.SWITCH_STMT
+WHILE = Kind.WHILE_STMT
+DO = Kind.DO_STMT
+FOR = Kind.FOR_STMT
+GOTO = Kind.GOTO_STMT
+INDIRECT_GOTO = Kind.INDIRECT_GOTO_STMT
+CONTINUE = Kind.CONTINUE_STMT
+BREAK = Kind.BREAK_STMT
+RETURN = Kind.RETURN_STMT
+ASM = Kind.ASM_STMT
+NULL = Kind.NULL_STMT
+DECLARATION = Kind.DECL_STMT
+STATEMENT_EXPRESSION = Kind.STATEMENT_EXPRESSION
+COMPOUND_LITERAL = Kind.COMPOUND_LITERAL_EXPR
+LABEL_ADDRESS = Kind.ADDR_LABEL_EXPR
+REFERENCE = Kind.DECL_REF_EXPR
+VARIABLE = Kind.VAR_DECL
+TAGS = (Kind.STRUCT_DECL, Kind.UNION_DECL, Kind.ENUM_DECL)
 LOOPS = (WHILE, DO, FOR)
 
 _JUMPS = (LABEL, GOTO, INDIRECT_GOTO, RETURN, BREAK, CONTINUE, CASE, DEFAULT)
-_REFERENCES = (REFERENCE, Kind.TYPE_REF.value)
-_LENT = (Kind.UNARY_OPERATOR.value, Kind.MEMBER_REF_EXPR.value, Kind.PAREN_EXPR.value, Kind.ARRAY_SUBSCRIPT_EXPR.value)
+_REFERENCES = (REFERENCE, Kind.TYPE_REF)
+_LENT = (Kind.UNARY_OPERATOR, Kind.MEMBER_REF_EXPR, Kind.PAREN_EXPR, Kind.ARRAY_SUBSCRIPT_EXPR)
 _ARRAYS = (TypeKind.CONSTANTARRAY, TypeKind.INCOMPLETEARRAY, TypeKind.VARIABLEARRAY)
 
 
@@ -73,8 +74,7 @@ class Syntax:
     `computed` has the offsets of computed gotos and of addresses of labels, `assemblies` those of assembler.
     """
 
-    def __init__(self, unit: Any, compound: Any, looks_for_concerns: bool) -> None:
-        self.unit = unit
+    def __init__(self, compound: Any, looks_for_concerns: bool) -> None:
         self.looks_for_concerns = looks_for_concerns
         self.references: list[Any] = []
         self.variables: list[Any] = []
@@ -84,7 +84,7 @@ class Syntax:
         self.body = self._node(compound)
 
     def _node(self, cursor: Any) -> Node:
-        kind = cursor._kind_id
+        kind = cursor.kind
         node = Node(kind, libclang.start_offset(cursor), cursor)
         if 200 <= kind < 400:
             node.children = [self._node(child) for child in libclang.children(cursor)]
@@ -102,7 +102,7 @@ class Syntax:
     def _look_into(self, node: Node) -> None:
         """Gather what matters in an expression or a declaration."""
         def look(cursor: Any, parent: Any) -> bool:
-            kind = cursor._kind_id
+            kind = cursor.kind
             if kind in _REFERENCES:
                 self.references.append(cursor)
             elif kind == VARIABLE:
@@ -113,7 +113,7 @@ class Syntax:
             elif kind == LABEL_ADDRESS:
                 self.computed.append(libclang.start_offset(cursor))
             elif kind == COMPOUND_LITERAL and self.looks_for_concerns:
-                if parent._kind_id in _LENT or libclang.type_of(self.unit, cursor).kind in _ARRAYS:
+                if parent.kind in _LENT or type_of(cursor).kind in _ARRAYS:
                     node.concerns.append(Concern(libclang.start_offset(cursor), "compound literal"))
             elif kind in TAGS and node.kind >= 100:
                 node.concerns.append(Concern(libclang.start_offset(cursor), "type defined in an expression"))

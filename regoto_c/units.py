@@ -3,13 +3,16 @@
 from __future__ import annotations
 
 from bisect import bisect_left, bisect_right
-from dataclasses import dataclass, field
 from enum import IntEnum
+from typing import TYPE_CHECKING
 
-from .directives import groups
 from .lexing import TokenKind, Tokens
 from .messages import Refused
 from .reading import Function, SourceFile
+from .records import dataclass, field
+
+if TYPE_CHECKING:
+    from .judging import Group
 
 
 class UnitKind(IntEnum):
@@ -83,12 +86,9 @@ def units_of(file: SourceFile, function: Function) -> Units:
 def _wholes(file: SourceFile, function: Function) -> list[tuple[int, int, UnitKind, Refused | None]]:
     """Return the invocations and groups of a function, those in others left out."""
     wholes: list[tuple[int, int, UnitKind, Refused | None]] = []
-    low = bisect_left(file.invocations, function.body, key=lambda invocation: invocation.start)
-    for invocation in file.invocations[low:]:
-        if invocation.start >= function.end:
-            break
+    for invocation in file.invocations_in(function):
         wholes.append((invocation.start, invocation.end, UnitKind.INVOCATION, None))
-    for group in groups(file, function):
+    for group in _groups(file, function):
         fault = Refused(group.fault_offset, group.fault, True) if group.fault else None
         wholes.append((group.start, group.end, UnitKind.GROUP, fault))
     wholes.sort(key=lambda whole: (whole[0], -whole[1]))
@@ -97,6 +97,21 @@ def _wholes(file: SourceFile, function: Function) -> list[tuple[int, int, UnitKi
         if not outer or whole[0] >= outer[-1][1]:
             outer.append(whole)
     return outer
+
+
+def has_directives(file: SourceFile, function: Function) -> bool:
+    """Return whether a directive stands in a function's body."""
+    low, high = file.tokens.first_from(function.body), file.tokens.first_from(function.end)
+    return TokenKind.DIRECTIVE in file.tokens.kinds[low:high]
+
+
+def _groups(file: SourceFile, function: Function) -> list[Group]:
+    """Return the units of the directives in a function."""
+    if not has_directives(file, function):
+        return []
+    from .directives import groups  # with all that it needs slow to load
+
+    return groups(file, function)
 
 
 def _add_tokens(file: SourceFile, units: Units, index: int, behind: int) -> None:

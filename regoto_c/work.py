@@ -5,13 +5,14 @@ from __future__ import annotations
 import gc
 import os
 import sys
-import tempfile
-from dataclasses import dataclass, field
 from pathlib import Path
 
-from .flags import FOR_LIBCLANG
+from .clang_units import let_go
+from .flags import for_libclang
 from .messages import Fault, Message, Unreadable
-from .restructuring import Options, restructured
+from .records import dataclass, field
+from .options import Options, Outcome
+from .restructuring import restructured
 
 _BETWEEN_COLLECTIONS = 1_000_000
 _DEEPEST = 20_000
@@ -47,11 +48,11 @@ def carry_out(request: Request) -> Result:
     """Restructure a file; whatever goes wrong is in the result."""
     gc.set_threshold(_BETWEEN_COLLECTIONS)
     sys.setrecursionlimit(_DEEPEST)
+    let_go()
     result = Result(request.path)
     try:
         result.source = request.path.read_bytes().decode("latin-1")
-        extra = ["-x", "c", *FOR_LIBCLANG] if request.path.suffix == ".i" else []
-        outcome = restructured(request.path, result.source, [*extra, *request.flags], request.options)
+        outcome = _outcome(request, result.source)
     except OSError as why:
         result.status = UNREADABLE
         result.messages.append(Message(request.path, 1, 1, "error", why.strerror or str(why)))
@@ -72,6 +73,24 @@ def carry_out(request: Request) -> Result:
     return result
 
 
+def _outcome(request: Request, source: str) -> Outcome:
+    """Restructure a file; a preprocessed one is prepared, and made whole again.
+
+    Raises what `restructured` raises.
+    """
+    if request.path.suffix != ".i":
+        return restructured(request.path, source, request.flags, request.options)
+    from .line_markers import prepare  # which plain files don't need
+
+    prepared = prepare(source)
+    flags = ["-x", "c", *for_libclang(source), *request.flags]
+    outcome = restructured(request.path, prepared.text, flags, request.options)
+    outcome.text = prepared.whole(outcome.text)
+    outcome.messages = [prepared.place(source, message) for message in outcome.messages]
+    outcome.notes = [prepared.place(source, note) for note in outcome.notes]
+    return outcome
+
+
 def difference(result: Result) -> str:
     """Return the unified diff from a file to its result."""
     import difflib  # slow to load
@@ -84,6 +103,8 @@ def difference(result: Result) -> str:
 
 def replace(path: Path, text: str) -> None:
     """Put a new file in the place of one, with its rights; the old one is there until the new one is whole."""
+    import tempfile  # slow to load
+
     path = path.resolve()
     handle, name = tempfile.mkstemp(prefix=f".{path.name}.", dir=path.parent)
     try:

@@ -165,3 +165,21 @@ int sized_by_constant(int n) { { int a[LIMIT] = {n}, b[sizeof a / sizeof *a + 1]
 int in_expressions(int n) { if (n == 3) goto end; t(({ int n = 8; n + 1; })); { int k = ({ int j = n; j * 2; }); t(k); } end: return n; }
 
 int empty_braces(int n) { while (n-- > 2) { struct point p = {}; int a[3] = {}; if (n == 4) goto end; p.x++; a[1]++; t(p.x + a[1]); } end: return n; }
+
+struct pair_of { int a, b[2]; };
+#define PAIR_STARTS { n, { 1, 2 } }
+#define THREE_STARTS { 1, 2, 3 }
+
+/* initialisers whose braces stand in a macro */
+int macro_braces(int n) {
+    while (n < 20) {
+        struct pair_of v = PAIR_STARTS;
+        int w[3] = THREE_STARTS, x[] = THREE_STARTS, y = n;
+        t(v.a);
+        if (v.a > 4 && n != 6)
+            goto out;
+        n += w[2] + x[1] + y + v.b[1];
+    }
+out:
+    return n;
+}

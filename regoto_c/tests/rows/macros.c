@@ -102,3 +102,44 @@ int tabs_and_tricks(int n) { if (n > 3)goto/**/end;t(1)/*;*/;/*{*/t('{');t("}"[0
 int counted(int n) { if (n > 3) goto end; { int line = __LINE__ > 0; if (n == 2) goto end; t(line); } SAY(__LINE__); end: return n; }
 
 int asserted(int n) { if (n == 2) goto end; { int k = n; if (k == 5) goto end; t(__extension__ ({ k + 1; })); } end: return n; }
+
+#define PASTED2(a, b) a##b
+#define PASTED(a, b) PASTED2(a, b)
+#define TWICE(k) for (int PASTED(i_, __LINE__) = 0; PASTED(i_, __LINE__) < k; PASTED(i_, __LINE__)++)
+
+/* names that are made of the number of a line */
+int names_of_lines(int n) {
+again:
+    TWICE(2) { t(n); }
+    if (n > 4)
+        goto out;
+    TWICE(1) { n++; }
+    n++;
+    goto again;
+out:
+    return n;
+}
+
+#define SHOWS(x) printf(#x " %d", x)
+#define KEEPS kept
+#define ADDS(x) (kept += (x))
+
+/* a variable that gets another name, and that macros name or make a text of */
+int named_by_macros(int n) {
+    int kept = 1;
+    if (n > 5)
+        goto a;
+    {
+        int kept = n;
+        SHOWS(kept);
+        if (kept == 3)
+            goto a;
+        ADDS(KEEPS + 1);
+        t(KEEPS);
+        n += kept;
+    }
+a:
+    ADDS(n);
+    SHOWS(kept);
+    return n + KEEPS;
+}

@@ -1,0 +1,49 @@
+"""The core's program: where it is."""
+
+from __future__ import annotations
+
+import os
+from pathlib import Path
+
+_TOP = Path(__file__).resolve().parent.parent
+_BUILT = _TOP / "crates" / "regoto_cli" / "out" / "regoto_cli"
+
+
+class NoCore(Exception):
+    """There is no program to call, and what to do about it."""
+
+
+def find_core(given: Path | None, may_try: bool = False) -> Path:
+    """Return the core: the given program, else the one that is built here, else ./regoto if it may be tried.
+
+    Raises `NoCore` where there is none, or where a source is newer.
+    """
+    if given is not None:
+        if not given.is_file():
+            raise NoCore(f"no program {given}")
+        return given.resolve()
+    if not (_TOP / "crates").is_dir() and (_TOP / "regoto").is_file():
+        return _TOP / "regoto"
+    if may_try:
+        return _TOP / "regoto"
+    if not _BUILT.is_file():
+        raise NoCore("the proved program isn't built; ./regoto --build proves and builds it (--core names another)")
+    newer = _newer_source(_BUILT.stat().st_mtime)
+    if newer:
+        raise NoCore(f"{newer} is newer than the proved program; ./regoto --build builds it (--core names another)")
+    return _BUILT
+
+
+def _newer_source(built: float) -> str:
+    """Return the name of a source that was written after a time, '' where there is none."""
+    if (_TOP / "crates.txt").stat().st_mtime > built:
+        return "crates.txt"
+    folders = [str(_TOP / "crates")]
+    while folders:
+        for entry in os.scandir(folders.pop()):
+            if entry.is_dir():
+                if entry.name != "out":
+                    folders.append(entry.path)
+            elif entry.stat().st_mtime > built:
+                return os.path.relpath(entry.path, _TOP)
+    return ""
