@@ -1,6 +1,7 @@
 """The crates of this repository, what each stands on, and their stages (docs/ARCHITECTURE.md, Stages)."""
 from __future__ import annotations
 
+import itertools
 import os
 import re
 
@@ -18,6 +19,26 @@ def crates() -> dict[str, list[str]]:
     heads = [line.split("#")[0].partition(":") for line in text_of("crates.txt").split("\n")]
     listed = {name.split()[0]: below.split() for name, _, below in heads if name.strip()}
     return {name: [it for it in below if it in listed] for name, below in listed.items()}
+
+
+def stand_on(held: dict[str, list[str]]) -> dict[str, list[str]]:
+    """The other stages of which the crates of each stage name a crate, in the order of the table."""
+    stage = {crate: name for name, names in held.items() for crate in names}
+    below = crates()
+    found = {name: {stage[it] for crate in names for it in below[crate] if it in stage} for name, names in held.items()}
+    return {name: [it for it in held if it in found[name] and it != name] for name in held}
+
+
+def said_of(crate: str) -> str:
+    """The first sentence of the comment at the head of a crate's root file; empty where there is none."""
+    root = next(it for it in (f"crates/{crate}/src/lib.rt", f"crates/{crate}/src/main.rt") if os.path.exists(f"{TOP}/{it}"))
+    head = itertools.takewhile(lambda line: re.match(r"//! *\S", line), text_of(root).split("\n"))
+    return re.split(r"(?<=\.) ", " ".join(line[3:].strip() for line in head))[0]
+
+
+def table_of_crates() -> str:
+    """The table of what each crate holds, in the order of crates.txt."""
+    return "\n".join(["| crate | what it holds |", "|---|---|", *(f"| {it} | {said_of(it)} |" for it in crates())])
 
 
 def stages() -> dict[str, list[str]]:

@@ -1,3 +1,4 @@
+//! How a call of a program that is run by steps begins, and what `printf` writes.
 #![tactic(auto)]
 
 mod functions;
