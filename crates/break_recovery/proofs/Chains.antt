@@ -11,8 +11,8 @@ use Rattle.c_tree.specs.declared.tree.Program.{Program}
 use Rattle.jump_meaning.specs.Laws.{IsTopUnflat}
 use Rattle.guard_vars.specs.GuardNames.{guard_names}
 use Rattle.plain_form.specs.Plain.{plain}
-use Rattle.plain_core.specs.Plain.{plain_top, plain_function, plain_body, with_guard_variables, tidied}
-use Rattle.tidy_ends.specs.Ends.{TopIsChangedFirst, TopIsSettled, AreChangedFirst, AreChangedTimes, IsTidied}
+use Rattle.plain_laws.specs.Plain.{plain_top, plain_function, plain_body, with_guard_variables, tidied}
+use Rattle.tidy_laws.specs.Ends.{TopIsChangedFirst, TopIsSettled, AreChangedFirst, AreChangedTimes, IsTidied}
 use Rattle.break_recovery.specs.Ends.{FunctionChangedTimes, IsFunctionTidied, TopChangedTimes, TopTidied, AreTidied}
 
 -- ---- a function

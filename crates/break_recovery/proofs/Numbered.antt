@@ -4,12 +4,12 @@ use Rattle.c_tree.specs.declared.tree.Item.{Item}
 use Rattle.c_tree.specs.declared.tree.Function.{Function}
 use Rattle.c_tree.specs.Trees.{trees_of}
 use Rattle.jump_meaning.specs.Code.{FunctionTree, function_tree}
-use Rattle.tidy_changes.specs.Changes.{changes_of, changed}
-use Rattle.slot_numbers.specs.Gone.{left}
-use Rattle.loop_changes.specs.Slots.{Tells}
-use Rattle.next_changes.specs.Underway.{TreeChangedTimes, Underway}
-use Rattle.next_changes.proofs.RealTrees.{real_body}
-use Rattle.next_changes.proofs.Underway.{starts, goes_on, settles, numbered}
+use Rattle.tidy_laws.specs.Changes.{changes_of, changed}
+use Rattle.tidy_laws.specs.Gone.{left}
+use Rattle.tidy_loops.specs.Slots.{Tells}
+use Rattle.tidy_search.specs.Underway.{TreeChangedTimes, Underway}
+use Rattle.tidy_search.proofs.RealTrees.{real_body}
+use Rattle.tidy_search.proofs.Underway.{starts, goes_on, settles, numbered}
 use Rattle.break_recovery.specs.Ends.{IsBodyChanged, WentOn, AreMade, IsNumbered, FunctionChangedTimes, IsFunctionTidied}
 
 pub set_past : {A : Type 0} (xs : List A) (i : ℕ) (x : A) → length xs ≤ i → xs ≡ slice_set xs i x

@@ -6,12 +6,12 @@ use Rattle.c_tree.specs.declared.tree.Item.{Item}
 use Rattle.c_tree.specs.Trees.{Forest, Nil, Then, trees_of, join}
 use Rattle.c_tree.proofs.TreeLaws.{trees-none}
 use Rattle.jump_meaning.specs.Code.{FunctionTree}
-use Rattle.tree_views.specs.Views.{tree_at}
-use Rattle.tree_views.proofs.Views.{trees-first, trees-end}
-use Rattle.loop_changes.specs.Slots.{Tells, counts_of}
-use Rattle.next_changes.specs.Next.{put, next_list, next_at, changed_to}
-use Rattle.next_changes.specs.Places.{behind, replaced, removed, removed_at, AreQuiet, AreQuietBut, IsFoundAt, Fewer, GoesOn}
-use Rattle.next_changes.proofs.Places.{goes_on_at, found_next}
+use Rattle.c_tree.specs.Views.{tree_at}
+use Rattle.c_tree.proofs.Views.{trees-first, trees-end}
+use Rattle.tidy_loops.specs.Slots.{Tells, counts_of}
+use Rattle.tidy_search.specs.Next.{put, next_list, next_at, changed_to}
+use Rattle.tidy_search.specs.Places.{behind, replaced, removed, removed_at, AreQuiet, AreQuietBut, IsFoundAt, Fewer, GoesOn}
+use Rattle.tidy_search.proofs.Places.{goes_on_at, found_next}
 
 -- ---- items and trees
 

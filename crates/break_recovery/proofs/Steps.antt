@@ -17,14 +17,14 @@ use Rattle.c_tree.specs.Trees.{Tree, Forest, Then, Sections, Section, trees_of, 
 use Rattle.c_tree.specs.Changed.{one}
 use Rattle.c_tree.proofs.TreeLaws.{trees-none, sections-none}
 use Rattle.jump_meaning.specs.Code.{FunctionTree}
-use Rattle.tree_views.specs.Views.{layer_at, tree_at, before}
-use Rattle.tree_views.proofs.Views.{trees-first, trees-at, trees-end, trees-push, section-first, sections-at, sections-end, at-If, at-While, at-Do, at-For, at-Switch, at-Block}
+use Rattle.c_tree.specs.Views.{layer_at, tree_at, before}
+use Rattle.c_tree.proofs.Views.{trees-first, trees-at, trees-end, trees-push, section-first, sections-at, sections-end, at-If, at-While, at-Do, at-For, at-Switch, at-Block}
 use Rattle.c_tree.specs.Paths.{list_of}
 use Rattle.c_tree.specs.Paths as Paths
-use Rattle.loop_changes.specs.Slots.{counts_of, broken, continued, but_first}
-use Rattle.tail_exits.proofs.Made.{join_join}
-use Rattle.next_changes.specs.Next.{or_else, put, next_list, next_sections, next_at, next_here, next_item, next_either, with_list, behind_sections, break_first, continue_first, broken_first, continued_first, changed_to}
-use Rattle.next_changes.proofs.NextLaws.{more, in_if, in_while, in_do, in_for, in_switch, in_block, more_sections}
+use Rattle.tidy_loops.specs.Slots.{counts_of, broken, continued, but_first}
+use Rattle.tidy_tails.proofs.Made.{join_join}
+use Rattle.tidy_search.specs.Next.{or_else, put, next_list, next_sections, next_at, next_here, next_item, next_either, with_list, behind_sections, break_first, continue_first, broken_first, continued_first, changed_to}
+use Rattle.tidy_search.proofs.NextLaws.{more, in_if, in_while, in_do, in_for, in_switch, in_block, more_sections}
 
 put_all : {A : Type 0} (F : A → A) → ((x : A) → F x ≡ x) → (o : Option (ℕ × A)) → put F o ≡ o
 put_all F h None = refl

@@ -9,14 +9,14 @@ use Rattle.jump_meaning.specs.Code.{FunctionTree}
 use Rattle.c_tree.specs.Trees.{Forest, Then, trees_of, join}
 use Rattle.c_tree.specs.Changed.{one}
 use Rattle.c_tree.proofs.TreeLaws.{trees-none}
-use Rattle.tree_views.specs.Views.{tree_at}
-use Rattle.tree_views.proofs.Views.{trees-first, trees-at, trees-end, trees-push}
-use Rattle.tail_exits.proofs.Made.{join_join, join_nil}
-use Rattle.tidy_changes.specs.Changes.{undeclared, is_declaration, changes, changes_of}
-use Rattle.next_changes.specs.Next.{first, next_list}
+use Rattle.c_tree.specs.Views.{tree_at}
+use Rattle.c_tree.proofs.Views.{trees-first, trees-at, trees-end, trees-push}
+use Rattle.tidy_tails.proofs.Made.{join_join, join_nil}
+use Rattle.tidy_laws.specs.Changes.{undeclared, is_declaration, changes, changes_of}
+use Rattle.tidy_search.specs.Next.{first, next_list}
 use Rattle.break_recovery.specs.Ends.{IsBodyChanged}
 use Rattle.break_recovery.proofs.Steps.{some_none}
-use Rattle.next_changes.proofs.BodyLaws.{search_laws_hold}
+use Rattle.tidy_search.proofs.BodyLaws.{search_laws_hold}
 
 -- the first so many items are not the declaration
 pub record Passed (g i : ℕ) (old now : List Item) : Type 0 where

@@ -4,12 +4,12 @@ use Rattle.c_tree.specs.declared.tree.Function.{Function}
 use Rattle.c_tree.specs.declared.tree.Top.{Top}
 use Rattle.c_tree.specs.Trees.{Forest, trees_of}
 use Rattle.jump_meaning.specs.Code.{FunctionTree, function_tree}
-use Rattle.tidy_changes.specs.Changes.{changes_of, undeclared}
-use Rattle.slot_numbers.specs.Renamed.{renamed_list}
-use Rattle.slot_numbers.specs.Gone.{gone_before, left}
-use Rattle.loop_changes.specs.Slots.{Tells}
-use Rattle.next_changes.specs.Underway.{Underway}
-use Rattle.tidy_ends.specs.Ends.{IsChangedFirst, TopIsChangedFirst, TopIsSettled, AreChangedTimes}
+use Rattle.tidy_laws.specs.Changes.{changes_of, undeclared}
+use Rattle.tidy_laws.specs.Renamed.{renamed_list}
+use Rattle.tidy_laws.specs.Gone.{gone_before, left}
+use Rattle.tidy_loops.specs.Slots.{Tells}
+use Rattle.tidy_search.specs.Underway.{Underway}
+use Rattle.tidy_laws.specs.Ends.{IsChangedFirst, TopIsChangedFirst, TopIsSettled, AreChangedTimes}
 
 -- the body of the function after its first change, with the declaration gone and the old numbers, if it has a change
 abbrev pub IsBodyChanged : FunctionTree → Option ℕ → Option Forest → Type 0

@@ -3,8 +3,8 @@ use Rattle.std.specs.Prelude.{ℕ, ◌≡◌, List, Option, Some, option_map}
 use Rattle.c_tree.specs.declared.tree.Function.{Function}
 use Rattle.c_tree.specs.Trees.{Forest, trees_of}
 use Rattle.jump_meaning.specs.Code.{FunctionTree}
-use Rattle.loop_changes.specs.Slots.{Tells}
-use Rattle.next_changes.specs.Places.{AreQuietBut}
+use Rattle.tidy_loops.specs.Slots.{Tells}
+use Rattle.tidy_search.specs.Places.{AreQuietBut}
 use Rattle.break_recovery.specs.declared.places.Start.{Start}
 
 -- no change of this body applies before the start, but for the place in doubt

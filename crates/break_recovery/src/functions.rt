@@ -1,19 +1,19 @@
 ghost use Rattle.std.specs.Prelude.{◌≡◌, ◌+◌, ℕ, suc, false, true, length, replicate, slice_set, option_map, Some, None, IfOk, OnOk};
 ghost use Rattle.c_tree.specs.Trees.{trees_of};
 ghost use Rattle.jump_meaning.specs.Code.{FunctionTree, function_tree};
-ghost use Rattle.loop_changes.specs.Slots.{Tells, counts_of};
-ghost use Rattle.next_changes.specs.Places.{removed_at, AreQuietBut, Fewer};
-ghost use Rattle.slot_numbers.specs.Renamed.{renamed_list};
-ghost use Rattle.slot_removal.specs.Numbers.{number};
-ghost use Rattle.tidy_changes.specs.Changes.{undeclared};
+ghost use Rattle.tidy_loops.specs.Slots.{Tells, counts_of};
+ghost use Rattle.tidy_search.specs.Places.{removed_at, AreQuietBut, Fewer};
+ghost use Rattle.tidy_laws.specs.Renamed.{renamed_list};
+ghost use Rattle.tidy_renumber.specs.Numbers.{number};
+ghost use Rattle.tidy_laws.specs.Changes.{undeclared};
 ghost use Rattle.break_recovery.specs.Starts.{StartsAt, IsStart};
 ghost use Rattle.break_recovery.specs.Ends.{IsBodyChanged, WentOn, AreMade, IsNumbered, IsFunctionTidied, TopTidied, AreTidied};
 
 use crate::places::{Start, behind_change, change_from};
 use c_tree::{Function, Item, Top};
 use c_types::{List, Memory};
-use loop_changes::{guard_counts, is_declaration};
-use slot_removal::{Numbers, new_numbers, remove_gone, renumber_list};
+use tidy_loops::{guard_counts, is_declaration};
+use tidy_renumber::{Numbers, new_numbers, remove_gone, renumber_list};
 use std::alloc::Global;
 
 /// Takes the first `int g = 0;` out, and answers where it stood.

@@ -1,12 +1,12 @@
 ghost use Rattle.std.specs.Prelude.{◌≡◌, ◌<◌, ◌+◌, length, take, drop, get_or, None, IfOk, OnOk};
 ghost use Rattle.c_tree.specs.Trees.{Then, trees_of, join};
 ghost use Rattle.jump_meaning.specs.Code.{FunctionTree};
-ghost use Rattle.loop_changes.specs.Slots.{Tells, count_in, break_slot as the_break_slot, continue_slot as the_continue_slot};
-ghost use Rattle.next_changes.specs.Next.{put, next_here, broken_first, continued_first, break_first, continue_first, changed_to};
+ghost use Rattle.tidy_loops.specs.Slots.{Tells, count_in, break_slot as the_break_slot, continue_slot as the_continue_slot};
+ghost use Rattle.tidy_search.specs.Next.{put, next_here, broken_first, continued_first, break_first, continue_first, changed_to};
 
 use c_tree::Item;
 use c_types::{List, Memory};
-use loop_changes::{break_slot, broken, continue_slot, continued};
+use tidy_loops::{break_slot, broken, continue_slot, continued};
 use std::alloc::Global;
 
 fn break_at(

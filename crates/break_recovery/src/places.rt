@@ -3,9 +3,9 @@
 ghost use Rattle.std.specs.Prelude.{◌≡◌, ◌<◌, Some, None, IfOk};
 ghost use Rattle.c_tree.specs.Trees.{trees_of};
 ghost use Rattle.jump_meaning.specs.Code.{FunctionTree};
-ghost use Rattle.loop_changes.specs.Slots.{Tells};
-ghost use Rattle.next_changes.specs.Next.{put, next_at, changed_to};
-ghost use Rattle.next_changes.specs.Places.{behind, replaced, AreQuiet, AreQuietBut, IsFoundAt, GoesOn};
+ghost use Rattle.tidy_loops.specs.Slots.{Tells};
+ghost use Rattle.tidy_search.specs.Next.{put, next_at, changed_to};
+ghost use Rattle.tidy_search.specs.Places.{behind, replaced, AreQuiet, AreQuietBut, IsFoundAt, GoesOn};
 
 use crate::search::change_at;
 use c_tree::Item;

@@ -2,9 +2,9 @@ ghost use Rattle.std.specs.Prelude.{◌≡◌, ◌+◌, true, All, IfOk};
 ghost use Rattle.c_tree.specs.Jumps.{is_jump_free_program};
 ghost use Rattle.jump_meaning.specs.Code.{code_of};
 ghost use Rattle.jump_meaning.specs.Laws.{IsTopUnflat};
-ghost use Rattle.resolved_core.specs.Counts.{IsResolved};
-ghost use Rattle.tidy_core.specs.Laws.{BehaveAlike};
-ghost use Rattle.tidy_ends.specs.Ends.{IsTidied, variables};
+ghost use Rattle.c_resolved_laws.specs.Counts.{IsResolved};
+ghost use Rattle.tidy_laws.specs.TidyBehaviourLaws.{BehaveAlike};
+ghost use Rattle.tidy_laws.specs.Ends.{IsTidied, variables};
 
 use crate::functions::change_tops;
 use c_tree::Program;

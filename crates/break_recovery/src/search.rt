@@ -2,16 +2,16 @@ ghost use Rattle.std.specs.Prelude.{◌≡◌, ◌<◌, length, take, drop, None
 ghost use Rattle.c_tree.specs.Paths.{list_of, with_list};
 ghost use Rattle.c_tree.specs.Trees.{trees_of, sections_of, join};
 ghost use Rattle.jump_meaning.specs.Code.{FunctionTree};
-ghost use Rattle.tree_views.specs.Views.{tree_at};
-ghost use Rattle.loop_changes.specs.Slots.{Tells};
-ghost use Rattle.next_changes.specs.Next.{put, next_list, next_at, next_item, next_either, next_sections, changed_to};
+ghost use Rattle.c_tree.specs.Views.{tree_at};
+ghost use Rattle.tidy_loops.specs.Slots.{Tells};
+ghost use Rattle.tidy_search.specs.Next.{put, next_list, next_at, next_item, next_either, next_sections, changed_to};
 
 use crate::here::change_here;
 use c_tree::{Item, Section};
 use c_types::{List, Memory};
 use std::alloc::Global;
 use std::mem;
-use tail_exits::deeper;
+use tidy_tails::deeper;
 
 /// Makes the next change of a list at this level, if one applies, and answers its slot. Else the list
 /// stays. The counts are those of the function.

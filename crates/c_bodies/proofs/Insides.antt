@@ -1,11 +1,11 @@
 -- The lists in a statement have fewer nodes than it.
 use Rattle.std.proofs.Common.{◌<◌, ◌+◌, ◌-◌, ℕ, arith}
 use Rattle.c_grammar.specs.declared.syntax.Syntax.{Syntax}
-use Rattle.c_source.specs.ItemViews.{StatementIsSmaller}
-use Rattle.c_source.specs.Views.{weight, weights}
-use Rattle.c_source.specs.declared.statements.StatementLayer.{StatementLayer}
-use Rattle.c_source.specs.declared.statements.StatementLayer.TheVariants as S
-use Rattle.c_source.proofs.Layers.{open_weight}
+use Rattle.c_layers.specs.ItemViews.{StatementIsSmaller}
+use Rattle.c_layers.specs.Views.{weight, weights}
+use Rattle.c_layers.specs.declared.statements.StatementLayer.{StatementLayer}
+use Rattle.c_layers.specs.declared.statements.StatementLayer.TheVariants as S
+use Rattle.c_layers.proofs.Layers.{open_weight}
 
 -- the nodes of what is walked in it
 abbrev pub inside : StatementLayer → ℕ

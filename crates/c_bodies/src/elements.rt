@@ -3,15 +3,15 @@
 ghost use Rattle.std.specs.Prelude.{◌≡◌, []};
 ghost use Rattle.c_bodies.specs.Steps as steps;
 ghost use Rattle.c_grammar.specs.declared.syntax.Syntax.{out-Syntax};
-ghost use Rattle.c_source.specs.ItemViews.{item_of, plain_of};
-ghost use Rattle.c_source.specs.Items as items;
-ghost use Rattle.c_source.specs.Parts.{is_token as the_token};
-ghost use Rattle.c_source.specs.Views.{words_of};
+ghost use Rattle.c_layers.specs.ItemViews.{item_of, plain_of};
+ghost use Rattle.c_layers.specs.Items as items;
+ghost use Rattle.c_layers.specs.Parts.{is_token as the_token};
+ghost use Rattle.c_layers.specs.Views.{words_of};
 ghost use Rattle.c_statements.specs.Violations.{is_null as the_null};
 
 use crate::labels::{first_label, has_case};
 use c_grammar::{Production, Syntax};
-use c_source::{ItemLayer, StatementLayer, Words, item_layer, statement_layer};
+use c_layers::{ItemLayer, StatementLayer, Words, item_layer, statement_layer};
 
 fn begins(words: &Words, x: &Syntax) -> bool
     ensures { result ≡ steps.begins (item_of (words_of words.now) x.now) }

@@ -2,9 +2,9 @@
 
 ghost use Rattle.std.specs.Prelude.{◌≡◌, ◌++◌, [], IfOk, OnOk};
 ghost use Rattle.c_bodies.specs.Views as views;
-ghost use Rattle.c_source.specs.Items as items;
-ghost use Rattle.c_source.specs.ItemViews.{body_form, item_of};
-ghost use Rattle.c_source.specs.Views.{words_of};
+ghost use Rattle.c_layers.specs.Items as items;
+ghost use Rattle.c_layers.specs.ItemViews.{body_form, item_of};
+ghost use Rattle.c_layers.specs.Views.{words_of};
 ghost use Rattle.c_statements.specs.Functions as spec;
 ghost use Rattle.c_statements.specs.Nodes.{items_of};
 
@@ -12,7 +12,7 @@ use crate::notes::add_notes;
 use crate::state::{Around, FunctionContext, State, put_cases, set_words, take_cases};
 use crate::walk::{add_item, add_list};
 use c_grammar::Syntax;
-use c_source::BodyLayer;
+use c_layers::BodyLayer;
 use c_statements::Anchor;
 use c_tree::Item;
 use c_types::{List, Memory};

@@ -5,7 +5,7 @@ ghost use Rattle.c_grammar.specs.declared.syntax.Syntax.{out-Syntax};
 ghost use Rattle.c_kinds.specs.Constants as constants;
 ghost use Rattle.c_kinds.specs.Typing as spec;
 ghost use Rattle.c_kinds.specs.declared.typed.Typed.TheVariants.{Text};
-ghost use Rattle.c_source.specs.Views.{words_of};
+ghost use Rattle.c_layers.specs.Views.{words_of};
 ghost use Rattle.c_tree.specs.ExpressionTrees.{expression_tree};
 
 use crate::faults::{report, report_use};
@@ -14,7 +14,7 @@ use crate::values::{character_constant, expression, number};
 use c_constants::constant_value;
 use c_grammar::Syntax;
 use c_lexer::integer_constant;
-use c_source::{Words, add_decoded, character, is_character};
+use c_layers::{Words, add_decoded, character, is_character};
 use c_tree::{Expression, Node};
 use c_types::{Bytes, List, Memory, Stack};
 use std::alloc::Global;

@@ -9,10 +9,10 @@ ghost use Rattle.c_kinds.specs.Scopes.{meaning as the_meaning};
 ghost use Rattle.c_kinds.specs.Typing as spec;
 ghost use Rattle.c_kinds.specs.Values as values;
 ghost use Rattle.c_kinds.specs.Views.{env_of, given_of, term, terms};
-ghost use Rattle.c_source.specs.Parts.{is_token as the_token};
-ghost use Rattle.c_source.specs.Terms.{Variable as the_variable, Prefix as the_prefix, Binary as the_binary, Choice as the_choice, Assign as the_assign, Commas as the_commas};
+ghost use Rattle.c_layers.specs.Parts.{is_token as the_token};
+ghost use Rattle.c_layers.specs.Terms.{Variable as the_variable, Prefix as the_prefix, Binary as the_binary, Choice as the_choice, Assign as the_assign, Commas as the_commas};
 ghost use Rattle.c_lexer.specs.Marks.{mark_of as the_mark_of};
-ghost use Rattle.c_source.specs.Views.{words_of};
+ghost use Rattle.c_layers.specs.Views.{words_of};
 
 use crate::calls::call;
 use crate::constants::{constant, constant_of, texts};
@@ -26,7 +26,7 @@ use crate::values::{
 };
 use c_grammar::{Production, Syntax};
 use c_lexer::{Mark, mark_of};
-use c_source::{Layer, first_token, kind_of, layer_of};
+use c_layers::{Layer, first_token, kind_of, layer_of};
 use c_tree::Expression;
 use c_types::{List, Memory, Stack};
 use std::alloc::Global;

@@ -9,19 +9,19 @@ use Rattle.c_grammar.specs.Nodes.{node, leaf}
 use Rattle.c_grammar.specs.Expressions.{Base, CharBase, IntBase, LongBase, LongIntBase, NumberType, OfBase, Signed, SignedOf, Unsigned, UnsignedOf, Expression, Conditional, Number, Character, OneText, base_tokens, type_tokens, expression_tokens, FitsExpression}
 use Rattle.c_grammar.specs.Statements.{Size, NoSize, Unsized, Sized, OneValue, ValueList, Declared, Locals, NameLabel, CaseLabel, DefaultLabel, StartLocal, StartValue, Braces, NoItems, LocalItem, StatementItem, Statement, Labelled, Unlabelled, Plain, Compound, Simple, If, IfElse, While, DoWhile, For, Switch, Goto, Break, Continue, Return, word_tokens, rest_tokens, size_tokens, statement_tokens, plain_tokens, is_statement_open, is_plain_open, FitsMore, FitsSize, FitsStatement, FitsPlain}
 use Rattle.c_grammar.specs.Files.{Typed, NoParameters, VoidParameters, SomeParameters, Declares, Defined, FitsConstant}
-use Rattle.parse_stack.specs.declared.form.Form.{Form}
-use Rattle.parse_stack.specs.declared.form.Want.{Want}
-use Rattle.parse_stack.specs.declared.form.Want.TheVariants as w
-use Rattle.parse_stack.specs.declared.form.Lead.{Lead}
-use Rattle.parse_stack.specs.declared.form.Lead.TheVariants as o
-use Rattle.parse_stack.specs.declared.form.Member.{Member}
-use Rattle.parse_stack.specs.declared.form.Member.TheVariants as m
-use Rattle.parse_stack.specs.declared.frame.Full.{Full}
-use Rattle.parse_stack.specs.declared.frame.Full.TheVariants as f
-use Rattle.parse_stack.specs.declared.frame.Frame.TheVariants as s
-use Rattle.parse_stack.specs.Tests.{is_text, starts_local, same}
-use Rattle.parse_stack.specs.Starts.{Frames, Next, Fails, Takes, opening, rest, declarators, parameter_rest, at_unary, at_target, at_argument, at_full, at_type, at_local, at_declarator, at_enumerator, at_initialiser, at_parameter, at_parameters, at_block, at_plain, at_labelled, at_statement, at_body, at_external}
-use Rattle.parse_stack.specs.Machine.{leader, follow, skips, skipped, begin, feed}
+use Rattle.c_parse_step.specs.declared.form.Form.{Form}
+use Rattle.c_parse_step.specs.declared.form.Want.{Want}
+use Rattle.c_parse_step.specs.declared.form.Want.TheVariants as w
+use Rattle.c_parse_step.specs.declared.form.Lead.{Lead}
+use Rattle.c_parse_step.specs.declared.form.Lead.TheVariants as o
+use Rattle.c_parse_step.specs.declared.form.Member.{Member}
+use Rattle.c_parse_step.specs.declared.form.Member.TheVariants as m
+use Rattle.c_parse_step.specs.declared.frame.Full.{Full}
+use Rattle.c_parse_step.specs.declared.frame.Full.TheVariants as f
+use Rattle.c_parse_step.specs.declared.frame.Frame.TheVariants as s
+use Rattle.c_parse_step.specs.Tests.{is_text, starts_local, same}
+use Rattle.c_parse_step.specs.Starts.{Frames, Next, Fails, Takes, opening, rest, declarators, parameter_rest, at_unary, at_target, at_argument, at_full, at_type, at_local, at_declarator, at_enumerator, at_initialiser, at_parameter, at_parameters, at_block, at_plain, at_labelled, at_statement, at_body, at_external}
+use Rattle.c_parse_step.specs.Machine.{leader, follow, skips, skipped, begin, feed}
 use Rattle.c_parser.proofs.Tokens.{text_is, same_is}
 use Rattle.c_parser.proofs.Wants.{NodeOf, node_tokens, FitsNode, is_node_open, Node, Of, MemberValue, member_tokens, next_tokens, FitsMember, FitsNext, FitsElse, is_else_open, close_tokens, base_of_sign, else_tokens, least_lead, is_lead_open}
 use Rattle.c_parser.proofs.Fronts.{Front, Awaits, UnaryNext, TargetNext, ArgumentNext, ValueNext, Ready, Goes}

@@ -11,16 +11,16 @@ use Rattle.c_grammar.specs.Events.{Event, Uncounted, Opened}
 use Rattle.c_grammar.specs.Expressions.{CharBase, IntBase, LongBase, LongIntBase, NumberType, OfBase, Signed, SignedOf, Unsigned, UnsignedOf, Expression, One, More, Assignment, To, Value, Conditional, Choose, Only, Binary, Single, Both, Unary, Prefixed, StepTo, CastTo, CastVoid, Place, StepAfter, CallNone, CallWith, Number, Character, Within, Target, Variable, Cell, Round, type_tokens, expression_tokens, assignment_tokens, conditional_tokens, binary_tokens, unary_tokens, target_tokens, FitsExpression, FitsAssignment, FitsConditional, FitsBinary, FitsUnary}
 use Rattle.c_grammar.specs.ExpressionSyntax.{type_end, expression_end, assignment_end, conditional_end, type_node, expression_node, assignment_node, conditional_node}
 use Rattle.c_grammar.specs.Counts.{type_events, expression_events, assignment_events, conditional_events}
-use Rattle.parse_stack.specs.declared.form.Want.{Want}
-use Rattle.parse_stack.specs.declared.form.Want.TheVariants as w
-use Rattle.parse_stack.specs.declared.form.Lead.TheVariants as o
-use Rattle.parse_stack.specs.declared.frame.Found.TheVariants.{Whole}
-use Rattle.parse_stack.specs.declared.frame.Full.{Full}
-use Rattle.parse_stack.specs.declared.frame.Full.TheVariants as full
-use Rattle.parse_stack.specs.declared.frame.Frame.TheVariants as s
-use Rattle.parse_stack.specs.Tests.{is_comma, is_base, same}
-use Rattle.parse_stack.specs.Starts.{Frames, Next, Fails, Takes, opening, rest, behind_full, at_type, at_full}
-use Rattle.parse_stack.specs.Machine.{step}
+use Rattle.c_parse_step.specs.declared.form.Want.{Want}
+use Rattle.c_parse_step.specs.declared.form.Want.TheVariants as w
+use Rattle.c_parse_step.specs.declared.form.Lead.TheVariants as o
+use Rattle.c_parse_step.specs.declared.frame.Found.TheVariants.{Whole}
+use Rattle.c_parse_step.specs.declared.frame.Full.{Full}
+use Rattle.c_parse_step.specs.declared.frame.Full.TheVariants as full
+use Rattle.c_parse_step.specs.declared.frame.Frame.TheVariants as s
+use Rattle.c_parse_step.specs.Tests.{is_comma, is_base, same}
+use Rattle.c_parse_step.specs.Starts.{Frames, Next, Fails, Takes, opening, rest, behind_full, at_type, at_full}
+use Rattle.c_parse_step.specs.Machine.{step}
 use Rattle.c_parser.proofs.Tokens.{is_closer}
 use Rattle.c_parser.proofs.Traces.{Trace, Stuck, log_on, logged}
 use Rattle.c_parser.proofs.CompleteExpressions.{starts, Headed, whole_expression, whole_assignment, whole_conditional}

@@ -6,10 +6,10 @@ use Rattle.c_grammar.specs.declared.syntax.Production.TheVariants as p
 use Rattle.c_grammar.specs.Expressions.{IntBase, NumberType, OfBase, Expression, One, Assignment, To, Value, Conditional, Choose, Only, Binary, Single, Both, Unary, Prefixed, StepTo, CastTo, CastVoid, Place, CallNone, CallWith, Number, Within, Target, Variable, Cell, Round, Last, Argument, Given, Written, OneText, type_tokens, expression_tokens, assignment_tokens, conditional_tokens, binary_tokens, unary_tokens, target_tokens, argument_tokens, is_lone, FitsExpression, FitsAssignment, FitsConditional, FitsBinary, FitsUnary, FitsTarget, FitsArgument}
 use Rattle.c_grammar.specs.Statements.{NoSize, Declared, Locals, NameLabel, Labelled, Unlabelled, Simple}
 use Rattle.c_grammar.specs.Files.{Declares, Top, OfEnum, OfDeclaration, OfFunction, enumeration_tokens, declaration_tokens, function_tokens, file_tokens, FitsFile}
-use Rattle.parse_stack.specs.declared.frame.Full.TheVariants as full
-use Rattle.parse_stack.specs.declared.frame.Found.TheVariants.{Lone, Whole}
-use Rattle.parse_stack.specs.declared.frame.Frame.TheVariants as s
-use Rattle.parse_stack.specs.Starts.{Frames}
+use Rattle.c_parse_step.specs.declared.frame.Full.TheVariants as full
+use Rattle.c_parse_step.specs.declared.frame.Found.TheVariants.{Lone, Whole}
+use Rattle.c_parse_step.specs.declared.frame.Frame.TheVariants as s
+use Rattle.c_parse_step.specs.Starts.{Frames}
 use Rattle.c_parser.proofs.Wants.{Got, Node, Of, GotValue, got_tokens, FitsGot, is_got_open, wants_tokens, leasts, leasts_fit}
 use Rattle.c_parser.proofs.Fronts.{Front, cast_tokens, IsFile, UnaryNext, TargetNext, BinaryNext, ConditionalNext, AssignmentNext, ExpressionNext, ArgumentNext, ValueNext, Ready}
 use Rattle.c_parser.proofs.Keeps.{Loose, loose_both, loose_single, both_fits, lone_expression, one_more}

@@ -13,17 +13,17 @@ use Rattle.c_grammar.specs.ExpressionSyntax.{type_end, expression_end, assignmen
 use Rattle.c_grammar.specs.Statements.{Size, NoSize, Unsized, Sized, Initialiser, OneValue, ValueList, Declarator, Declared, Local, Locals, more_tokens, rest_tokens, optional_tokens, size_tokens, initialiser_tokens, value_tokens, declarator_tokens, local_tokens, FitsMore, FitsOptional, FitsSize, FitsInitialiser, FitsValue, FitsDeclarator, FitsLocal}
 use Rattle.c_grammar.specs.StatementSyntax.{more_end, rest_end, optional_end, size_end, initialiser_end, value_end, declarator_end, local_end, more_parts, rest_parts, optional_parts, size_parts, value_parts, initialiser_node, declarator_node, local_node}
 use Rattle.c_grammar.specs.Counts.{type_events, expression_events, assignment_events, conditional_events, optional_events, more_events, rest_events, size_events, initialiser_events, value_events, declarator_events, local_events}
-use Rattle.parse_stack.specs.declared.form.Want.{Want}
-use Rattle.parse_stack.specs.declared.form.Want.TheVariants as w
-use Rattle.parse_stack.specs.declared.form.Lead.{Lead}
-use Rattle.parse_stack.specs.declared.form.Lead.TheVariants as o
-use Rattle.parse_stack.specs.declared.form.Member.TheVariants as m
-use Rattle.parse_stack.specs.declared.frame.Found.TheVariants.{Whole}
-use Rattle.parse_stack.specs.declared.frame.Full.TheVariants as full
-use Rattle.parse_stack.specs.declared.frame.Frame.TheVariants as s
-use Rattle.parse_stack.specs.Tests.{is_comma, is_base, starts_local, same}
-use Rattle.parse_stack.specs.Starts.{Frames, rest, behind_full, declarators, at_type, at_full, at_local, at_initialiser}
-use Rattle.parse_stack.specs.Machine.{leader}
+use Rattle.c_parse_step.specs.declared.form.Want.{Want}
+use Rattle.c_parse_step.specs.declared.form.Want.TheVariants as w
+use Rattle.c_parse_step.specs.declared.form.Lead.{Lead}
+use Rattle.c_parse_step.specs.declared.form.Lead.TheVariants as o
+use Rattle.c_parse_step.specs.declared.form.Member.TheVariants as m
+use Rattle.c_parse_step.specs.declared.frame.Found.TheVariants.{Whole}
+use Rattle.c_parse_step.specs.declared.frame.Full.TheVariants as full
+use Rattle.c_parse_step.specs.declared.frame.Frame.TheVariants as s
+use Rattle.c_parse_step.specs.Tests.{is_comma, is_base, starts_local, same}
+use Rattle.c_parse_step.specs.Starts.{Frames, rest, behind_full, declarators, at_type, at_full, at_local, at_initialiser}
+use Rattle.c_parse_step.specs.Machine.{leader}
 use Rattle.c_parser.proofs.Tokens.{is_closer}
 use Rattle.c_parser.proofs.Traces.{logged}
 use Rattle.c_parser.proofs.CompleteExpressions.{starts, Headed, head_of_expression, head_of_assignment, head_of_conditional}

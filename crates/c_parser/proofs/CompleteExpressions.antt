@@ -11,13 +11,13 @@ use Rattle.c_grammar.specs.Events.{Event, Uncounted, Counted}
 use Rattle.c_grammar.specs.Expressions.{CharBase, IntBase, LongBase, LongIntBase, NumberType, OfBase, Signed, SignedOf, Unsigned, UnsignedOf, Expression, One, More, Assignment, To, Value, Conditional, Choose, Only, Binary, Single, Both, Unary, Prefixed, StepTo, CastTo, CastVoid, Place, StepAfter, CallNone, CallWith, Number, Character, Within, Target, Variable, Cell, Round, Arguments, Last, Then, Argument, Given, Written, Texts, OneText, MoreTexts, type_tokens, expression_tokens, assignment_tokens, conditional_tokens, binary_tokens, unary_tokens, target_tokens, arguments_tokens, argument_tokens, texts_tokens, root, FitsExpression, FitsAssignment, FitsConditional, FitsBinary, FitsUnary, FitsTarget, FitsArguments, FitsArgument}
 use Rattle.c_grammar.specs.ExpressionSyntax.{type_end, expression_end, assignment_end, conditional_end, binary_end, unary_end, target_end, arguments_end, argument_end, texts_end, arguments_parts, texts_parts, type_node, expression_node, assignment_node, conditional_node, binary_node, target_node, argument_node}
 use Rattle.c_grammar.specs.Counts.{type_events, expression_events, assignment_events, conditional_events, binary_events, unary_events, target_events, arguments_events, argument_events, texts_events}
-use Rattle.parse_stack.specs.declared.frame.Found.{Found}
-use Rattle.parse_stack.specs.declared.frame.Found.TheVariants.{Lone, Whole}
-use Rattle.parse_stack.specs.declared.frame.Full.TheVariants as full
-use Rattle.parse_stack.specs.declared.frame.Frame.TheVariants as s
-use Rattle.parse_stack.specs.Nodes.{lift, postfix, commas, solid_binary}
-use Rattle.parse_stack.specs.Tests.{is_comma, is_text}
-use Rattle.parse_stack.specs.Starts.{Frames, conditional, assignment, expression, behind_full}
+use Rattle.c_parse_step.specs.declared.frame.Found.{Found}
+use Rattle.c_parse_step.specs.declared.frame.Found.TheVariants.{Lone, Whole}
+use Rattle.c_parse_step.specs.declared.frame.Full.TheVariants as full
+use Rattle.c_parse_step.specs.declared.frame.Frame.TheVariants as s
+use Rattle.c_parse_step.specs.Nodes.{lift, postfix, commas, solid_binary}
+use Rattle.c_parse_step.specs.Tests.{is_comma, is_text}
+use Rattle.c_parse_step.specs.Starts.{Frames, conditional, assignment, expression, behind_full}
 use Rattle.c_parser.proofs.Tokens.{is_closer, closer_level, closer_quiet, closer_question, closer_assign, closer_text, is_quiet, is_bare, bare_open, bare_index, quiet_bare, quiet_step, assign_bare, mark_quiet}
 use Rattle.c_parser.proofs.Traces.{logged}
 use Rattle.c_parser.proofs.Founds.{found_unary, found_binary, found_conditional, found_assignment, found_expression, unary_solid, binary_solid, conditional_solid, assignment_solid, expression_solid, expression_whole}

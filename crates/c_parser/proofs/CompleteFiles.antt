@@ -15,16 +15,16 @@ use Rattle.c_grammar.specs.StatementSyntax.{word_end, more_end, rest_end, size_e
 use Rattle.c_grammar.specs.Files.{Parameter, Typed, Parameters, NoParameters, VoidParameters, SomeParameters, Enumeration, Enumerated, Declaration, Declares, Function, Defined, Top, Line, OfEnum, OfDeclaration, OfFunction, parameter_tokens, parameters_tokens, enumerator_tokens, enumeration_tokens, declaration_tokens, result_tokens, body_tokens, function_tokens, top_tokens, file_tokens, FitsParameter, FitsParameters, FitsConstant, FitsEnumeration, FitsDeclaration, FitsBody, FitsFunction, FitsTop, FitsFile}
 use Rattle.c_grammar.specs.FileSyntax.{parameter_end, parameters_end, enumerator_end, enumeration_end, declaration_end, result_end, body_end, function_end, top_end, file_end, parameter_node, parameters_node, enumerator_node, enumeration_node, declaration_node, result_node, body_node, function_node, top_node, file_parts, file_node}
 use Rattle.c_grammar.specs.Counts.{type_events, conditional_events, word_events, more_events, rest_events, size_events, declarator_events, local_events, block_events, parameter_events, parameters_events, enumerator_events, enumeration_events, declaration_events, result_events, body_events, function_events, top_events, file_events}
-use Rattle.parse_stack.specs.declared.form.Want.{Want}
-use Rattle.parse_stack.specs.declared.form.Want.TheVariants as w
-use Rattle.parse_stack.specs.declared.form.Lead.TheVariants as o
-use Rattle.parse_stack.specs.declared.form.Member.TheVariants as m
-use Rattle.parse_stack.specs.declared.frame.Found.TheVariants.{Whole}
-use Rattle.parse_stack.specs.declared.frame.Full.TheVariants as full
-use Rattle.parse_stack.specs.declared.frame.Frame.TheVariants as s
-use Rattle.parse_stack.specs.Tests.{is_base, starts_local, same}
-use Rattle.parse_stack.specs.Starts.{Frames, rest, at_type, at_enumerator, at_parameter, at_parameters, at_external, parameter_rest}
-use Rattle.parse_stack.specs.Machine.{declared, start}
+use Rattle.c_parse_step.specs.declared.form.Want.{Want}
+use Rattle.c_parse_step.specs.declared.form.Want.TheVariants as w
+use Rattle.c_parse_step.specs.declared.form.Lead.TheVariants as o
+use Rattle.c_parse_step.specs.declared.form.Member.TheVariants as m
+use Rattle.c_parse_step.specs.declared.frame.Found.TheVariants.{Whole}
+use Rattle.c_parse_step.specs.declared.frame.Full.TheVariants as full
+use Rattle.c_parse_step.specs.declared.frame.Frame.TheVariants as s
+use Rattle.c_parse_step.specs.Tests.{is_base, starts_local, same}
+use Rattle.c_parse_step.specs.Starts.{Frames, rest, at_type, at_enumerator, at_parameter, at_parameters, at_external, parameter_rest}
+use Rattle.c_parse_step.specs.Machine.{declared, start}
 use Rattle.c_parser.proofs.Tokens.{is_closer}
 use Rattle.c_parser.proofs.Traces.{Through, logged}
 use Rattle.c_parser.proofs.CompleteExpressions.{head_of_conditional}

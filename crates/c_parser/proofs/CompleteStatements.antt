@@ -12,16 +12,16 @@ use Rattle.c_grammar.specs.ExpressionSyntax.{expression_end, conditional_end, ex
 use Rattle.c_grammar.specs.Statements.{Label, NameLabel, CaseLabel, DefaultLabel, ForStart, StartLocal, StartValue, Block, Braces, Items, NoItems, LocalItem, StatementItem, Statement, Labelled, Unlabelled, Plain, Compound, Simple, If, IfElse, While, DoWhile, For, Switch, Goto, Break, Continue, Return, optional_tokens, local_tokens, label_tokens, for_start_tokens, block_tokens, items_tokens, statement_tokens, plain_tokens, is_block, is_statement_open, is_plain_open, FitsOptional, FitsLabel, FitsForStart, FitsBlock, FitsItems, FitsStatement, FitsPlain}
 use Rattle.c_grammar.specs.StatementSyntax.{optional_end, local_end, label_end, for_start_end, block_end, items_end, statement_end, plain_end, optional_parts, for_start_parts, items_parts, statement_parts, local_node, label_node, block_node, statement_node, plain_node}
 use Rattle.c_grammar.specs.Counts.{expression_events, conditional_events, optional_events, local_events, label_events, for_start_events, block_events, items_events, statement_events, plain_events, level_within, opened_by}
-use Rattle.parse_stack.specs.declared.form.Form.{Form}
-use Rattle.parse_stack.specs.declared.form.Want.{Want}
-use Rattle.parse_stack.specs.declared.form.Want.TheVariants as w
-use Rattle.parse_stack.specs.declared.form.Lead.TheVariants as o
-use Rattle.parse_stack.specs.declared.frame.Found.TheVariants.{Whole}
-use Rattle.parse_stack.specs.declared.frame.Full.TheVariants as full
-use Rattle.parse_stack.specs.declared.frame.Frame.TheVariants as s
-use Rattle.parse_stack.specs.Tests.{starts_local, same}
-use Rattle.parse_stack.specs.Starts.{Frames, opening, rest, at_full, at_local, at_block, at_plain, at_labelled, at_statement, at_body}
-use Rattle.parse_stack.specs.Machine.{step}
+use Rattle.c_parse_step.specs.declared.form.Form.{Form}
+use Rattle.c_parse_step.specs.declared.form.Want.{Want}
+use Rattle.c_parse_step.specs.declared.form.Want.TheVariants as w
+use Rattle.c_parse_step.specs.declared.form.Lead.TheVariants as o
+use Rattle.c_parse_step.specs.declared.frame.Found.TheVariants.{Whole}
+use Rattle.c_parse_step.specs.declared.frame.Full.TheVariants as full
+use Rattle.c_parse_step.specs.declared.frame.Frame.TheVariants as s
+use Rattle.c_parse_step.specs.Tests.{starts_local, same}
+use Rattle.c_parse_step.specs.Starts.{Frames, opening, rest, at_full, at_local, at_block, at_plain, at_labelled, at_statement, at_body}
+use Rattle.c_parse_step.specs.Machine.{step}
 use Rattle.c_parser.proofs.Traces.{logged}
 use Rattle.c_parser.proofs.CompleteExpressions.{starts, head_of_expression, head_of_conditional}
 use Rattle.c_parser.proofs.Begun.{any, some_first, other_first, HeadIs, HeadIsNot, via, via_step, switch, IsPlain, via_opening, headed_is, full_expression, full_conditional, full_run, via_full, NoLabel, no_label}

@@ -8,8 +8,8 @@ use Rattle.c_grammar.specs.Events.{Event, Outside}
 use Rattle.c_grammar.specs.FileSyntax.{file_node}
 use Rattle.c_grammar.specs.Counts.{file_events}
 use Rattle.c_grammar.specs.Derives.{first_too_many, Derives, Viable, NotBefore, IsUnexpected, IsTooMany}
-use Rattle.parse_stack.specs.declared.frame.Frame.TheVariants as s
-use Rattle.parse_stack.specs.Machine.{start, Ran, Left, Unexpected, TooMany, run}
+use Rattle.c_parse_step.specs.declared.frame.Frame.TheVariants as s
+use Rattle.c_parse_step.specs.Machine.{start, Ran, Left, Unexpected, TooMany, run}
 use Rattle.c_parser.proofs.Traces.{Through, logged}
 use Rattle.c_parser.proofs.CompleteFiles.{complete_file}
 use Rattle.c_parser.proofs.Exact.{sound, first_fault, first_too_many_is, left_accepted}

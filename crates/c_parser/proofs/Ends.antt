@@ -5,17 +5,17 @@ use Rattle.c_grammar.specs.declared.class.Class.{Class}
 use Rattle.c_grammar.specs.declared.class.Class.TheVariants as c
 use Rattle.c_grammar.specs.declared.syntax.Syntax.{Syntax}
 use Rattle.c_grammar.specs.declared.syntax.Production.{Production}
-use Rattle.parse_stack.specs.declared.form.Want.{Want}
-use Rattle.parse_stack.specs.declared.form.Want.TheVariants as w
-use Rattle.parse_stack.specs.declared.form.Lead.{Lead}
-use Rattle.parse_stack.specs.declared.form.Lead.TheVariants as o
-use Rattle.parse_stack.specs.declared.form.Member.TheVariants as m
-use Rattle.parse_stack.specs.declared.frame.Found.{Found}
-use Rattle.parse_stack.specs.declared.frame.Found.TheVariants.{Lone, Whole}
-use Rattle.parse_stack.specs.declared.frame.Frame.TheVariants as s
-use Rattle.parse_stack.specs.Tests.{same}
-use Rattle.parse_stack.specs.Starts.{Frames, Next, Fails, Takes}
-use Rattle.parse_stack.specs.Machine.{leader, begin, feed, give, step}
+use Rattle.c_parse_step.specs.declared.form.Want.{Want}
+use Rattle.c_parse_step.specs.declared.form.Want.TheVariants as w
+use Rattle.c_parse_step.specs.declared.form.Lead.{Lead}
+use Rattle.c_parse_step.specs.declared.form.Lead.TheVariants as o
+use Rattle.c_parse_step.specs.declared.form.Member.TheVariants as m
+use Rattle.c_parse_step.specs.declared.frame.Found.{Found}
+use Rattle.c_parse_step.specs.declared.frame.Found.TheVariants.{Lone, Whole}
+use Rattle.c_parse_step.specs.declared.frame.Frame.TheVariants as s
+use Rattle.c_parse_step.specs.Tests.{same}
+use Rattle.c_parse_step.specs.Starts.{Frames, Next, Fails, Takes}
+use Rattle.c_parse_step.specs.Machine.{leader, begin, feed, give, step}
 
 -- what is taken makes a whole file
 abbrev pub IsEnded : Next → Type 0

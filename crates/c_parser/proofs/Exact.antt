@@ -9,10 +9,10 @@ use Rattle.c_grammar.specs.Files.{Top, file_tokens, FitsFile}
 use Rattle.c_grammar.specs.FileSyntax.{file_node}
 use Rattle.c_grammar.specs.Counts.{file_events}
 use Rattle.c_grammar.specs.Derives.{first_too_many, Derives, Viable, NotBefore, IsUnexpected, IsTooMany}
-use Rattle.parse_stack.specs.declared.load.Load.{Load}
-use Rattle.parse_stack.specs.declared.frame.Frame.TheVariants as s
-use Rattle.parse_stack.specs.Starts.{Frames, Next, Fails, Takes}
-use Rattle.parse_stack.specs.Machine.{step, is_over, start, Left, Unexpected, TooMany, run}
+use Rattle.c_parse_step.specs.declared.load.Load.{Load}
+use Rattle.c_parse_step.specs.declared.frame.Frame.TheVariants as s
+use Rattle.c_parse_step.specs.Starts.{Frames, Next, Fails, Takes}
+use Rattle.c_parse_step.specs.Machine.{step, is_over, start, Left, Unexpected, TooMany, run}
 use Rattle.c_parser.proofs.Fronts.{Front, Ready, Goes}
 use Rattle.c_parser.proofs.Keeps.{keeps}
 use Rattle.c_parser.proofs.Closing.{closes}

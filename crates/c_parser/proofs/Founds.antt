@@ -5,9 +5,9 @@ use Rattle.c_grammar.specs.declared.syntax.Production.TheVariants as p
 use Rattle.c_grammar.specs.Nodes.{node, leaf}
 use Rattle.c_grammar.specs.Expressions.{Expression, One, More, Assignment, To, Value, Conditional, Choose, Only, Binary, Single, Both, Unary, Place, is_lone_unary, is_lone_binary, is_lone_conditional, is_lone_assignment, is_lone}
 use Rattle.c_grammar.specs.ExpressionSyntax.{expression_end, assignment_end, conditional_end, binary_end, unary_end, expression_parts, expression_node, assignment_node, conditional_node, binary_node, unary_node, target_node}
-use Rattle.parse_stack.specs.declared.frame.Found.{Found}
-use Rattle.parse_stack.specs.declared.frame.Found.TheVariants.{Lone, Whole}
-use Rattle.parse_stack.specs.Nodes.{lift, solid_unary, solid_binary, solid_conditional, solid_assignment, solid_expression, commas}
+use Rattle.c_parse_step.specs.declared.frame.Found.{Found}
+use Rattle.c_parse_step.specs.declared.frame.Found.TheVariants.{Lone, Whole}
+use Rattle.c_parse_step.specs.Nodes.{lift, solid_unary, solid_binary, solid_conditional, solid_assignment, solid_expression, commas}
 
 -- ---- a target alone, or the node
 

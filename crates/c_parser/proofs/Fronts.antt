@@ -8,11 +8,11 @@ use Rattle.c_grammar.specs.Classes.{level, is_assign, is_prefix}
 use Rattle.c_grammar.specs.Expressions.{NumberType, Expression, Binary, Unary, Target, Arguments, Texts, type_tokens, expression_tokens, binary_tokens, unary_tokens, target_tokens, arguments_tokens, texts_tokens, is_lone_unary, is_lone, root, FitsExpression, FitsBinary, FitsUnary, FitsTarget, FitsArguments}
 use Rattle.c_grammar.specs.Statements.{word_tokens}
 use Rattle.c_grammar.specs.Files.{Top, file_tokens, FitsFile}
-use Rattle.parse_stack.specs.declared.form.Want.{Want}
-use Rattle.parse_stack.specs.declared.frame.Full.TheVariants as f
-use Rattle.parse_stack.specs.declared.frame.Found.TheVariants.{Lone, Whole}
-use Rattle.parse_stack.specs.declared.frame.Frame.TheVariants as s
-use Rattle.parse_stack.specs.Starts.{Frames, Next, Fails, Takes}
+use Rattle.c_parse_step.specs.declared.form.Want.{Want}
+use Rattle.c_parse_step.specs.declared.frame.Full.TheVariants as f
+use Rattle.c_parse_step.specs.declared.frame.Found.TheVariants.{Lone, Whole}
+use Rattle.c_parse_step.specs.declared.frame.Frame.TheVariants as s
+use Rattle.c_parse_step.specs.Starts.{Frames, Next, Fails, Takes}
 use Rattle.c_parser.proofs.Wants.{NodeOf, node_tokens, FitsNode, is_node_open, Got, Node, Of, GotValue, got_tokens, FitsGot, is_got_open, WantValues, wants_tokens, FitsWants, ends}
 
 -- the tokens so far, and then these

@@ -9,17 +9,17 @@ use Rattle.c_grammar.specs.Classes.{level, is_assign}
 use Rattle.c_grammar.specs.Expressions.{NumberType, Expression, One, More, Assignment, To, Value, Conditional, Choose, Only, Binary, Single, Both, Unary, Prefixed, StepTo, CastTo, CastVoid, Place, StepAfter, CallNone, CallWith, Within, Target, Variable, Cell, Round, Last, Then, Argument, Given, Written, Texts, OneText, MoreTexts, type_tokens, expression_tokens, assignment_tokens, conditional_tokens, binary_tokens, unary_tokens, target_tokens, arguments_tokens, argument_tokens, texts_tokens, is_lone_unary, is_lone_binary, is_lone_conditional, is_lone_assignment, is_lone, root, FitsExpression, FitsAssignment, FitsConditional, FitsBinary, FitsUnary, FitsTarget, FitsArgument}
 use Rattle.c_grammar.specs.Statements.{Declared, Locals, Simple, word_tokens}
 use Rattle.c_grammar.specs.Files.{Enumerated, Declares, Defined, Top, Line, OfEnum, OfDeclaration, OfFunction, top_tokens, file_tokens, FitsTop, FitsFile}
-use Rattle.parse_stack.specs.declared.form.Form.{Form}
-use Rattle.parse_stack.specs.declared.form.Want.TheVariants as want
-use Rattle.parse_stack.specs.declared.form.Lead.TheVariants as lead
-use Rattle.parse_stack.specs.declared.frame.Full.TheVariants as full
-use Rattle.parse_stack.specs.declared.frame.Found.{Found}
-use Rattle.parse_stack.specs.declared.frame.Found.TheVariants.{Lone, Whole}
-use Rattle.parse_stack.specs.declared.frame.Frame.TheVariants as s
-use Rattle.parse_stack.specs.Nodes.{lift, commas}
-use Rattle.parse_stack.specs.Tests.{is_step, is_question, is_colon, is_comma, is_open, is_close, is_open_index, is_close_index, is_text, same}
-use Rattle.parse_stack.specs.Starts.{Frames, rest, at_opened, at_type_end, at_external, at_top}
-use Rattle.parse_stack.specs.Machine.{give, at_index, at_named, declared, step}
+use Rattle.c_parse_step.specs.declared.form.Form.{Form}
+use Rattle.c_parse_step.specs.declared.form.Want.TheVariants as want
+use Rattle.c_parse_step.specs.declared.form.Lead.TheVariants as lead
+use Rattle.c_parse_step.specs.declared.frame.Full.TheVariants as full
+use Rattle.c_parse_step.specs.declared.frame.Found.{Found}
+use Rattle.c_parse_step.specs.declared.frame.Found.TheVariants.{Lone, Whole}
+use Rattle.c_parse_step.specs.declared.frame.Frame.TheVariants as s
+use Rattle.c_parse_step.specs.Nodes.{lift, commas}
+use Rattle.c_parse_step.specs.Tests.{is_step, is_question, is_colon, is_comma, is_open, is_close, is_open_index, is_close_index, is_text, same}
+use Rattle.c_parse_step.specs.Starts.{Frames, rest, at_opened, at_type_end, at_external, at_top}
+use Rattle.c_parse_step.specs.Machine.{give, at_index, at_named, declared, step}
 use Rattle.c_parser.proofs.Tokens.{step_is, question_is, colon_is, comma_is, open_is, close_is, open_index_is, close_index_is, text_is, same_is, level_below}
 use Rattle.c_parser.proofs.Wants.{Got, Node, Of, GotValue, got_tokens, FitsGot, is_got_open, wants_tokens}
 use Rattle.c_parser.proofs.Fronts.{Front, cast_tokens, Under, IsFile, UnaryNext, TargetNext, BinaryNext, ConditionalNext, AssignmentNext, ExpressionNext, ArgumentNext, ValueNext, Ready, Goes}

@@ -3,9 +3,9 @@ use Rattle.std.proofs.Common.{◌≡◌, ◌+◌, ℕ, Bool, true, false, cond, 
 use Rattle.c_grammar.specs.declared.class.Class.{Class}
 use Rattle.c_grammar.specs.Events.{Event, number_of, count_of, first_over}
 use Rattle.c_grammar.specs.Derives.{Viable}
-use Rattle.parse_stack.specs.declared.load.Load.{Load}
-use Rattle.parse_stack.specs.Starts.{Frames, Next, Fails, Takes}
-use Rattle.parse_stack.specs.Machine.{step, count_behind, is_over, start, Ran, Left, Unexpected, TooMany, go_on, run}
+use Rattle.c_parse_step.specs.declared.load.Load.{Load}
+use Rattle.c_parse_step.specs.Starts.{Frames, Next, Fails, Takes}
+use Rattle.c_parse_step.specs.Machine.{step, count_behind, is_over, start, Ran, Left, Unexpected, TooMany, go_on, run}
 use Rattle.c_parser.proofs.Fronts.{Front, Ready, Goes}
 use Rattle.c_parser.proofs.Keeps.{keeps}
 use Rattle.c_parser.proofs.Closing.{closes}

@@ -10,9 +10,9 @@ use Rattle.c_grammar.specs.declared.class.Class.TheVariants as c
 use Rattle.c_grammar.specs.declared.syntax.Syntax.{Syntax}
 use Rattle.c_grammar.specs.TokenClasses.{classes_of, offset_of}
 use Rattle.c_grammar.specs.Derives.{Derives}
-use Rattle.parse_stack.specs.declared.frame.Frame.TheVariants as s
-use Rattle.parse_stack.specs.Starts.{Frames}
-use Rattle.parse_stack.specs.Machine.{start, Ran, Left, Unexpected, TooMany, run}
+use Rattle.c_parse_step.specs.declared.frame.Frame.TheVariants as s
+use Rattle.c_parse_step.specs.Starts.{Frames}
+use Rattle.c_parse_step.specs.Machine.{start, Ran, Left, Unexpected, TooMany, run}
 use Rattle.c_parser.specs.Answers.{accepted, whole, answer, parsed}
 use Rattle.c_parser.specs.Reads.{Reads}
 use Rattle.c_parser.proofs.Decides.{Says, says, accepts}

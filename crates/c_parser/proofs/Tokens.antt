@@ -3,7 +3,7 @@ use Rattle.std.proofs.Common.{◌≡◌, ◌<◌, Bool, true, false, refl, arith
 use Rattle.c_grammar.specs.declared.class.Class.{Class}
 use Rattle.c_grammar.specs.declared.class.Class.TheVariants as c
 use Rattle.c_grammar.specs.Classes.{level, is_assign}
-use Rattle.parse_stack.specs.Tests.{is_step, is_question, is_colon, is_comma, is_open, is_close, is_open_index, is_close_index, is_text, same}
+use Rattle.c_parse_step.specs.Tests.{is_step, is_question, is_colon, is_comma, is_open, is_close, is_open_index, is_close_index, is_text, same}
 
 -- ---- which token it is
 

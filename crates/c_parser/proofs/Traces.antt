@@ -2,11 +2,11 @@
 use Rattle.std.proofs.Common.{◌≡◌, ◌+◌, ℕ, Bool, true, false, cond, nat_lt, ◌||◌, List, [], ◌∷◌, ◌++◌, length, Option, Some, None, refl, arith, ap, subst, ◌∙◌}
 use Rattle.c_grammar.specs.declared.class.Class.{Class}
 use Rattle.c_grammar.specs.Events.{Event, Uncounted, Counted, Outside, Opened, number_of, count_of, most, over, earlier, first_over}
-use Rattle.parse_stack.specs.declared.load.Load.{Load}
-use Rattle.parse_stack.specs.declared.load.Role.{Role}
-use Rattle.parse_stack.specs.declared.load.Role.TheVariants as role
-use Rattle.parse_stack.specs.Starts.{Frames, Next, Fails, Takes}
-use Rattle.parse_stack.specs.Machine.{step, count_behind, is_deep, is_long, is_over}
+use Rattle.c_parse_step.specs.declared.load.Load.{Load}
+use Rattle.c_parse_step.specs.declared.load.Role.{Role}
+use Rattle.c_parse_step.specs.declared.load.Role.TheVariants as role
+use Rattle.c_parse_step.specs.Starts.{Frames, Next, Fails, Takes}
+use Rattle.c_parse_step.specs.Machine.{step, count_behind, is_deep, is_long, is_over}
 
 abbrev pub token_event : Role → Event
 token_event role.Counted = Counted

@@ -7,14 +7,14 @@ use Rattle.c_grammar.specs.declared.syntax.Production.TheVariants as p
 use Rattle.c_grammar.specs.Expressions.{Base, IntBase, NumberType, OfBase, Expression, One, Assignment, Value, Conditional, Only, Single, Number, base_tokens, type_tokens, expression_tokens, assignment_tokens, conditional_tokens, FitsExpression, FitsAssignment, FitsConditional}
 use Rattle.c_grammar.specs.Statements.{Size, NoSize, Initialiser, OneValue, Declarator, Declared, Local, Label, ForStart, StartValue, Block, Items, NoItems, Statement, Unlabelled, Plain, Simple, word_tokens, more_tokens, rest_tokens, optional_tokens, size_tokens, initialiser_tokens, value_tokens, declarator_tokens, local_tokens, label_tokens, for_start_tokens, block_tokens, items_tokens, statement_tokens, plain_tokens, is_statement_open, is_plain_open, FitsMore, FitsOptional, FitsSize, FitsInitialiser, FitsValue, FitsDeclarator, FitsLocal, FitsLabel, FitsForStart, FitsBlock, FitsItems, FitsStatement, FitsPlain}
 use Rattle.c_grammar.specs.Files.{Parameter, Typed, Parameters, NoParameters, Enumeration, Declaration, Function, parameter_tokens, parameters_tokens, constant_tokens, enumerator_tokens, enumeration_tokens, declaration_tokens, body_tokens, function_tokens, FitsParameter, FitsParameters, FitsConstant, FitsEnumeration, FitsDeclaration, FitsBody, FitsFunction}
-use Rattle.parse_stack.specs.declared.form.Want.{Want}
-use Rattle.parse_stack.specs.declared.form.Want.TheVariants as w
-use Rattle.parse_stack.specs.declared.form.Lead.{Lead}
-use Rattle.parse_stack.specs.declared.form.Lead.TheVariants as o
-use Rattle.parse_stack.specs.declared.form.Member.{Member}
-use Rattle.parse_stack.specs.declared.form.Member.TheVariants as m
-use Rattle.parse_stack.specs.declared.frame.Full.{Full}
-use Rattle.parse_stack.specs.declared.frame.Full.TheVariants as f
+use Rattle.c_parse_step.specs.declared.form.Want.{Want}
+use Rattle.c_parse_step.specs.declared.form.Want.TheVariants as w
+use Rattle.c_parse_step.specs.declared.form.Lead.{Lead}
+use Rattle.c_parse_step.specs.declared.form.Lead.TheVariants as o
+use Rattle.c_parse_step.specs.declared.form.Member.{Member}
+use Rattle.c_parse_step.specs.declared.form.Member.TheVariants as m
+use Rattle.c_parse_step.specs.declared.frame.Full.{Full}
+use Rattle.c_parse_step.specs.declared.frame.Full.TheVariants as f
 
 -- ---- nodes of the rules that are built part by part
 

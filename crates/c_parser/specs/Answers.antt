@@ -6,10 +6,10 @@ use Rattle.c_lexer.specs.Faults.{refusal_of}
 use Rattle.c_grammar.specs.declared.class.Class.TheVariants as c
 use Rattle.c_grammar.specs.declared.syntax.Syntax.{Syntax}
 use Rattle.c_grammar.specs.TokenClasses.{classes_of, offset_of}
-use Rattle.parse_stack.specs.declared.frame.Frame.{Frame}
-use Rattle.parse_stack.specs.declared.frame.Frame.TheVariants as s
-use Rattle.parse_stack.specs.Starts.{Frames}
-use Rattle.parse_stack.specs.Machine.{Ran, Left, Unexpected, TooMany, start, run}
+use Rattle.c_parse_step.specs.declared.frame.Frame.{Frame}
+use Rattle.c_parse_step.specs.declared.frame.Frame.TheVariants as s
+use Rattle.c_parse_step.specs.Starts.{Frames}
+use Rattle.c_parse_step.specs.Machine.{Ran, Left, Unexpected, TooMany, start, run}
 
 -- the file that the frame holds
 abbrev pub file_in : Frame → Option Syntax

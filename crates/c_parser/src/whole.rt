@@ -7,13 +7,13 @@ ghost use Rattle.c_types.specs.declared.refusal.ReadStop.TheVariants.{Refused as
 ghost use Rattle.c_lexer.specs.Pieces.{IsWithin};
 ghost use Rattle.c_parser.specs.Answers as answers;
 ghost use Rattle.c_parser.specs.Answers.{parsed};
-ghost use Rattle.parse_stack.specs.Machine as spec;
+ghost use Rattle.c_parse_step.specs.Machine as spec;
 ghost use Rattle.c_parser.specs.Reads.{Reads};
 
 use c_grammar::{Class, Syntax, class_of};
 use c_lexer::{Token, refusal_at};
 use c_types::{List, MOST, ReadStop, Stack};
-use parse_stack::{Frame, Load, Role, step};
+use c_parse_step::{Frame, Load, Role, step};
 use std::alloc::Global;
 
 /// The greatest level of nesting, and the most counted tokens of one full expression.

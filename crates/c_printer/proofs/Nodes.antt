@@ -13,7 +13,7 @@ use Rattle.c_tree.specs.declared.tree.Node.TheVariants.{rolls-Number, rolls-Char
 use Rattle.c_tree.specs.declared.tree.Node.TheOpen as N
 use Rattle.c_tree.specs.TextPieces.{Text, ◌⨾◌, number, character, word, punctuator, only_if, spaced, comma}
 use Rattle.c_tree.specs.TextExpressions.{Leveled, Kinded, node_step, place_step, expression_step, node_text, place_text, expression_text, expressions_text, result_text, unary_spelling, binary_spelling, update_spelling, count_spelling, binary_level, gap, prefix_or_postfix}
-use Rattle.byte_writer.specs.Writing.{Progress}
+use Rattle.rg_ports.specs.Writing.{Progress}
 use Rattle.c_printer.specs.Writing.{Prints}
 
 -- one text after another

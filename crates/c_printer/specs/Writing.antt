@@ -1,6 +1,6 @@
 -- A writer that was given printed text.
 use Rattle.std.specs.Prelude.{◌≡◌, ℕ, List}
-use Rattle.byte_writer.specs.Writing.{Progress, Start, Stands}
+use Rattle.rg_ports.specs.Writing.{Progress, Start, Stands}
 use Rattle.c_tree.specs.TextPieces.{Piece, Text, spelled}
 
 -- Where a writer stands while the whole bytes are written, and these pieces are still to come.

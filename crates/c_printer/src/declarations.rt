@@ -10,7 +10,7 @@ use crate::pieces::{
     put_comma, put_newline, put_number, put_punctuator, put_space, put_spaced, put_verbatim,
     put_word,
 };
-use byte_writer::Output;
+use rg_ports::Output;
 use c_tree::{Expression, Function, Selector, Slot, Test};
 use c_types::{IntKind, List};
 

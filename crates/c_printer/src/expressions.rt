@@ -14,7 +14,7 @@ use crate::spelling::{
     binary_level, binary_spelling, count_spelling, home_name, is_bracketed, unary_spelling,
     update_spelling,
 };
-use byte_writer::Output;
+use rg_ports::Output;
 use c_tree::{Expression, Node, Place, Slot, UnaryOp};
 use c_types::IntKind;
 

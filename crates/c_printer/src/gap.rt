@@ -7,7 +7,7 @@ ghost use Rattle.c_printer.specs.Writing.{Prints};
 
 use crate::pieces::{put_space, suffix};
 use crate::spelling::home_name;
-use byte_writer::Output;
+use rg_ports::Output;
 use c_tree::{Expression, Node, Place, Slot, UnaryOp};
 use c_types::IntKind;
 use itoa::Buffer;

@@ -2,10 +2,10 @@
 
 ghost use Rattle.std.specs.Prelude.{◌≡◌, Option};
 ghost use Rattle.c_tree.specs.TextPieces.{suffix as the_suffix, escaped, space, newline, indentation, word, punctuator, spaced, comma, number, character, literal, verbatim};
-ghost use Rattle.byte_writer.specs.Writing.{Gives};
+ghost use Rattle.rg_ports.specs.Writing.{Gives};
 ghost use Rattle.c_printer.specs.Writing.{Prints};
 
-use byte_writer::Output;
+use rg_ports::Output;
 use c_types::IntKind;
 use itoa::Buffer;
 

@@ -11,7 +11,7 @@ use crate::declarations::{
 };
 use crate::expressions::put_expression;
 use crate::pieces::{put_indentation, put_newline, put_punctuator, put_space, put_word};
-use byte_writer::Output;
+use rg_ports::Output;
 use c_tree::{Expression, Function, Selector, Test};
 use c_types::List;
 

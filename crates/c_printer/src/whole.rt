@@ -5,7 +5,7 @@ ghost use Rattle.c_tree.specs.Text.{text_of};
 
 use crate::tops::put_program;
 use arrayvec::ArrayVec;
-use byte_writer::{Growing, Writer};
+use rg_ports::{Growing, Writer};
 use c_tree::Program;
 use c_types::{Bytes, List, MOST, Memory};
 use rg_ports::{Failed, Sink};

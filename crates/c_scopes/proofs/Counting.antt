@@ -2,9 +2,9 @@
 use Rattle.std.proofs.Common.{◌≡◌, ◌<◌, ◌+◌, ◌*◌, ℕ, suc, zero, Bool, cond, List, [], ◌∷◌, length, get_or, map, drop, max, refl, ap, sym, ◌∙◌, add-one, drop-cons, arith}
 use Rattle.std.proofs.lemmas.List.{length-map}
 use Rattle.c_grammar.specs.declared.syntax.Syntax.{Syntax, out-Syntax}
-use Rattle.c_source.specs.Counted.{own_count, is_full}
-use Rattle.c_source.specs.Parts.{Part, part_of, part_layer, greatest, sum_counted}
-use Rattle.c_source.proofs.Layers.{open_part, open_weight, weight-at}
+use Rattle.c_layers.specs.Counted.{own_count, is_full}
+use Rattle.c_layers.specs.Parts.{Part, part_of, part_layer, greatest, sum_counted}
+use Rattle.c_layers.proofs.Layers.{open_part, open_weight, weight-at}
 use Rattle.c_statements.specs.Measures.{bounded}
 
 pub part-counted : (word : ℕ → List ℕ) (x : Syntax) → (part_of word x).counted ≡ own_count word (out-Syntax x).rule (out-Syntax x).first (length (out-Syntax x).parts) (sum_counted (map (part_of word) (out-Syntax x).parts))

@@ -1,11 +1,11 @@
 -- What stands among the nodes of a list, from an index on.
 use Rattle.std.proofs.Common.{◌≡◌, ◌<◌, ◌+◌, ℕ, suc, List, [], ◌∷◌, length, get_or, map, drop, refl, ap, add-one, drop-cons, ◌∙◌, append_assoc, Option, Some, None}
 use Rattle.c_grammar.specs.declared.syntax.Syntax.{Syntax}
-use Rattle.c_source.specs.Items.{Declarator}
-use Rattle.c_source.specs.ItemViews.{declarator_of, declarators_of}
-use Rattle.c_source.specs.Tops.{Enumerator, Parameter}
-use Rattle.c_source.specs.TopViews.{enumerator_of, parameter_of}
-use Rattle.comment_places.proofs.Nodes.{tops-next}
+use Rattle.c_layers.specs.Items.{Declarator}
+use Rattle.c_layers.specs.ItemViews.{declarator_of, declarators_of}
+use Rattle.c_layers.specs.Tops.{Enumerator, Parameter}
+use Rattle.c_layers.specs.TopViews.{enumerator_of, parameter_of}
+use Rattle.c_comments.proofs.Nodes.{tops-next}
 use Rattle.c_scopes.specs.NodeViews.{enumerators_of, parameters_of}
 
 -- what may be an item, in front of others

@@ -3,14 +3,14 @@
 ghost use Rattle.std.specs.Prelude.{◌≡◌, ◌+◌, ℕ, map, length, Some};
 ghost use Rattle.c_grammar.specs.TokenClasses.{class_of_found};
 ghost use Rattle.c_grammar.specs.declared.syntax.Syntax.{out-Syntax};
-ghost use Rattle.c_source.specs.Counted as counted;
-ghost use Rattle.c_source.specs.Parts.{part_of, greatest, sum_counted};
-ghost use Rattle.c_source.specs.Views.{words_of};
+ghost use Rattle.c_layers.specs.Counted as counted;
+ghost use Rattle.c_layers.specs.Parts.{part_of, greatest, sum_counted};
+ghost use Rattle.c_layers.specs.Views.{words_of};
 ghost use Rattle.c_statements.specs.Measures.{bounded};
 
 use c_grammar::{Production, Syntax};
 use c_lexer::{Mark, mark_of};
-use c_source::Words;
+use c_layers::Words;
 use c_statements::greater;
 
 /// How many tokens of a node count, and the most that count in one full expression in it.

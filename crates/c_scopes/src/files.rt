@@ -2,12 +2,12 @@
 
 ghost use Rattle.std.specs.Prelude.{◌≡◌, ◌++◌, ◌∷◌, [], Some, negsuc, map, IfOk, OnOk};
 ghost use Rattle.c_kinds.specs.Views.{env_of};
-ghost use Rattle.c_source.specs.ItemViews.{declaration_of};
-ghost use Rattle.c_source.specs.TopViews.{function_form, top_form, top_of};
-ghost use Rattle.c_source.specs.Views.{words_of};
+ghost use Rattle.c_layers.specs.ItemViews.{declaration_of};
+ghost use Rattle.c_layers.specs.TopViews.{function_form, top_form, top_of};
+ghost use Rattle.c_layers.specs.Views.{words_of};
 ghost use Rattle.c_statements.specs.NoteViews.{all_now, notes_of};
-ghost use Rattle.c_source.specs.Tops as tops;
-ghost use Rattle.comment_places.specs.NodeViews.{tops_in};
+ghost use Rattle.c_layers.specs.Tops as tops;
+ghost use Rattle.c_comments.specs.NodeViews.{tops_in};
 ghost use Rattle.c_scopes.specs.Enums as enums;
 ghost use Rattle.c_scopes.specs.FunctionNames as names;
 ghost use Rattle.c_scopes.specs.Files as spec;
@@ -23,7 +23,7 @@ use crate::globals::read_globals;
 use c_bodies::State;
 use c_grammar::Syntax;
 use c_kinds::{Fault, Known};
-use c_source::{FunctionLayer, TopLayer, declaration_layer, top_layer};
+use c_layers::{FunctionLayer, TopLayer, declaration_layer, top_layer};
 use c_statements::{Anchor, Notes, kinded};
 use c_tree::Top;
 use c_types::{List, Memory, Stack};

@@ -2,8 +2,8 @@
 
 ghost use Rattle.std.specs.Prelude.{◌≡◌, ◌++◌, ◌∷◌, [], IfOk, OnOk};
 ghost use Rattle.c_kinds.specs.Views.{env_of};
-ghost use Rattle.c_source.specs.ItemViews.{declarator_form, declarators_of, initialiser_form, size_form};
-ghost use Rattle.c_source.specs.Views.{words_of};
+ghost use Rattle.c_layers.specs.ItemViews.{declarator_form, declarators_of, initialiser_form, size_form};
+ghost use Rattle.c_layers.specs.Views.{words_of};
 ghost use Rattle.c_statements.specs.Declarations as spec;
 ghost use Rattle.c_tree.specs.declared.tree.Top.TheVariants as top;
 ghost use Rattle.c_scopes.specs.FileNames.{file_name_faults};
@@ -13,7 +13,7 @@ use crate::constants::constant_initial;
 use crate::file_names::{bind_name, report_file_name};
 use c_grammar::Syntax;
 use c_kinds::{Binding, Fault, Known, Shape, name_of, report_if};
-use c_source::{DeclaratorLayer, Words, declarator_layer};
+use c_layers::{DeclaratorLayer, Words, declarator_layer};
 use c_statements::{
     Extent, Kinded, Length, cells_of, extent_of, is_array, is_bad_shape, read_length,
 };

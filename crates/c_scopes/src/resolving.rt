@@ -3,10 +3,10 @@
 ghost use Rattle.std.specs.Prelude.{◌≡◌, [], All, IfOk, Ok};
 ghost use Rattle.c_lexer.specs.Answers.{read_tokens};
 ghost use Rattle.c_lexer.specs.Pieces.{IsWithin};
-ghost use Rattle.c_source.specs.Parts.{file_of};
-ghost use Rattle.c_source.specs.Views.{words_of};
+ghost use Rattle.c_layers.specs.Parts.{file_of};
+ghost use Rattle.c_layers.specs.Views.{words_of};
 ghost use Rattle.c_types.specs.Stop.{Gives};
-ghost use Rattle.comment_places.specs.NodeViews.{tops_in};
+ghost use Rattle.c_comments.specs.NodeViews.{tops_in};
 ghost use Rattle.c_scopes.specs.FileViews as views;
 ghost use Rattle.c_scopes.specs.Files.{file_faults, start, tops_of as the_tops};
 ghost use Rattle.c_scopes.specs.Resolving as spec;
@@ -20,10 +20,10 @@ use c_bodies::State;
 use c_grammar::Syntax;
 use c_kinds::{Fault, Known, Scopes};
 use c_lexer::{Span, Token, comments};
-use c_source::{Words, tops_of};
+use c_layers::{Words, tops_of};
 use c_tree::{Program, Top};
 use c_types::{List, Memory, ReadStop, Stack};
-use comment_places::place_notes;
+use c_comments::place_notes;
 use std::alloc::Global;
 
 /// What stands at file scope, and the violations, the last first.

@@ -7,7 +7,7 @@ ghost use Rattle.c_scopes.specs.Resolving as spec;
 
 use c_kinds::Fault;
 use c_lexer::{Token, refusal_at};
-use c_source::Words;
+use c_layers::Words;
 use c_types::{Refusal, Stack};
 
 fn is_before(a: Fault, b: Fault) -> bool

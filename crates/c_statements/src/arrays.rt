@@ -2,15 +2,15 @@
 
 ghost use Rattle.std.specs.Prelude.{◌≡◌, ◌≤◌, length, option_map, IfOk, OnOk};
 ghost use Rattle.c_kinds.specs.Views.{env_of};
-ghost use Rattle.c_source.specs.ItemViews.{initialiser_form, size_form, term_list_of};
-ghost use Rattle.c_source.specs.Views.{words_of};
+ghost use Rattle.c_layers.specs.ItemViews.{initialiser_form, size_form, term_list_of};
+ghost use Rattle.c_layers.specs.Views.{words_of};
 ghost use Rattle.c_statements.specs.Declarations as spec;
 
 use crate::extents::{Extent, Length};
 use crate::nodes::value_count;
 use c_grammar::Syntax;
 use c_kinds::{Fault, Known, constant_expression};
-use c_source::{InitialiserLayer, SizeLayer, Words};
+use c_layers::{InitialiserLayer, SizeLayer, Words};
 use c_tree::Expression;
 use c_types::{Memory, Stack};
 use std::alloc::Global;

@@ -1,14 +1,14 @@
 //! How deep statements are nested.
 
 ghost use Rattle.std.specs.Prelude.{◌≡◌, ◌+◌};
-ghost use Rattle.c_source.specs.ItemViews.{item_of, plain_of, body_of};
-ghost use Rattle.c_source.specs.Views.{words_of};
+ghost use Rattle.c_layers.specs.ItemViews.{item_of, plain_of, body_of};
+ghost use Rattle.c_layers.specs.Views.{words_of};
 ghost use Rattle.c_statements.specs.Measures as spec;
 ghost use Rattle.c_statements.specs.Nodes.{items_of};
 
 use crate::nodes::{greater, is_token};
 use c_grammar::Syntax;
-use c_source::{
+use c_layers::{
     BodyLayer, ItemLayer, StatementLayer, Words, body_layer, item_layer, statement_layer,
 };
 

@@ -1,15 +1,15 @@
 //! The labels of a function, by the tokens of their names.
 
 ghost use Rattle.std.specs.Prelude.{◌≡◌, OnOk};
-ghost use Rattle.c_source.specs.ItemViews.{item_of, plain_of, body_of, label_of, labels_of, label_form};
-ghost use Rattle.c_source.specs.Parts.{part_of, items_in};
-ghost use Rattle.c_source.specs.Views.{words_of};
+ghost use Rattle.c_layers.specs.ItemViews.{item_of, plain_of, body_of, label_of, labels_of, label_form};
+ghost use Rattle.c_layers.specs.Parts.{part_of, items_in};
+ghost use Rattle.c_layers.specs.Views.{words_of};
 ghost use Rattle.c_statements.specs.Labels as spec;
 ghost use Rattle.c_statements.specs.Nodes.{items_of};
 
 use crate::nodes::is_token;
 use c_grammar::Syntax;
-use c_source::{
+use c_layers::{
     BodyLayer, ItemLayer, LabelLayer, StatementLayer, Words, body_layer, item_layer, label_layer,
     statement_layer,
 };

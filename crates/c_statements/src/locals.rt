@@ -1,9 +1,9 @@
 //! Declared variables of a block.
 
 ghost use Rattle.std.specs.Prelude.{◌≡◌, ◌++◌, ◌∷◌, [], IfOk, OnOk};
-ghost use Rattle.c_source.specs.ItemViews.{declaration_of, declaration_form, declarator_form, declarators_of, size_form};
-ghost use Rattle.c_source.specs.Views.{words_of};
-ghost use Rattle.c_source.specs.Words.{kind_of as the_kind};
+ghost use Rattle.c_layers.specs.ItemViews.{declaration_of, declaration_form, declarator_form, declarators_of, size_form};
+ghost use Rattle.c_layers.specs.Views.{words_of};
+ghost use Rattle.c_layers.specs.Words.{kind_of as the_kind};
 ghost use Rattle.c_kinds.specs.Views.{env_of};
 ghost use Rattle.c_statements.specs.Declarations as spec;
 ghost use Rattle.c_statements.specs.Nodes.{type_words};
@@ -14,7 +14,7 @@ use crate::initialisers::initial;
 use crate::slots::declare;
 use c_grammar::Syntax;
 use c_kinds::{Fault, Known, Shape, report_if};
-use c_source::{
+use c_layers::{
     DeclarationLayer, DeclaratorLayer, SizeLayer, Words, declaration_layer, declarator_layer,
     kind_of,
 };

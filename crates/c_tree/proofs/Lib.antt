@@ -13,3 +13,6 @@ pub mod ExitsKept
 pub mod WellMoved
 pub mod NumbersBelow
 pub mod NumeralLaws
+pub mod Views
+pub mod Searches
+pub mod Collecting

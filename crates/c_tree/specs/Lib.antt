@@ -26,3 +26,4 @@ pub mod Text
 pub mod Rebuilt
 pub mod Jumps
 pub mod Conversions
+pub mod Views

@@ -1,11 +1,20 @@
 //! The resolved tree of a C file.
+//!
+//! The tree of an item, which shows its form where the item does.
 #![tactic(auto)]
 
 mod paths;
 mod tree;
+
+ghost use Rattle.c_tree.specs.Views.{ViewLaws};
 
 pub use paths::{child, find_list, fits, list_at, replace_at};
 pub use tree::{
     BinaryOp, Branch, EnumItem, Expression, Function, GlobalVariable, Home, Item, Node, Path,
     Place, Program, Section, Selector, Slot, Step, Test, Top, UnaryOp,
 };
+
+/// What a walk over items needs of their trees.
+pub fn view_laws()
+    ensures { ViewLaws }
+{}

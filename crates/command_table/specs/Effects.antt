@@ -3,8 +3,8 @@ use Rattle.std.specs.Prelude.{ℕ, List, Option}
 use Rattle.rg_ports.specs.Files.{Files}
 use Rattle.rg_ports.specs.declared.reads.ReadCounts.{ReadCounts}
 use Rattle.rg_ports.specs.Written.{Written}
-use Rattle.command_lines.specs.declared.status.Status.{Status}
-use Rattle.file_commands.specs.declared.translator.Part.{Part}
+use Rattle.cmd_words.specs.declared.status.Status.{Status}
+use Rattle.cmd_files.specs.declared.translator.Part.{Part}
 
 -- what is said of the files, of the counts of reads and of that of failed writes, before and after, and of the status
 abbrev pub OnShelf : Type 1

@@ -3,11 +3,11 @@ use Rattle.std.specs.Prelude.{◌≡◌, ℕ, List, Option, None, Some}
 use Rattle.rg_ports.specs.Files.{Files}
 use Rattle.rg_ports.specs.declared.reads.ReadCounts.{ReadCounts}
 use Rattle.rg_ports.specs.Written.{Written}
-use Rattle.command_lines.specs.declared.status.Status.{Status}
-use Rattle.command_lines.specs.Command.{Command, Restructure, Run, Demo, Help, Show, Moves, Replay, Tidy, Lower}
-use Rattle.command_lines.specs.Help.{Helps}
-use Rattle.command_lines.specs.Lines.{Tells, usage_line}
-use Rattle.file_commands.specs.declared.translator.Part.TheVariants as part
+use Rattle.cmd_words.specs.declared.status.Status.{Status}
+use Rattle.cmd_words.specs.Command.{Command, Restructure, Run, Demo, Help, Show, Moves, Replay, Tidy, Lower}
+use Rattle.cmd_words.specs.Help.{Helps}
+use Rattle.cmd_words.specs.Lines.{Tells, usage_line}
+use Rattle.cmd_files.specs.declared.translator.Part.TheVariants as part
 use Rattle.command_table.specs.Effects.{Effects}
 
 -- what the ports tell

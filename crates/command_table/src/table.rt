@@ -1,10 +1,10 @@
 ghost use Rattle.std.specs.Prelude.{◌≡◌, ◌≢◌, ◌↔◌, ℕ, List, None, Some, map, string_bytes};
-ghost use Rattle.command_lines.specs.Command.{Run, command_of, seen};
+ghost use Rattle.cmd_words.specs.Command.{Run, command_of, seen};
 ghost use Rattle.command_table.specs.Table.{Answers, Does};
 
 use crate::works::Works;
-use command_lines::{Job, Status, command, tell, write_help};
-use file_commands::{Part, Targets};
+use cmd_words::{Job, Status, command, tell, write_help};
+use cmd_files::{Part, Targets};
 use rg_ports::{Shelf, Sink, Source};
 use std::alloc::Global;
 

@@ -1,8 +1,8 @@
 ghost use Rattle.std.specs.Prelude.{◌≡◌, ◌≢◌, option_map};
-ghost use Rattle.command_lines.specs.Lines.{Tells};
+ghost use Rattle.cmd_words.specs.Lines.{Tells};
 
-use command_lines::Status;
-use file_commands::{Part, Targets};
+use cmd_words::Status;
+use cmd_files::{Part, Targets};
 use rg_ports::{Shelf, Sink, Source};
 use std::alloc::Global;
 

@@ -5,9 +5,9 @@ use Rattle.std.specs.Prelude.{option_and_then}
 use Rattle.c_types.specs.declared.kinds.IntKind.TheVariants.{Int}
 use Rattle.c_types.specs.Numbers.{is_in_range}
 use Rattle.c_types.specs.Words.{is_known}
-use Rattle.c_source.specs.Terms.{Term}
-use Rattle.c_source.specs.Items.{Declarator}
-use Rattle.c_source.specs.Tops.{Enumerator}
+use Rattle.c_layers.specs.Terms.{Term}
+use Rattle.c_layers.specs.Items.{Declarator}
+use Rattle.c_layers.specs.Tops.{Enumerator}
 use Rattle.c_kinds.specs.declared.binding.Binding.TheVariants.{Constant, Global}
 use Rattle.c_kinds.specs.declared.typed.Fault.{Fault}
 use Rattle.c_kinds.specs.Constants.{constant_of}

@@ -1,7 +1,7 @@
 -- What a walk finds in a file, and what of that is reported.
 use Rattle.std.proofs.Common.{◌≡◌, ◌⊎◌, inl, inr, ℕ, List, [], ◌∷◌, ◌++◌, Option, Some, None, refl, true≢false, sym}
 use Rattle.std.specs.Prelude.{negsuc}
-use Rattle.c_source.specs.Tops.{Function, Form, Line, Enum, Globals, Defines, Unread, Top, From}
+use Rattle.c_layers.specs.Tops.{Function, Form, Line, Enum, Globals, Defines, Unread, Top, From}
 use Rattle.c_kinds.specs.declared.typed.Fault.{Fault}
 use Rattle.c_kinds.specs.Scopes.{Scope, Faults, known_scope}
 use Rattle.c_statements.specs.Declarations.{kinded}

@@ -20,14 +20,14 @@ use Rattle.c_tree.specs.TestTrees.{SelectorTree}
 use Rattle.c_tree.specs.Trees as P
 use Rattle.c_tree.specs.Trees.{Tree, Forest, Nil, Then, Sections, Switch, Evaluate, Goto, trees_of, sections_of, expression_trees, join}
 use Rattle.jump_meaning.specs.Step.{switch_kind}
-use Rattle.loose_core.specs.Pieces.{Aim, mark_of, assign_number, tests_among}
-use Rattle.loose_core.specs.Loose.{Arrivals}
-use Rattle.flat_core.specs.Parts.{Here, Ending, Gone, Breaks, Jumps, Otherwise, constructs_of, cases_of, variables_of, past, past_item, inside, is_gone, later, gone_or, if_jumps, ending, ending_of, last_ending, is_scattered, leaves, switch_labels, cases_among}
-use Rattle.flat_core.specs.FlatForm.{Plan, is_jumpy_switch, flat_sections, flat_item, flat_last_item, names_of, scatter_aim, otherwise_label, if_breaks, spread}
-use Rattle.flat_parts.proofs.EndLaws.{goes}
+use Rattle.flat_looser_laws.specs.Pieces.{Aim, mark_of, assign_number, tests_among}
+use Rattle.flat_looser_laws.specs.Loose.{Arrivals}
+use Rattle.flat_laws.specs.Parts.{Here, Ending, Gone, Breaks, Jumps, Otherwise, constructs_of, cases_of, variables_of, past, past_item, inside, is_gone, later, gone_or, if_jumps, ending, ending_of, last_ending, is_scattered, leaves, switch_labels, cases_among}
+use Rattle.flat_laws.specs.FlatForm.{Plan, is_jumpy_switch, flat_sections, flat_item, flat_last_item, names_of, scatter_aim, otherwise_label, if_breaks, spread}
+use Rattle.flat_questions.proofs.EndLaws.{goes}
 use Rattle.c_tree.specs.declared.tree.Expression.{Expression}
-use Rattle.tree_views.specs.Views.{layer_at, tree_at, before}
-use Rattle.tree_views.proofs.Views.{trees-at}
+use Rattle.c_tree.specs.Views.{layer_at, tree_at, before}
+use Rattle.c_tree.proofs.Views.{trees-at}
 use Rattle.flat_items.specs.declared.plans.Plan as L
 use Rattle.flat_items.specs.declared.plans.Cases as C
 use Rattle.flat_items.specs.Forms.{switch_breaks, entered_of, past_among, kept_form, scattered_form, local_form, is_breaks}

@@ -11,11 +11,11 @@ use Rattle.c_tree.specs.ExpressionTrees.{ExpressionTree, expression_tree}
 use Rattle.c_tree.specs.Trees.{Tree, Forest, Nil, Then, Sections, NoSection, Section, Evaluate, While, sections_of, expression_trees, join}
 use Rattle.c_tree.proofs.TreeLaws.{sections-none}
 use Rattle.c_tree.specs.TestTrees.{Source}
-use Rattle.loose_core.specs.Pieces.{Aim, test_or_one, mark_of, third_items, assign_cell, assigned_cells, zero_tree}
-use Rattle.flat_core.specs.FlatForm.{flat_for}
+use Rattle.flat_looser_laws.specs.Pieces.{Aim, test_or_one, mark_of, third_items, assign_cell, assigned_cells, zero_tree}
+use Rattle.flat_laws.specs.FlatForm.{flat_for}
 use Rattle.flat_items.specs.Pieces.{behind, for_loop}
-use Rattle.tree_views.specs.Views.{before}
-use Rattle.tree_views.proofs.Views.{section-first}
+use Rattle.c_tree.specs.Views.{before}
+use Rattle.c_tree.proofs.Views.{section-first}
 
 pub joined : (a b c : Forest) → join (join a b) c ≡ join a (join b c)
 joined Nil b c = refl

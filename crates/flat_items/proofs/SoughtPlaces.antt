@@ -4,7 +4,7 @@ use Rattle.std.proofs.lemmas.List.{drop_more}
 use Rattle.std.specs.BTreeMap.{get}
 use Rattle.std.specs.Option.{unwrap_or}
 use Rattle.std.specs.Ordering.{int_cmp}
-use Rattle.flat_core.specs.FlatForm.{same_number, place_of}
+use Rattle.flat_laws.specs.FlatForm.{same_number, place_of}
 use Rattle.flat_items.specs.declared.places.CasePlaces as P
 use Rattle.flat_items.specs.Places.{place_at}
 

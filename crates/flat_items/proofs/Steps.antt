@@ -7,13 +7,13 @@ use Rattle.c_tree.specs.Paths.{list_of}
 use Rattle.c_tree.specs.TestTrees.{TestTree, SelectorTree}
 use Rattle.c_tree.specs.Trees.{Tree, Forest, Then, Sections, NoSection, If, While, Do, For, Switch, Block, trees_of, sections_of, expression_trees, join}
 use Rattle.c_tree.proofs.TreeLaws.{join-nil}
-use Rattle.loose_core.specs.Pieces.{Aim, Names, mark_of, case_marks}
-use Rattle.loose_core.specs.Loose.{Arrivals, Arrives}
-use Rattle.flat_core.specs.Parts.{Here, past, past_item, inside}
-use Rattle.flat_core.specs.FlatForm.{Plan, flat, flat_item, flat_last, flat_last_item, flat_sections, end_goto, spread}
-use Rattle.flat_parts.proofs.EndLaws.{goes}
-use Rattle.tree_views.specs.Views.{tree_at, before}
-use Rattle.tree_views.proofs.Views.{trees-at, trees-end, sections-at, sections-end}
+use Rattle.flat_looser_laws.specs.Pieces.{Aim, Names, mark_of, case_marks}
+use Rattle.flat_looser_laws.specs.Loose.{Arrivals, Arrives}
+use Rattle.flat_laws.specs.Parts.{Here, past, past_item, inside}
+use Rattle.flat_laws.specs.FlatForm.{Plan, flat, flat_item, flat_last, flat_last_item, flat_sections, end_goto, spread}
+use Rattle.flat_questions.proofs.EndLaws.{goes}
+use Rattle.c_tree.specs.Views.{tree_at, before}
+use Rattle.c_tree.proofs.Views.{trees-at, trees-end, sections-at, sections-end}
 use Rattle.flat_items.specs.Forms.{entered_of, past_among, section_before, part_form}
 use Rattle.flat_items.specs.Pieces.{behind}
 use Rattle.flat_items.proofs.Joining.{joined, behind_behind, behind_none}

@@ -7,10 +7,10 @@ use Rattle.c_tree.specs.TestTrees.{TestTree, SelectorTree}
 use Rattle.c_tree.specs.Trees.{Forest, Nil, Then, Sections, NoSection, Section, While, Do, Switch, expression_trees, trees_of, join}
 use Rattle.c_tree.specs.declared.tree.Section as Real
 use Rattle.jump_meaning.specs.Step.{switch_kind}
-use Rattle.loose_core.specs.Pieces.{Aim, Names, mark_of, case_marks}
-use Rattle.loose_core.specs.Loose.{Arrivals, NoArrival, Arrives}
-use Rattle.flat_core.specs.Parts.{Here, Ending, Breaks, holds_jump, kept_breaks, ending, ends_then, constructs_of, cases_of, variables_of, inside}
-use Rattle.flat_core.specs.FlatForm.{Plan, aim, is_jumpy_switch, scatter_aim, names_of, dissolved, initialised, if_breaks, end_goto, flat_loop, flat_for, flat, flat_last, flat_sections, spread}
+use Rattle.flat_looser_laws.specs.Pieces.{Aim, Names, mark_of, case_marks}
+use Rattle.flat_looser_laws.specs.Loose.{Arrivals, NoArrival, Arrives}
+use Rattle.flat_laws.specs.Parts.{Here, Ending, Breaks, holds_jump, kept_breaks, ending, ends_then, constructs_of, cases_of, variables_of, inside}
+use Rattle.flat_laws.specs.FlatForm.{Plan, aim, is_jumpy_switch, scatter_aim, names_of, dissolved, initialised, if_breaks, end_goto, flat_loop, flat_for, flat, flat_last, flat_sections, spread}
 
 -- inside a construct that has no case labels and variables of its own
 abbrev pub entered_of : Here → Here

@@ -3,7 +3,7 @@ use Rattle.std.specs.Prelude.{ℕ, ℤ, ◌≡◌, List, Option, Some, None}
 use Rattle.std.specs.BTreeMap.{get}
 use Rattle.std.specs.Option.{unwrap_or}
 use Rattle.std.specs.Ordering.{int_cmp}
-use Rattle.flat_core.specs.FlatForm.{place_of}
+use Rattle.flat_laws.specs.FlatForm.{place_of}
 use Rattle.flat_items.specs.declared.places.CasePlaces as P
 
 -- the place of a number; what is none, as that of a case that is no constant, comes behind

@@ -3,11 +3,11 @@ use Rattle.std.specs.Prelude.{ℕ, ◌+◌, ◌*◌, ℤ, Option, Some, None, ge
 use Rattle.std.specs.Option.{option_map_or}
 use Rattle.c_tree.specs.Cases.{case_number}
 use Rattle.c_tree.specs.Numerals.{constant}
-use Rattle.loose_core.specs.Pieces.{Aim, Stays, Becomes, Absent, Names}
-use Rattle.loose_core.specs.Loose.{Arrivals, NoArrival, Arrives}
-use Rattle.flat_core.specs.Parts.{Here}
-use Rattle.flat_core.specs.FlatForm.{Plan, place_of}
-use Rattle.flat_parts.specs.Reading.{is_flagged}
+use Rattle.flat_looser_laws.specs.Pieces.{Aim, Stays, Becomes, Absent, Names}
+use Rattle.flat_looser_laws.specs.Loose.{Arrivals, NoArrival, Arrives}
+use Rattle.flat_laws.specs.Parts.{Here}
+use Rattle.flat_laws.specs.FlatForm.{Plan, place_of}
+use Rattle.flat_questions.specs.Reading.{is_flagged}
 use Rattle.flat_items.specs.declared.plans.Places as P
 use Rattle.flat_items.specs.declared.plans.Plan as L
 use Rattle.flat_items.specs.declared.plans.Here as H

@@ -5,9 +5,9 @@ ghost use Rattle.c_tree.specs.ExpressionTrees.{expression_tree};
 ghost use Rattle.c_tree.specs.TestTrees.{selector_tree};
 ghost use Rattle.c_tree.specs.Trees.{Evaluate, Goto, Then, expression_trees, trees_of, sections_of, join};
 ghost use Rattle.jump_meaning.specs.Step.{switch_kind as the_switch_kind};
-ghost use Rattle.loose_core.specs.Pieces.{assign_number, case_marks};
-ghost use Rattle.flat_core.specs.Parts.{switch_labels, cases_among};
-ghost use Rattle.flat_core.specs.FlatForm.{arrival, otherwise_label as the_otherwise_label};
+ghost use Rattle.flat_looser_laws.specs.Pieces.{assign_number, case_marks};
+ghost use Rattle.flat_laws.specs.Parts.{switch_labels, cases_among};
+ghost use Rattle.flat_laws.specs.FlatForm.{arrival, otherwise_label as the_otherwise_label};
 ghost use Rattle.flat_items.specs.Pieces.{number_test, number_tests};
 ghost use Rattle.flat_items.specs.Plans.{arrivals_of, case_names, number_label, plan_of, here_of};
 
@@ -18,7 +18,7 @@ use crate::values::{assignment, case_test};
 use c_copies::{copy_expression, copy_option};
 use c_tree::{Expression, Item, Section, Selector};
 use c_types::{IntKind, List, Memory};
-use flat_parts::{case_number, case_numbers, selector_source, switch_has_default, switch_kind};
+use flat_questions::{case_number, case_numbers, selector_source, switch_has_default, switch_kind};
 use std::alloc::Global;
 
 /// No scattered switch.

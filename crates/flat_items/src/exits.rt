@@ -1,15 +1,15 @@
 ghost use Rattle.std.specs.Prelude.{◌≡◌, true, IfOk};
 ghost use Rattle.c_tree.specs.Exits.{breaks, continues};
 ghost use Rattle.c_tree.specs.Trees.{trees_of, sections_of};
-ghost use Rattle.flat_core.specs.Parts.{holds_jump as the_holds_jump, kept_breaks, ends_then as the_ends_then};
-ghost use Rattle.flat_core.specs.FlatForm.{aim as the_aim, is_moved as the_is_moved, is_jumpy_switch as the_is_jumpy_switch, scatter_aim as the_scatter_aim};
-ghost use Rattle.flat_parts.specs.Reading.{ending_as};
+ghost use Rattle.flat_laws.specs.Parts.{holds_jump as the_holds_jump, kept_breaks, ends_then as the_ends_then};
+ghost use Rattle.flat_laws.specs.FlatForm.{aim as the_aim, is_moved as the_is_moved, is_jumpy_switch as the_is_jumpy_switch, scatter_aim as the_scatter_aim};
+ghost use Rattle.flat_questions.specs.Reading.{ending_as};
 ghost use Rattle.flat_items.specs.Plans.{aim_of, plan_of, here_of};
 
 use crate::plans::{Aim, Here, Plan, Scope, break_label, continue_label};
 use c_tree::{Item, Section};
 use c_types::{List, Memory};
-use flat_parts::{
+use flat_questions::{
     Ending, has_break, has_continue, holds_jump, keeps_break, leaves, sections_have_continue,
     sections_hold_jump,
 };

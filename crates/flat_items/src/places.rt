@@ -1,7 +1,7 @@
 ghost use Rattle.std.specs.Prelude.{◌≡◌, ◌≤◌, ℤ, [], Some, cond, length, IfOk, OnOk};
 ghost use Rattle.std.specs.BTreeMap.{get};
 ghost use Rattle.std.specs.Ordering.{int_cmp};
-ghost use Rattle.flat_core.specs.FlatForm.{same_number, place_of as the_place_of};
+ghost use Rattle.flat_laws.specs.FlatForm.{same_number, place_of as the_place_of};
 ghost use Rattle.flat_items.specs.Places.{place_at, ArePlaces};
 
 use c_types::{List, Memory};

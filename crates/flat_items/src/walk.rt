@@ -4,15 +4,15 @@ ghost use Rattle.c_tree.specs.ExpressionTrees.{expression_tree};
 ghost use Rattle.c_tree.specs.Paths.{list_of};
 ghost use Rattle.c_tree.specs.TestTrees.{test_tree, selector_tree};
 ghost use Rattle.c_tree.specs.Trees.{If, While, Do, Switch, Goto, Break, Continue, NoSection, expression_trees, trees_of, sections_of, join};
-ghost use Rattle.loose_core.specs.Loose.{NoArrival};
-ghost use Rattle.loose_core.specs.Pieces.{Stays};
-ghost use Rattle.flat_core.specs.Parts.{Breaks, is_scattered as the_is_scattered, ending, ending_of, past, past_item};
-ghost use Rattle.flat_core.specs.FlatForm.{mark_if, arrival, exit, first_here, flat, flat_item, flat_last, flat_last_item, flat_sections, spread};
-ghost use Rattle.flat_parts.specs.Reading.{ending_as};
+ghost use Rattle.flat_looser_laws.specs.Loose.{NoArrival};
+ghost use Rattle.flat_looser_laws.specs.Pieces.{Stays};
+ghost use Rattle.flat_laws.specs.Parts.{Breaks, is_scattered as the_is_scattered, ending, ending_of, past, past_item};
+ghost use Rattle.flat_laws.specs.FlatForm.{mark_if, arrival, exit, first_here, flat, flat_item, flat_last, flat_last_item, flat_sections, spread};
+ghost use Rattle.flat_questions.specs.Reading.{ending_as};
 ghost use Rattle.flat_items.specs.Forms.{is_breaks, with_parts, entered_of, past_among, while_form, do_form, for_form, kept_form, scattered_form, section_form, section_before, part_form, local_form};
 ghost use Rattle.flat_items.specs.Pieces.{behind};
 ghost use Rattle.flat_items.specs.Plans.{aim_of, plan_of, here_of, arrivals_of, case_names};
-ghost use Rattle.tree_views.specs.Views.{tree_at};
+ghost use Rattle.c_tree.specs.Views.{tree_at};
 
 use crate::cases::{add_arrival, add_case_marks, add_choice, cases_of, no_cases};
 use crate::exits::{ends_then, is_jumpy, is_jumpy_switch, loop_scope, scatter_aim, switch_aim};
@@ -24,7 +24,7 @@ use crate::plans::{Aim, Cases, Here, Plan, Scope, entered, source_label};
 use c_copies::copy_expressions;
 use c_tree::{Expression, Item, Section, Selector, Test};
 use c_types::{List, Memory};
-use flat_parts::{Ending, ends_by, is_flagged, is_scattered, kept_length};
+use flat_questions::{Ending, ends_by, is_flagged, is_scattered, kept_length};
 use std::alloc::Global;
 
 /// A list of the flat form, and the numbers of what comes behind it.

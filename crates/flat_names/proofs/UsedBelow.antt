@@ -13,7 +13,7 @@ use Rattle.std.proofs.lemmas.Slice.Eq.{bytes_eq-Decides}
 use Rattle.c_types.specs.Words.{name_cmp}
 use Rattle.c_copies.specs.Names.{has_name, with_name}
 use Rattle.c_copies.proofs.Rising.{has_name-with_name}
-use Rattle.fresh_names.specs.Fresh.{numbered}
+use Rattle.c_fresh_names.specs.Fresh.{numbered}
 use Rattle.flat_names.specs.Numbers.{Numbers, found, or_first, with_number, IsUsedBelow, AreUsedBelow}
 
 -- ---- the map

@@ -9,8 +9,8 @@ use Rattle.c_tree.specs.Trees.{Tree, Forest, Nil, Then, Sections, NoSection, Sec
 use Rattle.c_tree.specs.TestTrees.{SelectorTree}
 use Rattle.c_copies.specs.Names.{has_name, with_name, with_names}
 use Rattle.jump_meaning.specs.Step.{switch_kind}
-use Rattle.flat_core.specs.Parts.{is_scattered, switch_labels, cases_among, has_default, leaves}
-use Rattle.fresh_names.specs.Fresh.{numbered, fresh}
+use Rattle.flat_laws.specs.Parts.{is_scattered, switch_labels, cases_among, has_default, leaves}
+use Rattle.c_fresh_names.specs.Fresh.{numbered, fresh}
 use Rattle.flat_names.specs.declared.giving.Made.{Made}
 use Rattle.flat_names.specs.declared.labels.Label.{Label}
 use Rattle.flat_names.specs.declared.labels.Label.TheVariants.{OfSource, OfBreak, OfContinue, OfDefault, OfCase}

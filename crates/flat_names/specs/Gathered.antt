@@ -2,7 +2,7 @@
 use Rattle.std.specs.Prelude.{ℕ, ◌≡◌, List}
 use Rattle.c_tree.specs.declared.tree.Slot.{Slot}
 use Rattle.c_copies.specs.Names.{with_names}
-use Rattle.fresh_names.specs.declared.used.UsedNames.{UsedNames}
+use Rattle.c_fresh_names.specs.declared.used.UsedNames.{UsedNames}
 use Rattle.flat_names.specs.declared.giving.GivenNames.{GivenNames}
 use Rattle.flat_names.specs.declared.whole.ProgramNames.{ProgramNames}
 use Rattle.flat_names.specs.FlatNames.{Given, Named, with_known}

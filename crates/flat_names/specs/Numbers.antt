@@ -4,7 +4,7 @@ use Rattle.std.specs.BTreeMap.{insert_entry}
 use Rattle.std.specs.List.{AllByRecursion}
 use Rattle.std.specs.Str.{bytes_eq}
 use Rattle.c_types.specs.Words.{name_cmp}
-use Rattle.fresh_names.specs.Runs.{AreUsedFrom}
+use Rattle.c_fresh_names.specs.Runs.{AreUsedFrom}
 
 -- names in byte order, each with a number
 abbrev pub Numbers : Type 0

@@ -2,13 +2,13 @@ ghost use Rattle.std.specs.Prelude.{◌≡◌, ◌++◌, ◌∷◌, length, IfOk
 ghost use Rattle.c_tree.specs.TestTrees.{selector_tree};
 ghost use Rattle.c_tree.specs.Trees.{trees_of, sections_of};
 ghost use Rattle.jump_meaning.specs.Step.{switch_kind as the_switch_kind};
-ghost use Rattle.flat_core.specs.Parts.{switch_labels, cases_among, has_default, leaves as the_leaves};
+ghost use Rattle.flat_laws.specs.Parts.{switch_labels, cases_among, has_default, leaves as the_leaves};
 ghost use Rattle.flat_names.specs.FlatNames.{switch_construct as the_switch_construct, constructs as the_constructs, constructs_in, constructs_among};
-ghost use Rattle.tree_views.specs.Views.{tree_at};
+ghost use Rattle.c_tree.specs.Views.{tree_at};
 
 use c_tree::{Item, Section, Selector};
 use c_types::{IntKind, List, Memory};
-use flat_parts::{case_numbers, is_scattered, leaves, switch_has_default, switch_kind};
+use flat_questions::{case_numbers, is_scattered, leaves, switch_has_default, switch_kind};
 use std::alloc::Global;
 
 /// A loop or switch, as far as names go.

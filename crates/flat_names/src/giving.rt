@@ -1,13 +1,13 @@
 ghost use Rattle.std.specs.Prelude.{◌≡◌, ◌+◌, ◌<◌, ◌≤◌, ◌^◌, length, IfOk, OnOk};
 ghost use Rattle.c_copies.specs.Names.{with_name};
-ghost use Rattle.fresh_names.specs.Fresh.{fresh as the_fresh};
+ghost use Rattle.c_fresh_names.specs.Fresh.{fresh as the_fresh};
 ghost use Rattle.flat_names.specs.Gathered.{all_used, given_of};
 ghost use Rattle.flat_names.specs.FlatNames.{name_variable as the_name_variable, name_case as the_name_case, name_cases as the_name_cases, name_default as the_name_default, name_break as the_name_break, name_construct as the_name_construct, name_constructs as the_name_constructs};
 
 use crate::constructs::Construct;
 use c_tree::Slot;
 use c_types::{IntKind, List, Memory, Name};
-use fresh_names::{UsedNames, numbered};
+use c_fresh_names::{UsedNames, numbered};
 use std::alloc::Global;
 
 /// The names that were given so far.

@@ -1,12 +1,12 @@
 ghost use Rattle.std.specs.Prelude.{◌≡◌, ◌+◌, ◌≤◌, [], None, get_or, length, IfOk, OnOk};
 ghost use Rattle.c_copies.specs.Names.{with_name};
-ghost use Rattle.fresh_names.specs.Fresh.{numbered as the_numbered, fresh as the_fresh};
+ghost use Rattle.c_fresh_names.specs.Fresh.{numbered as the_numbered, fresh as the_fresh};
 ghost use Rattle.flat_names.specs.Gathered.{all_used};
 ghost use Rattle.flat_names.specs.FlatNames.{Gets, label_of as the_label_of, named_or, naming, chosen, used_then, label_names as the_label_names};
 
 use crate::giving::Made;
 use c_types::{List, Memory, Name};
-use fresh_names::{UsedNames, numbered};
+use c_fresh_names::{UsedNames, numbered};
 use std::alloc::Global;
 
 /// Which label a code is.

@@ -2,12 +2,12 @@
 
 ghost use Rattle.std.specs.Prelude.{◌≡◌, [], IfOk, OnOk};
 ghost use Rattle.std.specs.Option.{option_copied};
-ghost use Rattle.fresh_names.specs.Fresh.{fresh as the_fresh};
+ghost use Rattle.c_fresh_names.specs.Fresh.{fresh as the_fresh};
 ghost use Rattle.flat_names.specs.Gathered.{all_used};
 ghost use Rattle.flat_names.specs.Numbers.{found, or_first, with_number, AreUsedBelow};
 
 use c_types::{Memory, Name};
-use fresh_names::UsedNames;
+use c_fresh_names::UsedNames;
 use std::alloc::Global;
 use std::collections::BTreeMap;
 use std::marker::Model;

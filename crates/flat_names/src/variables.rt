@@ -1,6 +1,6 @@
 ghost use Rattle.std.specs.Prelude.{◌≡◌, ◌++◌, ◌∷◌, [], ◌≤◌, cond, length, IfOk, OnOk};
 ghost use Rattle.c_copies.specs.Names.{has_name, with_name};
-ghost use Rattle.fresh_names.specs.Fresh.{fresh as the_fresh};
+ghost use Rattle.c_fresh_names.specs.Fresh.{fresh as the_fresh};
 ghost use Rattle.flat_names.specs.Gathered.{all_used, named_of};
 ghost use Rattle.flat_names.specs.Numbers.{AreUsedBelow};
 ghost use Rattle.flat_names.specs.FlatNames.{variable_name as the_variable_name, slot_named, slot_taken, slot_used, named_slots, renamed as the_renamed};
@@ -9,7 +9,7 @@ use crate::numbers::{NextNumbers, fresh_beside};
 use c_copies::copy_slot;
 use c_tree::Slot;
 use c_types::{List, Memory, Name};
-use fresh_names::UsedNames;
+use c_fresh_names::UsedNames;
 use std::alloc::Global;
 
 fn renamed(slot: &Slot, name: Name) -> Slot

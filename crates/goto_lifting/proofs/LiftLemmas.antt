@@ -13,7 +13,7 @@ use Rattle.c_tree.specs.Lift.{lifted, CanLift}
 use Rattle.c_tree.specs.Trees.{tree_of}
 use Rattle.label_offsets.specs.Marks.{label_at}
 use Rattle.label_offsets.proofs.MarkLaws.{same_label, item_of_list}
-use Rattle.list_edits.proofs.CutLemmas.{set_lap}
+use Rattle.move_list_edits.proofs.CutLemmas.{set_lap}
 use Rattle.goto_lifting.specs.Lifting.{IsHeldBefore}
 
 -- S, T, Leap in a list

@@ -4,13 +4,13 @@ ghost use Rattle.c_tree.specs.Labels.{lands_inside};
 ghost use Rattle.c_tree.specs.Lift.{lifted, lifted_at, CanLift};
 ghost use Rattle.c_tree.specs.Trees.{tree_of, trees_of};
 ghost use Rattle.c_tree.specs.WellMade.{IsWellMade};
-ghost use Rattle.move_core.specs.Laws.{Keeps};
+ghost use Rattle.move_laws.specs.MoveRuleLaws.{Keeps};
 ghost use Rattle.goto_lifting.specs.Lifting.{IsHeldBefore, IsLifted};
 
 use c_tree::{Branch, Item, Path, Step, Test, find_list, replace_at};
 use c_types::{List, Memory};
 use label_offsets::{holds, label_at, path_into};
-use list_edits::{cut, set_at};
+use move_list_edits::{cut, set_at};
 use std::alloc::Global;
 
 /// S, T, Leap, with S at `place`, become a `do` that begins with the Leap.

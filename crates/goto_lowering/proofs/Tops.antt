@@ -4,7 +4,7 @@ use Rattle.std.proofs.lemmas.List.{append-nil}
 use Rattle.c_tree.specs.declared.tree.Top.{Top}
 use Rattle.c_tree.specs.declared.tree.Program.{Program}
 use Rattle.c_copies.specs.Names.{names, file_names}
-use Rattle.lowered_forms.specs.Lowering.{LoweredTops, lt_none, lt_more, top_gotos, tops_gotos, most_held, IsLoweredProgram}
+use Rattle.lower_laws.specs.Lowering.{LoweredTops, lt_none, lt_more, top_gotos, tops_gotos, most_held, IsLoweredProgram}
 use Rattle.goto_lowering.specs.Tops.{IsNext}
 
 -- whatever the rest is lowered to stands behind what is there

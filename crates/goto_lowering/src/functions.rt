@@ -1,13 +1,13 @@
 ghost use Rattle.std.specs.Prelude.{◌≡◌, None, IfOk};
 ghost use Rattle.c_tree.specs.InRange.{body_of};
-ghost use Rattle.lowered_core.specs.Lowered.{gotos};
-ghost use Rattle.lowered_forms.specs.Lowering.{IsBodyLowered, IsLoweredBeside};
+ghost use Rattle.lower_laws.specs.Lowered.{gotos};
+ghost use Rattle.lower_laws.specs.Lowering.{IsBodyLowered, IsLoweredBeside};
 
 use c_tree::{Function, Item};
 use c_types::{List, Memory};
-use flat_counts::gotos_in;
+use flat_form::gotos_in;
 use flat_names::{FlatNames, ProgramNames};
-use flat_parts::named_labels;
+use flat_questions::named_labels;
 use lowered_bodies::{LoweredBody, lower_body};
 use lowered_items::Plan;
 use lowered_names::{constructs, name_lowered};

@@ -1,10 +1,10 @@
 ghost use Rattle.std.specs.Prelude.{◌≡◌, ◌++◌, ◌∷◌, [], ◌+◌, List as Several, ℕ, IfOk, OnOk};
 ghost use Rattle.flat_names.specs.Gathered.{AreGathered};
 ghost use Rattle.jump_meaning.specs.Runs.{BehaveTheSame};
-ghost use Rattle.resolved_core.specs.Counts.{IsResolved};
+ghost use Rattle.c_resolved_laws.specs.Counts.{IsResolved};
 ghost use Rattle.goto_lowering.specs.Tops.{IsNext};
-ghost use Rattle.lowered_programs.specs.Expressions.{KeepsExpressions};
-ghost use Rattle.lowered_forms.specs.Lowering.{LoweredTops as AreLowered, IsTopLowered, IsLoweredProgram, top_gotos, tops_gotos, program_gotos};
+ghost use Rattle.lower_result_laws.specs.Expressions.{KeepsExpressions};
+ghost use Rattle.lower_laws.specs.Lowering.{LoweredTops as AreLowered, IsTopLowered, IsLoweredProgram, top_gotos, tops_gotos, program_gotos};
 
 use crate::functions::{LoweredFunction, lower_function};
 use c_copies::{file_names, names};

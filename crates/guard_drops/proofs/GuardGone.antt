@@ -18,7 +18,7 @@ use Rattle.c_tree.specs.Trees.{Tree, Forest, Nil, Then, Sections, NoSection, Sec
 use Rattle.c_tree.specs.Trees as P
 use Rattle.c_tree.proofs.TreeLaws.{tree-If, tree-While, tree-Do, tree-For, tree-Switch, tree-Block, tree-Arm, tree-Evaluate, section-parts}
 use Rattle.c_tree.proofs.ChangeLemmas.{layer_tree, tree-out, first, section-with}
-use Rattle.unread_guards.specs.Drops.{dropped, dropped_item, dropped_sections}
+use Rattle.move_laws.specs.Drops.{dropped, dropped_item, dropped_sections}
 use Rattle.guard_drops.specs.Goes.{goes_F, goes, IsWithoutGuard}
 
 -- ---- one item

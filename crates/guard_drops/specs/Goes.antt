@@ -5,7 +5,7 @@ use Rattle.c_tree.specs.declared.tree.Item.TheOpen.{Arm, Land}
 use Rattle.c_tree.specs.declared.tree.Section.{Section}
 use Rattle.c_tree.specs.Paths.{list_of, with_list}
 use Rattle.c_tree.specs.Trees.{trees_of}
-use Rattle.unread_guards.specs.Drops.{dropped}
+use Rattle.move_laws.specs.Drops.{dropped}
 
 -- whether the item is a Land of the guard, or an Arm of it without condition; by its one layer
 abbrev pub goes_F : ℕ → Item-F Item Section → Bool

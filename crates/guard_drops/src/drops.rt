@@ -2,7 +2,7 @@ ghost use Rattle.std.specs.Prelude.{◌≡◌, eqb, false, Some, None};
 ghost use Rattle.c_tree.specs.declared.tree.Item.{Arm};
 ghost use Rattle.c_tree.specs.Changed.{one};
 ghost use Rattle.c_tree.specs.Trees.{tree_of, trees_of, sections_of};
-ghost use Rattle.unread_guards.specs.Drops.{dropped, dropped_item, dropped_sections};
+ghost use Rattle.move_laws.specs.Drops.{dropped, dropped_item, dropped_sections};
 ghost use Rattle.guard_drops.specs.Goes.{goes as the_goes, IsWithoutGuard};
 
 use c_tree::{Expression, Item, Section};

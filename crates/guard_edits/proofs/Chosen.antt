@@ -4,7 +4,7 @@ use Rattle.std.proofs.lemmas.Option.{slice_get_within}
 use Rattle.c_tree.specs.declared.tree.Item.{Item}
 use Rattle.c_tree.specs.Paths.{list_at}
 use Rattle.c_tree.specs.Trees.{tree_of, trees_of}
-use Rattle.move_records.specs.declared.moves.MoveKind.TheVariants.{Z5}
+use Rattle.report_moves.specs.declared.moves.MoveKind.TheVariants.{Z5}
 use Rattle.guard_simplify.specs.declared.choice.Choice.{Choice}
 use Rattle.guard_simplify.specs.Choice.{Among, choices, barred}
 use Rattle.guard_simplify.proofs.Members.{OwnAt, Located, located}

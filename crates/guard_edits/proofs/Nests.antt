@@ -9,8 +9,8 @@ use Rattle.c_tree.specs.TestTrees.{test_tree}
 use Rattle.c_tree.specs.Trees.{Nil, Then, tree_of, trees_of}
 use Rattle.c_tree.specs.Trees as P
 use Rattle.c_tree.proofs.TreeLaws.{tree-If, trees-more, trees-none}
-use Rattle.move_records.specs.declared.moves.MoveKind.TheVariants.{Z4}
-use Rattle.simpler_core.specs.Simplifications.{round}
+use Rattle.report_moves.specs.declared.moves.MoveKind.TheVariants.{Z4}
+use Rattle.move_laws.specs.Simplifications.{round}
 use Rattle.guard_simplify.specs.Application.{edited, unnested}
 use Rattle.guard_simplify.specs.Choice.{is_nil, is_off, is_nested}
 use Rattle.guard_simplify.specs.Views.{made_if_F, one_if, nested_F}

@@ -10,7 +10,7 @@ use Rattle.c_tree.specs.TestTrees.{test_tree}
 use Rattle.c_tree.specs.Trees.{Then, tree_of, trees_of}
 use Rattle.c_tree.specs.Trees as P
 use Rattle.c_tree.proofs.TreeLaws.{tree-If, trees-append}
-use Rattle.move_records.specs.declared.moves.MoveKind.TheVariants.{Z3}
+use Rattle.report_moves.specs.declared.moves.MoveKind.TheVariants.{Z3}
 use Rattle.guard_simplify.specs.Application.{edited, joined}
 use Rattle.guard_simplify.specs.Choice.{neighbours}
 use Rattle.guard_simplify.specs.Views.{guard_F, guard, beside, next_guard, arms_item}

@@ -9,7 +9,7 @@ use Rattle.c_tree.specs.TestTrees.{test_tree, selector_tree}
 use Rattle.c_tree.specs.Trees as P
 use Rattle.c_tree.proofs.TreeLaws.{tree-If, tree-While, tree-Do, tree-Switch}
 use Rattle.c_tree.specs.Trees.{Tree, Then, tree_of, trees_of, sections_of}
-use Rattle.move_records.specs.declared.moves.MoveKind.TheVariants.{Z1, Z2}
+use Rattle.report_moves.specs.declared.moves.MoveKind.TheVariants.{Z1, Z2}
 use Rattle.guard_simplify.specs.Application.{edited, shortened, without, without_pick, without_repeat, without_repeat_pick}
 use Rattle.guard_simplify.specs.declared.choice.Repeat.{Repeat}
 use Rattle.guard_simplify.specs.Choice.{repeat_of}

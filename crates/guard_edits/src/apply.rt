@@ -2,7 +2,7 @@
 
 ghost use Rattle.std.specs.Prelude.{◌≡◌, ◌≢◌, ◌<◌, OnOk, OnErr, length};
 ghost use Rattle.c_tree.specs.Trees.{trees_of};
-ghost use Rattle.move_records.specs.declared.moves.MoveKind.TheVariants.{Z5};
+ghost use Rattle.report_moves.specs.declared.moves.MoveKind.TheVariants.{Z5};
 ghost use Rattle.guard_simplify.specs.Choice.{Among, choices};
 ghost use Rattle.guard_simplify.specs.Application.{edited, IsEdited};
 ghost use Rattle.guard_edits.specs.Built.{MayEdit};
@@ -11,7 +11,7 @@ use crate::edits::{join_items, remove_item, shorten_item, unnest_item};
 use c_tree::{Item, replace_at};
 use c_types::{List, Memory};
 use guard_simplify::Choice;
-use move_records::MoveKind;
+use report_moves::MoveKind;
 use std::alloc::Global;
 
 /// Makes it in a list.

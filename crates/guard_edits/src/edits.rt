@@ -2,7 +2,7 @@
 
 ghost use Rattle.std.specs.Prelude.{◌≡◌, ◌<◌, OnOk, OnErr, Some, length, slice_get};
 ghost use Rattle.c_tree.specs.Trees.{tree_of, trees_of};
-ghost use Rattle.move_records.specs.declared.moves.MoveKind.TheVariants.{Z1, Z2, Z3, Z4};
+ghost use Rattle.report_moves.specs.declared.moves.MoveKind.TheVariants.{Z1, Z2, Z3, Z4};
 ghost use Rattle.guard_simplify.specs.Application.{shortened, edited};
 ghost use Rattle.guard_simplify.specs.Views.{repeat_in};
 ghost use Rattle.guard_edits.specs.Built.{ArePair, IsNest, IsUnnested};

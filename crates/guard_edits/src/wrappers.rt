@@ -2,7 +2,7 @@
 
 ghost use Rattle.std.specs.Prelude.{◌≡◌};
 ghost use Rattle.c_tree.specs.TestTrees.{test_tree, selector_tree};
-ghost use Rattle.simpler_core.specs.Simplifications.{round};
+ghost use Rattle.move_laws.specs.Simplifications.{round};
 ghost use Rattle.guard_simplify.specs.Application.{without, without_pick};
 
 use c_tree::{Expression, Node, Selector, Test};

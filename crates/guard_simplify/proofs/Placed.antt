@@ -12,8 +12,8 @@ use Rattle.c_tree.specs.Trees.{Tree, Forest, SectionTree, tree_of, trees_of, sec
 use Rattle.c_tree.proofs.TreeLaws.{section-parts}
 use Rattle.c_tree.proofs.ChangeLemmas.{layer_tree, tree-out}
 use Rattle.c_tree.proofs.PathLemmas.{map_some, stepped}
-use Rattle.move_records.specs.declared.moves.MoveKind.{MoveKind}
-use Rattle.move_records.specs.declared.moves.MoveKind.TheVariants.{Z1, Z2, Z3, Z4, Z5}
+use Rattle.report_moves.specs.declared.moves.MoveKind.{MoveKind}
+use Rattle.report_moves.specs.declared.moves.MoveKind.TheVariants.{Z1, Z2, Z3, Z4, Z5}
 use Rattle.guard_simplify.specs.declared.choice.Choice.{Choice}
 use Rattle.guard_simplify.specs.declared.choice.Repeat.{Repeat}
 use Rattle.guard_simplify.specs.Choice.{Among, if_true, if_some, own, under_one, under, choices_from, choices_in, choices_of_sections, choices, barred, is_empty_if, repeat_of, repeat_label, neighbours, is_nested, unread_guard}

@@ -30,8 +30,8 @@ use Rattle.c_tree.proofs.TreeLaws.{trees-none, trees-more, sections-none, sectio
 use Rattle.c_tree.proofs.ChangeLemmas.{layer_tree, tree-out}
 use Rattle.guard_simplify.specs.declared.choice.Choice.{Choice}
 use Rattle.guard_simplify.specs.declared.choice.Repeat.{Repeat}
-use Rattle.move_records.specs.declared.moves.MoveKind.{MoveKind}
-use Rattle.move_records.specs.declared.moves.MoveKind.TheVariants.{Z1, Z2, Z3, Z4, Z5}
+use Rattle.report_moves.specs.declared.moves.MoveKind.{MoveKind}
+use Rattle.report_moves.specs.declared.moves.MoveKind.TheVariants.{Z1, Z2, Z3, Z4, Z5}
 use Rattle.guard_simplify.specs.Own.{choice_at, else_label, else_repeat, own_at}
 use Rattle.guard_simplify.specs.Choice.{first, if_true, if_some, repeat_label, has, is_off_of, inside, repeat, repeat_pick, is_nil, is_made, is_off, is_empty_if, is_made_if, is_one_if, is_nested, arms, arms_of, arms_in, barred, barred_of, barred_in, ends_in_call, unread_guard, own, under_one, under, choices_from, choices_in, choices_of_sections, neighbours, joins_next, repeat_of}
 use Rattle.guard_simplify.specs.Views.{empty_if_F, empty_if, repeat_F, repeat_in, off_label_F, off_label, guard_F, guard, made_if_F, one_if, nested_F, nested, arms_F, arms_item, bars_F, bars_item, unread_F, unread, inside_F, inside_item, beside, next_guard}

@@ -4,10 +4,10 @@ use Rattle.c_tree.specs.declared.tree.Item.{Item}
 use Rattle.c_tree.specs.Paths.{list_at, put_at}
 use Rattle.c_tree.specs.TestTrees.{TestTree, AndOff, OrOn, SelectorTree, Pick}
 use Rattle.c_tree.specs.Trees.{Tree, Forest, Nil, Then, If, While, Do, Switch, join, trees_of}
-use Rattle.simpler_core.specs.Simplifications.{round}
-use Rattle.unread_guards.specs.Drops.{dropped}
-use Rattle.move_records.specs.declared.moves.MoveKind.{MoveKind}
-use Rattle.move_records.specs.declared.moves.MoveKind.TheVariants.{Z1, Z2, Z3, Z4, Z5}
+use Rattle.move_laws.specs.Simplifications.{round}
+use Rattle.move_laws.specs.Drops.{dropped}
+use Rattle.report_moves.specs.declared.moves.MoveKind.{MoveKind}
+use Rattle.report_moves.specs.declared.moves.MoveKind.TheVariants.{Z1, Z2, Z3, Z4, Z5}
 use Rattle.guard_simplify.specs.declared.choice.Choice.{Choice}
 use Rattle.guard_simplify.specs.declared.choice.Repeat.{Repeat}
 use Rattle.guard_simplify.specs.Choice.{repeat, repeat_pick, choices, first}

@@ -3,7 +3,7 @@ use Rattle.std.specs.Prelude.{List}
 use Rattle.c_tree.specs.declared.tree.Item.{Item}
 use Rattle.c_tree.specs.Trees.{trees_of}
 use Rattle.c_tree.specs.WellMade.{IsWellMade}
-use Rattle.move_core.specs.Laws.{Keeps}
+use Rattle.move_laws.specs.MoveRuleLaws.{Keeps}
 use Rattle.guard_simplify.specs.declared.choice.Choice.{Choice}
 use Rattle.guard_simplify.specs.Choice.{Among, choices}
 use Rattle.guard_simplify.specs.Application.{IsApplied, Reaches}

@@ -1,7 +1,7 @@
 -- The simplifications of a body as the report names them.
 use Rattle.std.specs.Prelude.{ℕ, List, slice_get, map}
 use Rattle.std.specs.Option.{option_and_then}
-use Rattle.move_records.specs.declared.moves.Move.{Move}
+use Rattle.report_moves.specs.declared.moves.Move.{Move}
 use Rattle.guard_simplify.specs.declared.choice.Choice.{Choice}
 
 -- a simplification, with the name of the function f and that of its label among the labels of f

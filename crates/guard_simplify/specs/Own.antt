@@ -1,8 +1,8 @@
 -- The first simplification at an item itself.
 use Rattle.std.specs.Prelude.{ℕ, Bool, cond, [], Option, Some, None}
 use Rattle.c_tree.specs.declared.tree.Item.{Item}
-use Rattle.move_records.specs.declared.moves.MoveKind.{MoveKind}
-use Rattle.move_records.specs.declared.moves.MoveKind.TheVariants.{Z1, Z2, Z3, Z4, Z5}
+use Rattle.report_moves.specs.declared.moves.MoveKind.{MoveKind}
+use Rattle.report_moves.specs.declared.moves.MoveKind.TheVariants.{Z1, Z2, Z3, Z4, Z5}
 use Rattle.guard_simplify.specs.declared.choice.Choice.{Choice}
 use Rattle.guard_simplify.specs.declared.choice.Repeat.{Repeat}
 use Rattle.guard_simplify.specs.Views.{empty_if, repeat_in, guard, beside, next_guard, arms_item, nested, unread}

@@ -5,7 +5,7 @@ use Rattle.std.specs.Str.{bytes_eq}
 use Rattle.c_tree.specs.declared.tree.Function.{Function}
 use Rattle.c_copies.specs.Names.{has_name, with_name, with_names}
 use Rattle.c_copies.proofs.Rising.{has_name-with_name}
-use Rattle.fresh_names.proofs.NameSets.{in_either}
+use Rattle.c_fresh_names.proofs.NameSets.{in_either}
 use Rattle.guard_vars.specs.GuardNames.{guard_name, named_guards, guard_names, AreNew}
 
 pub length-named_guards : (used labels : List (List ℕ)) → length (named_guards used labels) ≡ length labels

@@ -3,7 +3,7 @@ use Rattle.std.specs.Prelude.{ℕ, ◌≡◌, false, List, [], ◌∷◌, ◌++�
 use Rattle.c_types.specs.Words.{known_functions}
 use Rattle.c_copies.specs.Names.{has_name, with_name, with_names, slots_names}
 use Rattle.c_tree.specs.declared.tree.Function.{Function}
-use Rattle.fresh_names.specs.Fresh.{fresh}
+use Rattle.c_fresh_names.specs.Fresh.{fresh}
 
 -- the name of a label's guard
 abbrev pub guard_name : List ℕ → List (List ℕ) → List ℕ

@@ -6,7 +6,7 @@ ghost use Rattle.guard_vars.specs.GuardNames.{guard_name as the_guard_name, name
 use c_copies::{add_names, add_slots};
 use c_tree::Function;
 use c_types::{List, Memory, Name};
-use fresh_names::UsedNames;
+use c_fresh_names::UsedNames;
 use std::alloc::Global;
 
 fn guard_name(alloc: Global, label: &Name, used: &UsedNames) -> Result<Name, Memory>

@@ -6,7 +6,7 @@ ghost use Rattle.c_tree.specs.Paths.{child as the_child, list_of, with_list};
 
 use c_tree::{Branch, Expression, Item, Node, Section, Selector, Test, child};
 use c_types::{Boxed, List, MOST, Memory};
-use list_edits::{and_off, or_on};
+use move_list_edits::{and_off, or_on};
 use std::alloc::Global;
 use std::mem;
 

@@ -6,7 +6,7 @@ ghost use Rattle.c_tree.specs.Outward.{HasBranch};
 ghost use Rattle.c_tree.specs.Paths.{child as the_child, list_at};
 ghost use Rattle.c_tree.specs.Trees.{trees_of};
 ghost use Rattle.c_tree.specs.WellMade.{IsWellMade};
-ghost use Rattle.move_core.specs.Bodies.{KeepsBehaviour};
+ghost use Rattle.move_laws.specs.Bodies.{KeepsBehaviour};
 ghost use Rattle.inward_moves.specs.Entering.{LeadsTo, IsHeldAfter, IsMovedIn};
 
 use crate::entering::{Spare, enter, make_spare};
@@ -15,7 +15,7 @@ use crate::numbers::number_for;
 use c_tree::{Branch, Item, Path, Step, find_list, replace_at};
 use c_types::{List, Memory};
 use label_offsets::{label_at, path_into};
-use list_edits::guard_between;
+use move_list_edits::guard_between;
 use std::alloc::Global;
 
 /// Where a Leap goes in: its label, the place of the item and the branch that lead to the Land, and

@@ -7,11 +7,11 @@ use Rattle.c_tree.specs.declared.tree.Item as I
 use Rattle.c_tree.specs.Numerals.{constant}
 use Rattle.c_tree.specs.Trees.{Tree, Forest, Nil, Then, Local, Goto, trees_of, join}
 use Rattle.c_tree.proofs.TreeLaws.{join-nil, trees-none}
-use Rattle.flat_core.specs.Parts.{is_named}
-use Rattle.flat_parts.specs.Reading.{is_flagged}
-use Rattle.lowered_core.specs.Lowered.{Layout, coded, declarations}
-use Rattle.tree_views.specs.Views.{tree_at}
-use Rattle.tree_views.proofs.Views.{trees-first, at-Goto}
+use Rattle.flat_laws.specs.Parts.{is_named}
+use Rattle.flat_questions.specs.Reading.{is_flagged}
+use Rattle.lower_laws.specs.Lowered.{Layout, coded, declarations}
+use Rattle.c_tree.specs.Views.{tree_at}
+use Rattle.c_tree.proofs.Views.{trees-first, at-Goto}
 use Rattle.flat_items.proofs.Joining.{one_more}
 use Rattle.lowered_items.specs.declared.plans.Plan as L
 use Rattle.lowered_items.specs.Plans.{layout_of}

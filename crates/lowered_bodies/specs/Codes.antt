@@ -3,10 +3,10 @@ use Rattle.std.specs.Prelude.{ℕ, List, length}
 use Rattle.c_tree.specs.declared.tree.Slot.{Slot}
 use Rattle.c_tree.specs.Numerals.{constant}
 use Rattle.c_tree.specs.Trees.{Forest}
-use Rattle.loose_core.specs.Loose.{NoArrival}
-use Rattle.loose_core.specs.Pieces.{Stays}
-use Rattle.flat_core.specs.FlatForm.{first_here, marks}
-use Rattle.lowered_core.specs.Lowered.{coded, lowered}
+use Rattle.flat_looser_laws.specs.Loose.{NoArrival}
+use Rattle.flat_looser_laws.specs.Pieces.{Stays}
+use Rattle.flat_laws.specs.FlatForm.{first_here, marks}
+use Rattle.lower_laws.specs.Lowered.{coded, lowered}
 
 -- in text order, of a body of a function with these variables
 abbrev pub codes_of : List Slot → Forest → List ℕ

@@ -3,7 +3,7 @@ ghost use Rattle.c_tree.specs.Trees.{trees_of};
 ghost use Rattle.flat_items.specs.Plans.{number_at};
 ghost use Rattle.lowered_bodies.specs.Renumbered.{renumbered_goto as the_renumbered_goto, renumbered_item, lone_goto as the_lone_goto};
 ghost use Rattle.lowered_items.specs.Jumps.{goto_of};
-ghost use Rattle.tree_views.specs.Views.{tree_at};
+ghost use Rattle.c_tree.specs.Views.{tree_at};
 
 use c_tree::Item;
 use c_types::{List, Memory};

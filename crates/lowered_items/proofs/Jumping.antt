@@ -3,9 +3,9 @@ use Rattle.std.proofs.Common.{◌≡◌, ℕ, ◌+◌, ◌<◌, ◌≤◌, Bool,
 use Rattle.std.proofs.lemmas.Bool.{false≢true}
 use Rattle.c_tree.specs.declared.tree.Item.{Item}
 use Rattle.c_tree.specs.Trees.{Tree, Forest, Then, Goto, Mark, trees_of}
-use Rattle.lowered_core.specs.Lowered.{is_bare, only_goto}
-use Rattle.tree_views.specs.Views.{tree_at}
-use Rattle.tree_views.proofs.Views.{trees-at, trees-end}
+use Rattle.lower_laws.specs.Lowered.{is_bare, only_goto}
+use Rattle.c_tree.specs.Views.{tree_at}
+use Rattle.c_tree.proofs.Views.{trees-at, trees-end}
 use Rattle.lowered_items.specs.Jumps.{goes, goto_of}
 
 module _ (live : ℕ → Bool) where

@@ -6,8 +6,8 @@ use Rattle.c_tree.specs.Changed.{one}
 use Rattle.c_tree.specs.declared.tree.Item.{Item}
 use Rattle.c_tree.specs.Trees.{Forest, trees_of, join}
 use Rattle.c_tree.proofs.TreeLaws.{join-nil, trees-none}
-use Rattle.tree_views.specs.Views.{tree_at}
-use Rattle.tree_views.proofs.Views.{trees-first}
+use Rattle.c_tree.specs.Views.{tree_at}
+use Rattle.c_tree.proofs.Views.{trees-first}
 use Rattle.flat_items.proofs.Joining.{one_more}
 
 -- what is left of a list that is empty

@@ -9,12 +9,12 @@ use Rattle.c_tree.specs.ExpressionTrees.{ExpressionTree}
 use Rattle.c_tree.specs.TestTrees.{TestTree, Source, SelectorTree}
 use Rattle.c_tree.specs.Trees.{Tree, Forest, Then, Sections, Evaluate, If, While, Do, Switch, Local, Goto, Mark, join}
 use Rattle.jump_meaning.specs.Step.{switch_kind}
-use Rattle.loose_core.specs.Pieces.{Aim, mark_of, third_items, assign_number, tests_among}
-use Rattle.loose_core.specs.Loose.{Arrivals}
-use Rattle.flat_core.specs.Parts.{Here}
-use Rattle.flat_core.specs.FlatForm.{names_of}
-use Rattle.lowered_core.specs.Straight.{jump_if}
-use Rattle.lowered_core.specs.Lowered.{past, inside, jump_of, lowered, lowered_if, lowered_for, for_aim, continue_aim, break_aim, lowered_item, lowered_among}
+use Rattle.flat_looser_laws.specs.Pieces.{Aim, mark_of, third_items, assign_number, tests_among}
+use Rattle.flat_looser_laws.specs.Loose.{Arrivals}
+use Rattle.flat_laws.specs.Parts.{Here}
+use Rattle.flat_laws.specs.FlatForm.{names_of}
+use Rattle.lower_laws.specs.Straight.{jump_if}
+use Rattle.lower_laws.specs.Lowered.{past, inside, jump_of, lowered, lowered_if, lowered_for, for_aim, continue_aim, break_aim, lowered_item, lowered_among}
 use Rattle.flat_items.proofs.Joining.{joined}
 use Rattle.flat_items.proofs.Tests.{tests_are}
 use Rattle.lowered_items.specs.declared.plans.Plan as L

@@ -6,9 +6,9 @@ use Rattle.c_tree.specs.Changed.{one}
 use Rattle.c_tree.specs.TestTrees.{SelectorTree}
 use Rattle.c_tree.specs.Trees.{Forest, Then, Sections, Evaluate, Goto, join}
 use Rattle.jump_meaning.specs.Step.{switch_kind}
-use Rattle.loose_core.specs.Pieces.{Aim, Becomes, Absent, assign_number}
-use Rattle.flat_core.specs.Parts.{Here, switch_labels, cases_among, has_default, leaves}
-use Rattle.flat_core.specs.FlatForm.{place_of}
+use Rattle.flat_looser_laws.specs.Pieces.{Aim, Becomes, Absent, assign_number}
+use Rattle.flat_laws.specs.Parts.{Here, switch_labels, cases_among, has_default, leaves}
+use Rattle.flat_laws.specs.FlatForm.{place_of}
 use Rattle.flat_items.specs.Pieces.{number_tests}
 use Rattle.lowered_items.specs.declared.plans.Cases as C
 use Rattle.lowered_items.specs.Plans.{number_label}

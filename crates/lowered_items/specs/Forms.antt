@@ -5,12 +5,12 @@ use Rattle.c_tree.specs.Everywhere.{total_in}
 use Rattle.c_tree.specs.ExpressionTrees.{ExpressionTree}
 use Rattle.c_tree.specs.Trees.{Forest, Nil, Then, Sections, Goto, Mark, expression_trees, trees_of, join}
 use Rattle.c_tree.specs.declared.tree.Section as Real
-use Rattle.loose_core.specs.Pieces.{Aim, Names, case_marks}
-use Rattle.loose_core.specs.Loose.{Arrives}
-use Rattle.flat_core.specs.Parts.{Here}
-use Rattle.flat_core.specs.FlatForm.{end_goto, initialised}
+use Rattle.flat_looser_laws.specs.Pieces.{Aim, Names, case_marks}
+use Rattle.flat_looser_laws.specs.Loose.{Arrives}
+use Rattle.flat_laws.specs.Parts.{Here}
+use Rattle.flat_laws.specs.FlatForm.{end_goto, initialised}
 use Rattle.lowered_items.specs.declared.plans.Labels.{Labels}
-use Rattle.lowered_core.specs.Lowered.{Layout, constructs_of, cases_of, variables_of, lowered}
+use Rattle.lower_laws.specs.Lowered.{Layout, constructs_of, cases_of, variables_of, lowered}
 
 -- the numbers of what comes behind sections
 abbrev pub past_among : Sections → Here → Here

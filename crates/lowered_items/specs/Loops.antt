@@ -5,9 +5,9 @@ use Rattle.c_tree.specs.Exits.{breaks, continues}
 use Rattle.c_tree.specs.ExpressionTrees.{ExpressionTree}
 use Rattle.c_tree.specs.TestTrees.{TestTree, Source}
 use Rattle.c_tree.specs.Trees.{Forest, Then, Goto, Mark, trees_of, join}
-use Rattle.loose_core.specs.Pieces.{Aim, Becomes, Absent, mark_of, third_items}
-use Rattle.flat_core.specs.FlatForm.{aim}
-use Rattle.lowered_core.specs.Straight.{jump_if}
+use Rattle.flat_looser_laws.specs.Pieces.{Aim, Becomes, Absent, mark_of, third_items}
+use Rattle.flat_laws.specs.FlatForm.{aim}
+use Rattle.lower_laws.specs.Straight.{jump_if}
 use Rattle.lowered_items.specs.declared.loops.Loop as L
 use Rattle.flat_items.specs.Plans.{aim_of}
 

@@ -2,13 +2,13 @@
 use Rattle.std.specs.Prelude.{ℕ, suc, ◌+◌, ◌*◌, ℤ, Option, Some, None}
 use Rattle.c_tree.specs.Cases.{case_number}
 use Rattle.c_tree.specs.Numerals.{constant}
-use Rattle.loose_core.specs.Pieces.{Names}
-use Rattle.loose_core.specs.Loose.{Arrivals}
-use Rattle.flat_core.specs.Parts.{Here}
-use Rattle.flat_parts.specs.Reading.{is_flagged}
+use Rattle.flat_looser_laws.specs.Pieces.{Names}
+use Rattle.flat_looser_laws.specs.Loose.{Arrivals}
+use Rattle.flat_laws.specs.Parts.{Here}
+use Rattle.flat_questions.specs.Reading.{is_flagged}
 use Rattle.flat_items.specs.Places.{place_at}
 use Rattle.flat_items.specs.Plans.{arrivals_if}
-use Rattle.lowered_core.specs.Lowered.{Layout}
+use Rattle.lower_laws.specs.Lowered.{Layout}
 use Rattle.lowered_items.specs.declared.plans.Plan as L
 use Rattle.lowered_items.specs.declared.plans.Labels as N
 use Rattle.lowered_items.specs.declared.plans.Cases as C

@@ -3,9 +3,9 @@ ghost use Rattle.c_tree.specs.ExpressionTrees.{expression_tree};
 ghost use Rattle.c_tree.specs.TestTrees.{selector_tree};
 ghost use Rattle.c_tree.specs.Trees.{expression_trees, trees_of, sections_of, join};
 ghost use Rattle.jump_meaning.specs.Step.{switch_kind as the_switch_kind};
-ghost use Rattle.loose_core.specs.Pieces.{Becomes, Absent, case_marks};
-ghost use Rattle.flat_core.specs.Parts.{switch_labels, cases_among, has_default, leaves as the_leaves};
-ghost use Rattle.flat_core.specs.FlatForm.{arrival};
+ghost use Rattle.flat_looser_laws.specs.Pieces.{Becomes, Absent, case_marks};
+ghost use Rattle.flat_laws.specs.Parts.{switch_labels, cases_among, has_default, leaves as the_leaves};
+ghost use Rattle.flat_laws.specs.FlatForm.{arrival};
 ghost use Rattle.flat_items.specs.Pieces.{number_test, number_tests};
 ghost use Rattle.lowered_items.specs.Choices.{AreCases, breaks_of, otherwise_of, choice_form};
 ghost use Rattle.flat_items.specs.Plans.{aim_of, here_of};
@@ -18,7 +18,7 @@ use c_types::{IntKind, List, Memory};
 use flat_items::{
     Aim, Here, add, add_goto, add_label, assignment, case_test, no_places, place_of, places_of,
 };
-use flat_parts::{case_number, case_numbers, leaves, switch_has_default, switch_kind};
+use flat_questions::{case_number, case_numbers, leaves, switch_has_default, switch_kind};
 use std::alloc::Global;
 
 /// No switch.

@@ -1,13 +1,13 @@
 ghost use Rattle.std.specs.Prelude.{◌≡◌, cond, drop, None};
 ghost use Rattle.c_tree.specs.Trees.{trees_of};
-ghost use Rattle.flat_parts.specs.Reading.{is_flagged as the_flagged};
-ghost use Rattle.lowered_core.specs.Lowered.{is_bare as the_is_bare, only_goto as the_only_goto, jump_of as the_jump_of};
+ghost use Rattle.flat_questions.specs.Reading.{is_flagged as the_flagged};
+ghost use Rattle.lower_laws.specs.Lowered.{is_bare as the_is_bare, only_goto as the_only_goto, jump_of as the_jump_of};
 ghost use Rattle.lowered_items.specs.Jumps.{goes, goto_of};
-ghost use Rattle.tree_views.specs.Views.{tree_at};
+ghost use Rattle.c_tree.specs.Views.{tree_at};
 
 use c_tree::Item;
 use c_types::List;
-use flat_parts::is_flagged;
+use flat_questions::is_flagged;
 
 fn is_gone(named: &[bool], item: &Item) -> bool
     ensures { result ≡ goes (the_flagged named.now) (tree_at item.now) }

@@ -4,19 +4,19 @@ ghost use Rattle.c_tree.specs.Exits.{breaks, continues};
 ghost use Rattle.c_tree.specs.ExpressionTrees.{expression_tree};
 ghost use Rattle.c_tree.specs.TestTrees.{test_tree};
 ghost use Rattle.c_tree.specs.Trees.{Then, Goto, Mark, trees_of, join};
-ghost use Rattle.loose_core.specs.Pieces.{Becomes, third_items as the_third_items};
-ghost use Rattle.flat_core.specs.FlatForm.{aim as the_aim};
-ghost use Rattle.lowered_core.specs.Straight.{jump_if};
+ghost use Rattle.flat_looser_laws.specs.Pieces.{Becomes, third_items as the_third_items};
+ghost use Rattle.flat_laws.specs.FlatForm.{aim as the_aim};
+ghost use Rattle.lower_laws.specs.Straight.{jump_if};
 ghost use Rattle.lowered_items.specs.Loops.{frame_of, tested as the_tested, for_start, while_frame, do_frame, for_frame};
 ghost use Rattle.flat_items.specs.Plans.{aim_of, here_of};
 ghost use Rattle.lowered_items.specs.Plans.{labels_at, entered_at};
-ghost use Rattle.tree_views.specs.Views.{tree_at};
+ghost use Rattle.c_tree.specs.Views.{tree_at};
 
 use crate::plans::{Inside, Labels, entered};
 use c_tree::{Expression, Item, Test};
 use c_types::{List, Memory};
 use flat_items::{Aim, Here, Scope, add, add_goto, add_label, jump};
-use flat_parts::{has_break, has_continue};
+use flat_questions::{has_break, has_continue};
 use std::alloc::Global;
 
 /// A loop: what stands around its list, what its exits become, and the numbers inside it.

@@ -1,14 +1,14 @@
 ghost use Rattle.std.specs.Prelude.{◌≡◌, ◌+◌, length, IfOk};
 ghost use Rattle.c_tree.specs.Everywhere.{total, total_of, total_in};
 ghost use Rattle.c_tree.specs.Trees.{trees_of, sections_of};
-ghost use Rattle.flat_core.specs.Parts.{switch_labels, cases_among};
-ghost use Rattle.lowered_core.specs.Lowered.{constructs_of, cases_of, variables_of};
-ghost use Rattle.tree_views.specs.Views.{tree_at};
+ghost use Rattle.flat_laws.specs.Parts.{switch_labels, cases_among};
+ghost use Rattle.lower_laws.specs.Lowered.{constructs_of, cases_of, variables_of};
+ghost use Rattle.c_tree.specs.Views.{tree_at};
 
 use c_tree::{Item, Section, Selector};
 use c_types::{List, Memory};
 use flat_items::{Here, entered};
-use flat_parts::{case_numbers, switch_kind};
+use flat_questions::{case_numbers, switch_kind};
 use std::alloc::Global;
 
 /// The numbers of what comes behind a list.

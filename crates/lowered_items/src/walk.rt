@@ -5,16 +5,16 @@ ghost use Rattle.c_tree.specs.ExpressionTrees.{expression_tree};
 ghost use Rattle.c_tree.specs.Paths.{list_of};
 ghost use Rattle.c_tree.specs.TestTrees.{test_tree, selector_tree};
 ghost use Rattle.c_tree.specs.Trees.{While, Do, Switch, Goto, Break, Continue, expression_trees, trees_of, sections_of, join};
-ghost use Rattle.loose_core.specs.Loose.{NoArrival};
-ghost use Rattle.loose_core.specs.Pieces.{Stays};
-ghost use Rattle.flat_core.specs.FlatForm.{mark_if, arrival, exit, first_here};
-ghost use Rattle.lowered_core.specs.Lowered.{past, past_item, lowered, lowered_item, lowered_among, variables_of};
-ghost use Rattle.lowered_core.specs.Straight.{jump_if};
+ghost use Rattle.flat_looser_laws.specs.Loose.{NoArrival};
+ghost use Rattle.flat_looser_laws.specs.Pieces.{Stays};
+ghost use Rattle.flat_laws.specs.FlatForm.{mark_if, arrival, exit, first_here};
+ghost use Rattle.lower_laws.specs.Lowered.{past, past_item, lowered, lowered_item, lowered_among, variables_of};
+ghost use Rattle.lower_laws.specs.Straight.{jump_if};
 ghost use Rattle.lowered_items.specs.Forms.{past_among, then_part, part_form, local_form};
 ghost use Rattle.lowered_items.specs.Loops.{frame_of, framed};
 ghost use Rattle.flat_items.specs.Plans.{aim_of, here_of};
 ghost use Rattle.lowered_items.specs.Plans.{layout_of, entered_at, arrivals_of, case_names};
-ghost use Rattle.tree_views.specs.Views.{tree_at};
+ghost use Rattle.c_tree.specs.Views.{tree_at};
 
 use crate::cases::{add_arrival, add_case_marks, add_choice, no_cases};
 use crate::jumps::jump_of;
@@ -28,7 +28,7 @@ use flat_items::{
     Aim, Here, Scope, add, add_break, add_continue, add_end, add_goto, add_initialised, add_label,
     add_mark, jump,
 };
-use flat_parts::is_flagged;
+use flat_questions::is_flagged;
 use std::alloc::Global;
 
 /// The flat list of a list, behind the items that are there.

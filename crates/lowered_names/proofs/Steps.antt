@@ -4,9 +4,9 @@ use Rattle.std.proofs.lemmas.List.{at_drop_more, at_drop_all, append-nil}
 use Rattle.std.specs.Prelude.{codes}
 use Rattle.c_types.specs.declared.kinds.IntKind.{IntKind}
 use Rattle.c_copies.specs.Names.{with_name}
-use Rattle.fresh_names.specs.Fresh.{numbered, fresh}
+use Rattle.c_fresh_names.specs.Fresh.{numbered, fresh}
 use Rattle.flat_names.specs.FlatNames.{Named}
-use Rattle.lowered_forms.specs.Lowering.{with_variable, with_variables, label_names}
+use Rattle.lower_laws.specs.Lowering.{with_variable, with_variables, label_names}
 use Rattle.lowered_names.specs.Steps.{chosen, used_then, next_then}
 
 pub variables_step : (cs : List (Option IntKind)) (i : ℕ) (n : Named) (d : Option IntKind) → i < length cs → with_variables (i + 1) (drop i cs) n ≡ with_variables (i + 1 + 1) (drop (i + 1) cs) (with_variable (i + 1) (get_or cs i d) n)

@@ -1,7 +1,7 @@
 -- One label after another: its name, the names that are used then, and the number of the next name that is made.
 use Rattle.std.specs.Prelude.{ℕ, ◌+◌, ◌/◌, ◌%◌, eqb, cond, List, [], get_or, codes}
 use Rattle.c_copies.specs.Names.{with_name}
-use Rattle.fresh_names.specs.Fresh.{numbered, fresh}
+use Rattle.c_fresh_names.specs.Fresh.{numbered, fresh}
 
 -- the name of a label with this code, of a function with these labels
 abbrev pub chosen : List (List ℕ) → List (List ℕ) → ℕ → ℕ → List ℕ

@@ -1,13 +1,13 @@
 ghost use Rattle.std.specs.Prelude.{◌≡◌, ◌%◌, ◌<◌, ◌≤◌, ◌^◌, [], get_or, eqb, length, IfOk, OnOk};
 ghost use Rattle.c_copies.specs.Names.{with_name};
-ghost use Rattle.fresh_names.specs.Fresh.{numbered as the_numbered, fresh as the_fresh};
+ghost use Rattle.c_fresh_names.specs.Fresh.{numbered as the_numbered, fresh as the_fresh};
 ghost use Rattle.flat_names.specs.Gathered.{all_used};
-ghost use Rattle.lowered_forms.specs.Lowering.{label_names as the_label_names};
+ghost use Rattle.lower_laws.specs.Lowering.{label_names as the_label_names};
 ghost use Rattle.lowered_names.specs.Steps.{chosen, next_then, used_then};
 
 use c_types::{List, Memory, Name};
 use flat_names::{made_name, own_name};
-use fresh_names::UsedNames;
+use c_fresh_names::UsedNames;
 use std::alloc::Global;
 
 /// Whether a label with this code is one of the source.

@@ -1,11 +1,11 @@
 ghost use Rattle.std.specs.Prelude.{◌≡◌, ◌++◌, ◌∷◌, Some, None, IfOk, OnOk};
 ghost use Rattle.c_tree.specs.Trees.{trees_of, sections_of};
-ghost use Rattle.lowered_forms.specs.Lowering.{constructs as the_constructs, constructs_in, constructs_among};
-ghost use Rattle.tree_views.specs.Views.{tree_at};
+ghost use Rattle.lower_laws.specs.Lowering.{constructs as the_constructs, constructs_in, constructs_among};
+ghost use Rattle.c_tree.specs.Views.{tree_at};
 
 use c_tree::{Item, Section};
 use c_types::{IntKind, List, Memory};
-use flat_parts::switch_kind;
+use flat_questions::switch_kind;
 use std::alloc::Global;
 
 /// The loops and switches of a body, in text order: of each switch the kind of its variable. Want of memory

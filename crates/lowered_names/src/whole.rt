@@ -1,13 +1,13 @@
 ghost use Rattle.std.specs.Prelude.{◌≡◌, ◌≤◌, length, IfOk, OnOk};
 ghost use Rattle.flat_names.specs.Gathered.{named_of};
 ghost use Rattle.flat_names.specs.FlatNames.{named_slots};
-ghost use Rattle.lowered_forms.specs.Lowering.{with_variable, with_variables, label_names as the_label_names};
+ghost use Rattle.lower_laws.specs.Lowering.{with_variable, with_variables, label_names as the_label_names};
 
 use crate::labels::label_names;
 use c_tree::Slot;
 use c_types::{IntKind, List, Memory, Name};
 use flat_names::{FlatNames, ProgramNames, made_name, name_slots};
-use fresh_names::UsedNames;
+use c_fresh_names::UsedNames;
 use std::alloc::Global;
 
 /// The variable of loop or switch `k`, if it is a switch, whose variable has this kind.

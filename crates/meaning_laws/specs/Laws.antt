@@ -1,6 +1,6 @@
 -- What the function of this crate states.
 use Rattle.std.specs.Prelude.{◌≡◌, ◌≢◌, ℕ, List, Some, None}
-use Rattle.c_source.specs.Terms.{Term}
+use Rattle.c_layers.specs.Terms.{Term}
 use Rattle.c_kinds.specs.declared.binding.Binding.{Binding}
 use Rattle.c_kinds.specs.declared.binding.Want.{Want}
 use Rattle.c_kinds.specs.declared.typed.Typed.{Typed}

@@ -5,20 +5,20 @@ use Rattle.c_copies.specs.Names.{names, file_names}
 use Rattle.c_tree.specs.declared.tree.Function.{Function}
 use Rattle.c_tree.specs.declared.tree.Program.{Program}
 use Rattle.guard_vars.specs.GuardNames.{guard_names}
-use Rattle.move_records.specs.declared.moves.Move.{Move}
-use Rattle.named_programs.proofs.NamedTops.{named_program_laws}
-use Rattle.plain_resolved.proofs.NamedForm.{tops_named}
-use Rattle.resolved_core.specs.Counts.{flat_counts, IsResolved}
-use Rattle.rewritten_laws.specs.EachPlace.{AtEachPlace, AtEachPair}
-use Rattle.rewritten_laws.specs.Skeletons.{IsKept}
-use Rattle.rewritten_laws.specs.Guards.{HasFewGuards}
-use Rattle.rewritten_laws.specs.Sizes.{IsWithinSizes}
-use Rattle.rewritten_laws.proofs.Kept.{skeletons_are_kept}
-use Rattle.rewritten_laws.proofs.FewGuards.{guards_are_few}
-use Rattle.rewritten_laws.proofs.Levels.{jumps_are_within_levels}
-use Rattle.rewritten_laws.proofs.Sizes.{sizes_are_bounded}
-use Rattle.whole_core.specs.Laws.{IsTopNamed}
-use Rattle.whole_core.specs.Rewritten.{IsRewritten}
+use Rattle.report_moves.specs.declared.moves.Move.{Move}
+use Rattle.restructure_laws.proofs.NamedTops.{named_program_laws}
+use Rattle.plain_resolved_laws.proofs.NamedForm.{tops_named}
+use Rattle.c_resolved_laws.specs.Counts.{flat_counts, IsResolved}
+use Rattle.restructure_laws.specs.EachPlace.{AtEachPlace, AtEachPair}
+use Rattle.restructure_laws.specs.Skeletons.{IsKept}
+use Rattle.restructure_laws.specs.Guards.{HasFewGuards}
+use Rattle.restructure_laws.specs.Sizes.{IsWithinSizes}
+use Rattle.restructure_laws.proofs.Kept.{skeletons_are_kept}
+use Rattle.restructure_laws.proofs.FewGuards.{guards_are_few}
+use Rattle.restructure_laws.proofs.Levels.{jumps_are_within_levels}
+use Rattle.restructure_laws.proofs.Sizes.{sizes_are_bounded}
+use Rattle.whole_laws.specs.WholeLaws.{IsTopNamed}
+use Rattle.whole_laws.specs.Rewritten.{IsRewritten}
 use Rattle.move_driver.specs.declared.counts.Counts.{Counts}
 use Rattle.move_driver.specs.Restructured.{IsRestructured}
 use Rattle.move_driver.specs.Kept.{KeepsSkeletons, DeclaresFewGuards, IsMovedWithinLevels, StaysWithinSizes}

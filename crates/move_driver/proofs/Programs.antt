@@ -10,19 +10,19 @@ use Rattle.c_tree.specs.declared.tree.Program.{Program}
 use Rattle.c_tree.specs.InRange.{IsProgramInRange}
 use Rattle.c_copies.specs.Names.{names, file_names}
 use Rattle.jump_meaning.specs.Laws.{IsTopUnflat}
-use Rattle.derived_functions.specs.Moved.{IsTopMovable, MovedTops}
-use Rattle.move_records.specs.declared.moves.Move.{Move}
-use Rattle.program_moves.proofs.Tops.{dropped, dropped_set, taken_set, taken_all}
-use Rattle.resolved_core.specs.Counts.{flat_counts, IsResolved}
-use Rattle.resolved_core.proofs.TheLaws.{resolved_laws}
+use Rattle.move_order_laws.specs.Moved.{IsTopMovable, MovedTops}
+use Rattle.report_moves.specs.declared.moves.Move.{Move}
+use Rattle.move_programs.proofs.Tops.{dropped, dropped_set, taken_set, taken_all}
+use Rattle.c_resolved_laws.specs.Counts.{flat_counts, IsResolved}
+use Rattle.c_resolved_laws.proofs.TheLaws.{resolved_laws}
 use Rattle.plain_form.specs.Plain.{plain}
-use Rattle.whole_core.specs.Rewritten.{IsFlatForm, FlatTop, ft_flat, ft_unlabelled, ft_declared, ft_other, FlatTops, ft_none, ft_more, IsNoFunction}
-use Rattle.whole_core.proofs.Source.{resolved_source}
-use Rattle.whole_core.proofs.Chains.{IsConvertible, AreConvertible}
-use Rattle.whole_core.proofs.FlatPrograms.{flat_program}
-use Rattle.read_back.specs.Laws.{ReadsBack}
-use Rattle.named_programs.specs.Flattened.{most_held, FlattenedTop, fd_other, FlattenedTops, fd_none, fd_more}
-use Rattle.named_programs.proofs.NamedTops.{named_program_laws}
+use Rattle.whole_laws.specs.Rewritten.{IsFlatForm, FlatTop, ft_flat, ft_unlabelled, ft_declared, ft_other, FlatTops, ft_none, ft_more, IsNoFunction}
+use Rattle.whole_laws.proofs.Source.{resolved_source}
+use Rattle.whole_laws.proofs.Chains.{IsConvertible, AreConvertible}
+use Rattle.whole_laws.proofs.FlatPrograms.{flat_program}
+use Rattle.restructure_laws.specs.RereadPlainLaws.{ReadsBack}
+use Rattle.restructure_laws.specs.Flattened.{most_held, FlattenedTop, fd_other, FlattenedTops, fd_none, fd_more}
+use Rattle.restructure_laws.proofs.NamedTops.{named_program_laws}
 use Rattle.move_driver.specs.declared.counts.Counts.{Counts}
 use Rattle.move_driver.specs.Counts.{counts_of}
 use Rattle.move_driver.specs.Restructured.{IsRestructured}

@@ -7,18 +7,18 @@ use Rattle.c_tree.specs.declared.tree.Top.TheVariants as T
 use Rattle.c_tree.specs.Jumps.{is_plain_program}
 use Rattle.c_tree.specs.Text.{text_of}
 use Rattle.guard_vars.specs.GuardNames.{guard_names}
-use Rattle.move_records.specs.declared.moves.Move.{Move}
-use Rattle.move_records.specs.Report.{report_text}
+use Rattle.report_moves.specs.declared.moves.Move.{Move}
+use Rattle.report_moves.specs.Report.{report_text}
 use Rattle.move_report.specs.Numbers.{HaveNumbers}
 use Rattle.plain_form.specs.Plain.{plain}
-use Rattle.resolved_core.specs.Counts.{flat_counts, IsResolved}
-use Rattle.named_programs.proofs.NamedTops.{named_program_laws}
-use Rattle.one_rewriting.proofs.Programs.{one_rewriting_laws}
-use Rattle.notes_kept.specs.Notes.{notes_of}
-use Rattle.notes_kept.proofs.Programs.{notes_laws}
-use Rattle.settled_programs.proofs.Programs.{settled_laws}
-use Rattle.text_reading.specs.Reading.{IsProgramOf}
-use Rattle.text_reading.proofs.Readings.{program_back}
+use Rattle.c_resolved_laws.specs.Counts.{flat_counts, IsResolved}
+use Rattle.restructure_laws.proofs.NamedTops.{named_program_laws}
+use Rattle.restructure_laws.proofs.WholeUniquePrograms.{one_rewriting_laws}
+use Rattle.whole_laws.specs.Notes.{notes_of}
+use Rattle.whole_laws.proofs.WholeCommentsPrograms.{notes_laws}
+use Rattle.restructure_laws.proofs.WholeIdempotentPrograms.{settled_laws}
+use Rattle.c_text.specs.Reading.{IsProgramOf}
+use Rattle.c_text.proofs.Readings.{program_back}
 use Rattle.move_driver.specs.declared.counts.Counts.{Counts}
 use Rattle.move_driver.specs.Counts.{counted, guards_between, guards_from, counts_of}
 use Rattle.move_driver.specs.Restructured.{IsRestructured, IsOnly}

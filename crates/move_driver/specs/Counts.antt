@@ -3,8 +3,8 @@ use Rattle.std.specs.Prelude.{ℕ, ◌+◌, ◌-◌, min, List, [], ◌∷◌, l
 use Rattle.c_tree.specs.declared.tree.Top.{Top}
 use Rattle.c_tree.specs.declared.tree.Top.TheVariants as T
 use Rattle.c_tree.specs.declared.tree.Program.{Program}
-use Rattle.move_records.specs.declared.moves.Move.{Move}
-use Rattle.derived_functions.specs.Counts.{joined}
+use Rattle.report_moves.specs.declared.moves.Move.{Move}
+use Rattle.move_order_laws.specs.MoveFunctionCounts.{joined}
 use Rattle.move_driver.specs.declared.counts.Counts.{Counts}
 
 abbrev pub counted : ℕ → ℕ

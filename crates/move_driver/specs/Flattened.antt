@@ -3,7 +3,7 @@ use Rattle.std.specs.Prelude.{ℕ, List}
 use Rattle.c_tree.specs.declared.tree.Top.{Top}
 use Rattle.flat_names.specs.declared.whole.ProgramNames.{ProgramNames}
 use Rattle.flat_names.specs.Gathered.{AreGathered}
-use Rattle.named_programs.specs.Flattened.{FlattenedTop, FlattenedTops}
+use Rattle.restructure_laws.specs.Flattened.{FlattenedTop, FlattenedTops}
 
 abbrev pub IsTopFlattenedBeside : ProgramNames → Top → Top → Type 0
 IsTopFlattenedBeside n t u = (names file : List (List ℕ)) → AreGathered names file n → FlattenedTop names file t u

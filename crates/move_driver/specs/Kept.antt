@@ -1,12 +1,12 @@
 -- What a restructured program keeps of its source, and how large it gets.
 use Rattle.std.specs.Prelude.{List}
 use Rattle.c_tree.specs.declared.tree.Program.{Program}
-use Rattle.move_records.specs.declared.moves.Move.{Move}
-use Rattle.rewritten_laws.specs.EachPlace.{AtEachPlace, AtEachPair}
-use Rattle.rewritten_laws.specs.Skeletons.{IsKept}
-use Rattle.rewritten_laws.specs.Guards.{HasFewGuards}
-use Rattle.rewritten_laws.specs.Jumps.{TopsMovedWithin}
-use Rattle.rewritten_laws.specs.Sizes.{IsWithinSizes}
+use Rattle.report_moves.specs.declared.moves.Move.{Move}
+use Rattle.restructure_laws.specs.EachPlace.{AtEachPlace, AtEachPair}
+use Rattle.restructure_laws.specs.Skeletons.{IsKept}
+use Rattle.restructure_laws.specs.Guards.{HasFewGuards}
+use Rattle.restructure_laws.specs.Jumps.{TopsMovedWithin}
+use Rattle.restructure_laws.specs.Sizes.{IsWithinSizes}
 use Rattle.move_driver.specs.declared.counts.Counts.{Counts}
 use Rattle.move_driver.specs.Restructured.{IsRestructured}
 

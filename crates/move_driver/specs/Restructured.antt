@@ -2,9 +2,9 @@
 use Rattle.std.specs.Prelude.{◌≡◌, List}
 use Rattle.c_tree.specs.declared.tree.Program.{Program}
 use Rattle.c_copies.specs.Names.{names}
-use Rattle.move_records.specs.declared.moves.Move.{Move}
+use Rattle.report_moves.specs.declared.moves.Move.{Move}
 use Rattle.plain_form.specs.Plain.{plain}
-use Rattle.named_programs.specs.Laws.{IsRewrittenWithNames}
+use Rattle.restructure_laws.specs.WholeNamesLaws.{IsRewrittenWithNames}
 use Rattle.move_driver.specs.declared.counts.Counts.{Counts}
 use Rattle.move_driver.specs.Counts.{counts_of}
 

@@ -1,7 +1,7 @@
 -- What is restructured to itself.
 use Rattle.std.specs.Prelude.{ℕ, List, []}
 use Rattle.c_tree.specs.declared.tree.Program.{Program}
-use Rattle.text_reading.specs.Reading.{IsInSubset}
+use Rattle.c_text.specs.Reading.{IsInSubset}
 use Rattle.move_driver.specs.declared.counts.Counts.{Counts}
 use Rattle.move_driver.specs.Restructured.{IsOnly}
 use Rattle.move_driver.specs.Text.{Output, IsOnlyOutput}

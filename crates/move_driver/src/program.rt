@@ -1,13 +1,13 @@
 ghost use Rattle.std.specs.Prelude.{◌≡◌, true, IfOk, OnOk};
 ghost use Rattle.c_tree.specs.InRange.{IsProgramInRange};
 ghost use Rattle.c_tree.specs.Jumps.{is_plain_program};
-ghost use Rattle.plain_core.specs.Laws.{BehavesAsStructured};
-ghost use Rattle.resolved_core.specs.Counts.{IsResolved};
+ghost use Rattle.plain_laws.specs.Laws.{BehavesAsStructured};
+ghost use Rattle.c_resolved_laws.specs.Counts.{IsResolved};
 ghost use Rattle.c_tree.specs.Text.{text_of};
-ghost use Rattle.named_programs.specs.Flattened.{FlattenedTop, FlattenedTops};
-ghost use Rattle.text_reading.specs.Reading.{IsProgramOf};
+ghost use Rattle.restructure_laws.specs.Flattened.{FlattenedTop, FlattenedTops};
+ghost use Rattle.c_text.specs.Reading.{IsProgramOf};
 ghost use Rattle.move_driver.specs.Kept.{KeepsSkeletons, DeclaresFewGuards, IsMovedWithinLevels, StaysWithinSizes};
-ghost use Rattle.notes_kept.specs.Notes.{notes_of};
+ghost use Rattle.whole_laws.specs.Notes.{notes_of};
 ghost use Rattle.move_driver.specs.Restructured.{IsRestructured, IsOnly};
 ghost use Rattle.move_driver.specs.Settled.{IsSettled};
 ghost use Rattle.move_driver.specs.Flattened.{IsTopFlattenedBeside, AreFlattenedBeside};
@@ -16,11 +16,11 @@ use crate::counts::{Counts, count};
 use c_copies::{file_names, names};
 use c_tree::{Program, Top};
 use c_types::{List, Memory};
-use flat_functions::flatten_beside;
+use flat_function::flatten_beside;
 use flat_names::ProgramNames;
-use move_records::Move;
+use report_moves::Move;
 use plain_form::plain;
-use program_moves::move_program;
+use move_programs::move_program;
 use std::alloc::Global;
 
 fn flatten_top(alloc: Global, names: &mut ProgramNames, top: &mut Top) -> Result<(), Memory>
@@ -39,7 +39,7 @@ fn flatten_top(alloc: Global, names: &mut ProgramNames, top: &mut Top) -> Result
     }
 }
 
-/// Gives each function its flat form (`flat_functions::flatten_beside`), with the names of the program and of its file
+/// Gives each function its flat form (`flat_function::flatten_beside`), with the names of the program and of its file
 /// scope. After `Memory` some functions have it.
 pub fn flatten_tops(
     alloc: Global,

@@ -1,5 +1,5 @@
 ghost use Rattle.std.specs.Prelude.{◌≡◌, IfOk, IfErr, Err};
-ghost use Rattle.text_reading.specs.Reading.{IsInSubset, IsRefusedFor};
+ghost use Rattle.c_text.specs.Reading.{IsInSubset, IsRefusedFor};
 ghost use Rattle.move_driver.specs.Text.{output, IsTextRestructured, CanBeReplayed, IsOnlyOutput};
 ghost use Rattle.move_driver.specs.Settled.{IsTextSettled};
 
@@ -9,7 +9,7 @@ use c_printer::print;
 use c_types::{Bytes, ReadStop, Refusal};
 use move_report::write_report;
 use std::alloc::Global;
-use text_reading::read;
+use c_text::read;
 
 /// A restructured text.
 #[derive(Drop)]

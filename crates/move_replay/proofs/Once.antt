@@ -5,19 +5,19 @@ use Rattle.c_copies.specs.Names.{names}
 use Rattle.c_tree.specs.declared.tree.Top.{Top}
 use Rattle.c_tree.specs.declared.tree.Program.{Program}
 use Rattle.c_tree.proofs.MoveLemmas.{some_same}
-use Rattle.move_records.specs.declared.moves.Move.{Move}
-use Rattle.move_records.proofs.Reports.{report_laws}
+use Rattle.report_moves.specs.declared.moves.Move.{Move}
+use Rattle.report_moves.proofs.Reports.{report_laws}
 use Rattle.move_report.specs.Answers.{IsReport}
-use Rattle.derived_functions.specs.Counts.{jumps}
+use Rattle.move_order_laws.specs.MoveFunctionCounts.{jumps}
 use Rattle.plain_form.specs.Plain.{plain}
-use Rattle.resolved_core.specs.Counts.{IsResolved}
+use Rattle.c_resolved_laws.specs.Counts.{IsResolved}
 use Rattle.move_driver.specs.declared.counts.Counts.{Counts}
 use Rattle.move_driver.specs.Counts.{counted, guards_from}
-use Rattle.printed_limits.specs.Limits.{IsWithinLimits}
-use Rattle.lawful_moves.specs.Lawful.{IsLawful, OneMoved, Moves, none, more}
-use Rattle.lawful_moves.specs.Replayed.{IsTopWellMade, IsTopLeapless}
-use Rattle.lawful_moves.proofs.Whole.{lawful_laws}
-use Rattle.lawful_steps.specs.Steps.{StopsAt}
+use Rattle.print_limits.specs.Limits.{IsWithinLimits}
+use Rattle.replay_laws.specs.Lawful.{IsLawful, OneMoved, Moves, none, more}
+use Rattle.replay_laws.specs.Replayed.{IsTopWellMade, IsTopLeapless}
+use Rattle.replay_laws.proofs.Whole.{lawful_laws}
+use Rattle.replay_moves.specs.Steps.{StopsAt}
 use Rattle.move_replay.specs.Lines.{line_start}
 use Rattle.move_replay.specs.Replay.{IsReached, IsReplay, IsAt, IsUnreadable, IsUnlawful, HasLeapLeft, IsTooDeep, IsRefusal}
 use Rattle.move_replay.proofs.Starts.{one_flat, one_start, start_made}

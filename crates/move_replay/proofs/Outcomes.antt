@@ -7,24 +7,24 @@ use Rattle.c_types.specs.declared.refusal.ReadStop.TheVariants as S
 use Rattle.c_copies.specs.Names.{names, file_names}
 use Rattle.c_tree.specs.declared.tree.Top.{Top}
 use Rattle.c_tree.specs.declared.tree.Program.{Program}
-use Rattle.move_records.specs.declared.moves.Move.{Move}
-use Rattle.move_records.specs.Report.{report_text, AreReportable}
+use Rattle.report_moves.specs.declared.moves.Move.{Move}
+use Rattle.report_moves.specs.Report.{report_text, AreReportable}
 use Rattle.move_report.specs.Answers.{IsReport}
 use Rattle.move_report.specs.Numbers.{HaveNumbers}
 use Rattle.plain_form.specs.Plain.{plain}
-use Rattle.resolved_core.specs.Counts.{flat_counts, IsResolved}
-use Rattle.read_back.specs.Laws.{ReadsBack}
-use Rattle.named_programs.specs.Flattened.{most_held, FlattenedTops}
+use Rattle.c_resolved_laws.specs.Counts.{flat_counts, IsResolved}
+use Rattle.restructure_laws.specs.RereadPlainLaws.{ReadsBack}
+use Rattle.restructure_laws.specs.Flattened.{most_held, FlattenedTops}
 use Rattle.move_driver.specs.declared.counts.Counts.{Counts}
 use Rattle.move_driver.specs.Counts.{counts_of}
 use Rattle.move_driver.specs.Restructured.{IsRestructured}
 use Rattle.move_driver.proofs.Programs.{reads_back}
-use Rattle.printed_limits.specs.Limits.{IsWithinLimits}
-use Rattle.lawful_moves.specs.Lawful.{Moves}
-use Rattle.lawful_moves.specs.Replayed.{converted_tops, IsTopLeapless, IsReplayed}
-use Rattle.lawful_moves.proofs.Whole.{replayed_laws}
-use Rattle.replayed_programs.specs.Laws.{IsReplayedWithNames, IsNamed}
-use Rattle.replayed_programs.proofs.Laws.{replayed_program_laws}
+use Rattle.print_limits.specs.Limits.{IsWithinLimits}
+use Rattle.replay_laws.specs.Lawful.{Moves}
+use Rattle.replay_laws.specs.Replayed.{converted_tops, IsTopLeapless, IsReplayed}
+use Rattle.replay_laws.proofs.Whole.{replayed_laws}
+use Rattle.replay_laws.specs.ReplayLaws.{IsReplayedWithNames, IsNamed}
+use Rattle.replay_laws.proofs.Laws.{replayed_program_laws}
 use Rattle.move_replay.specs.Replay.{IsFlatStart, IsStart, IsReached, IsReplay, IsAt, IsRefusal, Stops}
 use Rattle.move_replay.proofs.Starts.{flat_tops}
 use Rattle.move_replay.proofs.Once.{one_replay, not_both, one_refusal}

@@ -7,16 +7,16 @@ use Rattle.c_tree.specs.declared.tree.Top.{Top}
 use Rattle.c_tree.specs.declared.tree.Top.TheVariants as T
 use Rattle.c_tree.specs.declared.tree.Program.{Program}
 use Rattle.flat_names.specs.FlatNames.{with_known}
-use Rattle.flat_forms.specs.declared.forms.Form.{Form}
-use Rattle.flat_forms.specs.declared.forms.Form.TheVariants.{Same, Calm, Flat}
-use Rattle.flat_forms.specs.Flattened.{IsBodyForm, applied, IsFlattened}
-use Rattle.resolved_core.specs.Counts.{flat_counts, IsResolved}
-use Rattle.whole_core.specs.Rewritten.{FlatTops}
-use Rattle.named_programs.specs.Flattened.{FlattenedTop, fd_function, fd_other, FlattenedTops, fd_none, fd_more}
-use Rattle.named_programs.proofs.NamedTops.{named_program_laws}
-use Rattle.lawful_moves.specs.Replayed.{converted_tops, IsTopWellMade}
-use Rattle.lawful_moves.proofs.OneBody.{same_items}
-use Rattle.lawful_moves.proofs.Whole.{replayed_laws}
+use Rattle.flat_form.specs.declared.forms.Form.{Form}
+use Rattle.flat_form.specs.declared.forms.Form.TheVariants.{Same, Calm, Flat}
+use Rattle.flat_form.specs.Flattened.{IsBodyForm, applied, IsFlattened}
+use Rattle.c_resolved_laws.specs.Counts.{flat_counts, IsResolved}
+use Rattle.whole_laws.specs.Rewritten.{FlatTops}
+use Rattle.restructure_laws.specs.Flattened.{FlattenedTop, fd_function, fd_other, FlattenedTops, fd_none, fd_more}
+use Rattle.restructure_laws.proofs.NamedTops.{named_program_laws}
+use Rattle.replay_laws.specs.Replayed.{converted_tops, IsTopWellMade}
+use Rattle.replay_laws.proofs.OneBody.{same_items}
+use Rattle.replay_laws.proofs.Whole.{replayed_laws}
 use Rattle.move_replay.specs.Replay.{IsStart}
 
 -- ---- flat forms

@@ -17,15 +17,15 @@ use Rattle.c_tree.specs.InRange.{body_of}
 use Rattle.c_tree.specs.TestTrees.{TestTree, Source, On, Off, AndOff, OrOn, SelectorTree, Selects, Pick}
 use Rattle.c_tree.specs.Cases.{selector_source}
 use Rattle.c_tree.specs.Trees.{Tree, Forest, Nil, Then, Sections, NoSection, Section, Evaluate, Return, If, While, Do, For, Switch, Block, Local, Break, Continue, Goto, Mark, Arm, Leap, Land, Arrival, Note, trees_of, expression_trees}
-use Rattle.c_resolved.specs.Limits.{most_of, most_if, most_case, most_listed, most_tested, most_counted, most_counted_of, most_counted_in}
-use Rattle.c_resolved.specs.PrintableExpressions.{counted, counted_at}
-use Rattle.c_resolved.specs.PrintableStatements.{most, FullPrints, OptionPrints, ListPrints, ValuesPrint, SlotPrints, TestPrints, SelectorPrints, StartPrints, FurtherPrint, depth}
-use Rattle.c_resolved.specs.PrintablePrograms.{GivenPrints, EnumeratorsPrint, EnumPrints}
-use Rattle.c_resolved.specs.Spelling.{ItemIsSpelled, AreSpelled, SectionsAreSpelled, BodyIsSpelled, TopIsSpelled}
-use Rattle.c_resolved.specs.Within.{Each}
-use Rattle.resolved_core.specs.Counts.{IsResolved}
-use Rattle.whole_core.proofs.Flattened.{body_is}
-use Rattle.printed_limits.specs.Limits.{FunctionIsWithin, EnumItemIsWithin, TopIsWithin, IsWithinLimits}
+use Rattle.c_resolved_defs.specs.Limits.{most_of, most_if, most_case, most_listed, most_tested, most_counted, most_counted_of, most_counted_in}
+use Rattle.c_resolved_defs.specs.PrintableExpressions.{counted, counted_at}
+use Rattle.c_resolved_defs.specs.PrintableStatements.{most, FullPrints, OptionPrints, ListPrints, ValuesPrint, SlotPrints, TestPrints, SelectorPrints, StartPrints, FurtherPrint, depth}
+use Rattle.c_resolved_defs.specs.PrintablePrograms.{GivenPrints, EnumeratorsPrint, EnumPrints}
+use Rattle.c_resolved_defs.specs.Spelling.{ItemIsSpelled, AreSpelled, SectionsAreSpelled, BodyIsSpelled, TopIsSpelled}
+use Rattle.c_resolved_defs.specs.Within.{Each}
+use Rattle.c_resolved_laws.specs.Counts.{IsResolved}
+use Rattle.whole_laws.proofs.Flattened.{body_is}
+use Rattle.print_limits.specs.Limits.{FunctionIsWithin, EnumItemIsWithin, TopIsWithin, IsWithinLimits}
 
 both : (a b : ℕ) → a ≤ most → b ≤ most → max a b ≤ most
 both a b h k = omega (arith, h, k)

@@ -4,18 +4,18 @@ use Rattle.c_types.specs.declared.refusal.Refusal.{Refusal}
 use Rattle.c_copies.specs.Names.{names, file_names}
 use Rattle.c_tree.specs.declared.tree.Top.{Top}
 use Rattle.c_tree.specs.declared.tree.Program.{Program}
-use Rattle.move_records.specs.declared.moves.Move.{Move}
-use Rattle.move_records.specs.Report.{IsBadLine}
+use Rattle.report_moves.specs.declared.moves.Move.{Move}
+use Rattle.report_moves.specs.Report.{IsBadLine}
 use Rattle.move_report.specs.Answers.{IsReport}
-use Rattle.derived_functions.specs.Counts.{jumps}
+use Rattle.move_order_laws.specs.MoveFunctionCounts.{jumps}
 use Rattle.plain_form.specs.Plain.{plain}
-use Rattle.named_programs.specs.Flattened.{most_held, FlattenedTops}
+use Rattle.restructure_laws.specs.Flattened.{most_held, FlattenedTops}
 use Rattle.move_driver.specs.declared.counts.Counts.{Counts}
 use Rattle.move_driver.specs.Counts.{counted, guards_from, counts_of}
-use Rattle.printed_limits.specs.Limits.{IsWithinLimits}
-use Rattle.lawful_moves.specs.Lawful.{Moves}
-use Rattle.lawful_moves.specs.Replayed.{converted_tops, IsTopLeapless}
-use Rattle.lawful_steps.specs.Steps.{StopsAt}
+use Rattle.print_limits.specs.Limits.{IsWithinLimits}
+use Rattle.replay_laws.specs.Lawful.{Moves}
+use Rattle.replay_laws.specs.Replayed.{converted_tops, IsTopLeapless}
+use Rattle.replay_moves.specs.Steps.{StopsAt}
 use Rattle.move_replay.specs.Lines.{line_start}
 
 -- the functions have their flat forms, with these names, and are converted

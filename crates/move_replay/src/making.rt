@@ -1,16 +1,16 @@
 //! All moves of a report, made in a program.
 
 ghost use Rattle.std.specs.Prelude.{◌≡◌, ◌+◌, OnOk, Err, All, length};
-ghost use Rattle.lawful_moves.specs.Lawful.{Moves};
-ghost use Rattle.lawful_moves.specs.Replayed.{IsTopWellMade, IsTopLeapless};
+ghost use Rattle.replay_laws.specs.Lawful.{Moves};
+ghost use Rattle.replay_laws.specs.Replayed.{IsTopWellMade, IsTopLeapless};
 ghost use Rattle.move_replay.specs.Replay.{IsAt, IsStopped, Stops};
 
 use crate::lines::line_start;
 use crate::reading::refused;
 use c_tree::Top;
 use c_types::{List, ReadStop, Refusal};
-use lawful_steps::{leap_left, make_moves};
-use move_records::Move;
+use replay_moves::{leap_left, make_moves};
+use report_moves::Move;
 use std::alloc::Global;
 
 /// Makes the moves in their order. Refuses with reason 51 at the first that isn't lawful.

@@ -6,7 +6,7 @@ ghost use Rattle.move_replay.specs.Replay.{IsUnreadable};
 
 use crate::lines::line_start;
 use c_types::{List, ReadStop, Refusal};
-use move_records::Move;
+use report_moves::Move;
 use move_report::{ReportStop, read_report};
 use std::alloc::Global;
 

@@ -4,18 +4,18 @@ ghost use Rattle.std.specs.Prelude.{◌≡◌, ◌≢◌, ◌+◌, true, IfOk, O
 ghost use Rattle.c_tree.specs.InRange.{IsProgramInRange};
 ghost use Rattle.c_tree.specs.Jumps.{is_plain_program};
 ghost use Rattle.c_tree.specs.Text.{text_of};
-ghost use Rattle.text_reading.specs.Reading.{IsProgramOf};
-ghost use Rattle.plain_core.specs.Laws.{BehavesAsStructured};
-ghost use Rattle.resolved_core.specs.Counts.{IsResolved};
+ghost use Rattle.c_text.specs.Reading.{IsProgramOf};
+ghost use Rattle.plain_laws.specs.Laws.{BehavesAsStructured};
+ghost use Rattle.c_resolved_laws.specs.Counts.{IsResolved};
 ghost use Rattle.c_tree.specs.declared.tree.Program.{Program as TheProgram};
-ghost use Rattle.move_records.specs.Report.{report_text};
+ghost use Rattle.report_moves.specs.Report.{report_text};
 ghost use Rattle.move_report.specs.Answers.{IsReport};
 ghost use Rattle.move_report.specs.Numbers.{HaveNumbers};
 ghost use Rattle.move_driver.specs.Restructured.{IsRestructured};
 ghost use Rattle.move_driver.specs.declared.counts.Counts.{Counts as TheCounts};
-ghost use Rattle.move_records.specs.declared.moves.Move.{Move as TheMove};
+ghost use Rattle.report_moves.specs.declared.moves.Move.{Move as TheMove};
 ghost use Rattle.plain_form.specs.Plain.{plain as the_plain};
-ghost use Rattle.printed_limits.specs.Limits.{IsWithinLimits};
+ghost use Rattle.print_limits.specs.Limits.{IsWithinLimits};
 ghost use Rattle.move_replay.specs.Replay.{IsFlatStart, IsFinished, IsAt, IsReplay, IsRefusal};
 
 use crate::making::make_all;
@@ -24,11 +24,11 @@ use c_copies::{file_names, names};
 use c_tree::{Program, Top};
 use c_types::{List, Memory, Name, ReadStop, Refusal};
 use flat_names::ProgramNames;
-use lawful_steps::convert_tops;
+use replay_moves::convert_tops;
 use move_driver::{Counts, count, flatten_tops};
-use move_records::Move;
+use report_moves::Move;
 use plain_form::plain;
-use printed_limits::is_within_limits;
+use print_limits::is_within_limits;
 use std::alloc::Global;
 
 /// The flat forms of all functions, converted.

@@ -8,8 +8,8 @@ use Rattle.c_tree.specs.declared.tree.Branch.{Branch}
 use Rattle.c_tree.specs.declared.tree.Branch.TheVariants as B
 use Rattle.c_tree.specs.declared.tree.Step.{Step}
 use Rattle.c_tree.specs.declared.tree.Path.{Path}
-use Rattle.move_records.specs.Report.{Of, is_no_dot, is_no_newline, branch_text, steps_text, path_text, IsNumber, IsBranch, AreSteps, IsPath}
-use Rattle.move_records.proofs.Fronts.{front_unique, wider, digits, digit_no_dot, branch_front}
+use Rattle.report_moves.specs.Report.{Of, is_no_dot, is_no_newline, branch_text, steps_text, path_text, IsNumber, IsBranch, AreSteps, IsPath}
+use Rattle.report_moves.proofs.Fronts.{front_unique, wider, digits, digit_no_dot, branch_front}
 use Rattle.move_report.specs.Reading.{Lacks, IsCut, IsStep, HasNoStep}
 use Rattle.move_report.proofs.Cuts.{of_append, lacks_not}
 

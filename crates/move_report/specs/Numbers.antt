@@ -1,7 +1,7 @@
 -- Moves whose numbers can be written.
 use Rattle.std.specs.Prelude.{List, [], ◌∷◌}
-use Rattle.move_records.specs.declared.moves.Move.{Move}
-use Rattle.move_records.specs.Report.{IsPath}
+use Rattle.report_moves.specs.declared.moves.Move.{Move}
+use Rattle.report_moves.specs.Report.{IsPath}
 
 -- each number of each path fits 32 bits
 abbrev pub HaveNumbers : List Move → Type 0

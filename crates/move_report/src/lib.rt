@@ -1,10 +1,10 @@
-//! The report of the moves: written, and read back. Its text is defined in move_records/specs/Report.
+//! The report of the moves: written, and read back. Its text is defined in report_moves/specs/Report.
 #![tactic(auto)]
 
 mod line;
 mod read;
 mod write;
 
-pub use move_records::{Move, MoveKind};
+pub use report_moves::{Move, MoveKind};
 pub use read::{ReportStop, read_report};
 pub use write::{report_to, write_report};

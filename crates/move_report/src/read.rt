@@ -3,7 +3,7 @@ ghost use Rattle.move_report.specs.Answers.{IsReport, Refuses};
 
 use crate::line::line_at;
 use c_types::{List, Memory};
-use move_records::Move;
+use report_moves::Move;
 use std::alloc::Global;
 
 /// Why a text was not read as a report.

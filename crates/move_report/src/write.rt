@@ -2,16 +2,16 @@ ghost use Rattle.std.specs.Prelude.{◌≡◌, ◌≤◌, ◌∷◌, ◌++◌, [
 ghost use Rattle.std.specs.Fmt.{decimal};
 ghost use Rattle.rg_ports.specs.Count.{Rose};
 ghost use Rattle.rg_ports.specs.Written.{more, FrontWritten};
-ghost use Rattle.byte_writer.specs.Writing.{Puts};
-ghost use Rattle.move_records.specs.Report.{kind_text as the_kind_text, label_text as the_label_text, branch_text, steps_text, path_text, move_text, moves_text, report_text, IsNumber, IsBranch, AreSteps, IsPath};
+ghost use Rattle.rg_ports.specs.Writing.{Puts};
+ghost use Rattle.report_moves.specs.Report.{kind_text as the_kind_text, label_text as the_label_text, branch_text, steps_text, path_text, move_text, moves_text, report_text, IsNumber, IsBranch, AreSteps, IsPath};
 ghost use Rattle.move_report.specs.Numbers.{HaveNumbers};
 
 use arrayvec::ArrayVec;
-use byte_writer::{Growing, Output, Writer};
+use rg_ports::{Growing, Output, Writer};
 use c_tree::{Branch, Path, Step};
 use c_types::{Bytes, List, MOST, Memory, Name};
 use itoa::Buffer;
-use move_records::{Move, MoveKind};
+use report_moves::{Move, MoveKind};
 use rg_ports::{Failed, Sink};
 use std::alloc::Global;
 

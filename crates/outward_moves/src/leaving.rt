@@ -7,7 +7,7 @@ ghost use Rattle.outward_moves.specs.Fallen.{fallen_after};
 use crate::sections::{Room, count_later, leave_section, make_rooms};
 use c_tree::{Branch, Item, Test};
 use c_types::{Boxed, List, Memory};
-use list_edits::{and_off, guard_between};
+use move_list_edits::{and_off, guard_between};
 use std::alloc::Global;
 
 /// Takes the Leap out of a list and puts the items after it under the guard.

@@ -5,7 +5,7 @@ ghost use Rattle.c_tree.specs.Outward.{left, moved_out, moved_out_at, path_outsi
 ghost use Rattle.c_tree.specs.Paths.{child as the_child};
 ghost use Rattle.c_tree.specs.Trees.{trees_of};
 ghost use Rattle.c_tree.specs.WellMade.{IsWellMade};
-ghost use Rattle.move_core.specs.Laws.{Keeps};
+ghost use Rattle.move_laws.specs.MoveRuleLaws.{Keeps};
 ghost use Rattle.outward_moves.specs.Fallen.{fallen_after};
 ghost use Rattle.outward_moves.specs.Leaving.{IsHeldElsewhere, IsMovedOut};
 
@@ -13,7 +13,7 @@ use crate::leaving::{Spare, leave, make_spare};
 use c_tree::{Branch, Item, Path, Step, replace_at};
 use c_types::{List, MOST, Memory};
 use label_offsets::label_at;
-use list_edits::insert_at;
+use move_list_edits::insert_at;
 use std::alloc::Global;
 
 fn leave_at(

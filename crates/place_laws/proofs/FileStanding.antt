@@ -1,9 +1,9 @@
 -- The maps of a walk over a file find what is declared in front of its place.
 use Rattle.std.proofs.Common.{◌≡◌, ℕ, ℤ, negsuc, List, [], ◌∷◌, Option, Some, None, refl, ap, subst}
 use Rattle.std.specs.Prelude.{option_map, option_and_then}
-use Rattle.c_source.specs.Terms.{Term}
-use Rattle.c_source.specs.Items.{Declarator}
-use Rattle.c_source.specs.Tops.{Enumerator, Function, Form, Line, Enum, Globals, Defines, Unread, Top, From}
+use Rattle.c_layers.specs.Terms.{Term}
+use Rattle.c_layers.specs.Items.{Declarator}
+use Rattle.c_layers.specs.Tops.{Enumerator, Function, Form, Line, Enum, Globals, Defines, Unread, Top, From}
 use Rattle.c_kinds.specs.declared.binding.Binding.TheVariants.{Constant, Global}
 use Rattle.c_kinds.specs.declared.binding.Binding.TheVariants as binding
 use Rattle.c_kinds.specs.Scopes.{Scope, bind}

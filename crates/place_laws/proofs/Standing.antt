@@ -1,8 +1,8 @@
 -- A walk stands at a place: the names are the same there, and it has as many slots as there are variables before.
 use Rattle.std.proofs.Common.{◌≡◌, ℕ, ◌+◌, List, [], ◌∷◌, ◌++◌, length, length-append, Option, Some, None, refl, ap, sym, subst, ◌∙◌, arith, add-zero, add_assoc}
 use Rattle.c_tree.specs.declared.tree.Slot.{Slot}
-use Rattle.c_source.specs.Items.{Declarator, Start, NoStart, StartValue, StartNames, Item, Declares, States, Plain, From, Statement, Null, Evaluate, If, IfElse, While, DoWhile, For, Switch, Block, Goto, Break, Continue, Return, Unread, Body, Braces, Lone, Items, NoItem, Then}
-use Rattle.c_source.specs.Tops.{Parameter}
+use Rattle.c_layers.specs.Items.{Declarator, Start, NoStart, StartValue, StartNames, Item, Declares, States, Plain, From, Statement, Null, Evaluate, If, IfElse, While, DoWhile, For, Switch, Block, Goto, Break, Continue, Return, Unread, Body, Braces, Lone, Items, NoItem, Then}
+use Rattle.c_layers.specs.Tops.{Parameter}
 use Rattle.c_kinds.specs.declared.binding.Binding.TheVariants.{Local}
 use Rattle.c_kinds.specs.Scopes.{Scope, bind}
 use Rattle.c_statements.specs.declared.extents.Kinded.{Kinded}

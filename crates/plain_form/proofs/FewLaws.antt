@@ -5,8 +5,8 @@ use Rattle.c_tree.specs.declared.tree.Item.{Item}
 use Rattle.c_tree.specs.declared.tree.Function.{Function}
 use Rattle.c_tree.specs.declared.tree.Top.{Top}
 use Rattle.c_tree.specs.declared.tree.Top.TheVariants as T
-use Rattle.plain_core.specs.Plain.{guard_slot, names_left, tidied, with_guard_variables, plain_body, plain_top}
-use Rattle.plain_core.proofs.LeftLabels.{few_names}
+use Rattle.plain_laws.specs.Plain.{guard_slot, names_left, tidied, with_guard_variables, plain_body, plain_top}
+use Rattle.plain_laws.proofs.LeftLabels.{few_names}
 use Rattle.plain_form.specs.Few.{AreFewGuards, AreFewInTop, AreFewInTops}
 
 module _ (names : Function → List (List ℕ)) (named : (f : Function) → length (names f) ≡ length f.labels) where

@@ -7,7 +7,7 @@ use Rattle.c_tree.specs.declared.tree.Item.TheOpen as O
 use Rattle.c_tree.specs.declared.tree.Section.{Section}
 use Rattle.c_tree.specs.declared.tree.Selector.{Selector}
 use Rattle.c_tree.specs.declared.tree.Test.{Test}
-use Rattle.plain_core.specs.Plain.{ended}
+use Rattle.plain_laws.specs.Plain.{ended}
 use Rattle.plain_form.specs.declared.slots.Guards.{Guards}
 use Rattle.plain_form.specs.Made.{test_made, made_step, made_item, made_items}
 

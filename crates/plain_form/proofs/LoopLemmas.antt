@@ -1,6 +1,6 @@
 -- One turn of the loops that declare variables.
 use Rattle.std.proofs.Common.{◌≡◌, ℕ, suc, ◌+◌, ◌-◌, ◌<◌, List, [], ◌∷◌, ◌++◌, map, sym, ap, ◌∙◌, append_assoc, arith}
-use Rattle.plain_core.specs.Plain.{numbers_from}
+use Rattle.plain_laws.specs.Plain.{numbers_from}
 
 numbers_more : (k to : ℕ) → k < to → numbers_from k (to - k) ≡ k ∷ numbers_from (k + 1) (to - (k + 1))
 numbers_more k to h = let s : to - k ≡ suc (to - (k + 1)) = omega arith in ap (numbers_from k) s

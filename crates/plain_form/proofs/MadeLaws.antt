@@ -9,7 +9,7 @@ use Rattle.c_tree.specs.declared.tree.Item.TheVariants.{rolls-Evaluate, rolls-If
 use Rattle.c_tree.specs.declared.tree.Section.{Section, roll-Section, fold-roll-Section}
 use Rattle.c_tree.specs.declared.tree.Selector as S
 use Rattle.c_tree.specs.declared.tree.Test as T
-use Rattle.plain_core.specs.Plain.{item_step, section_step, plain_item, plain_section, plain_items, plain_test, plain_selector, ended, given, tidied_step, tidied_item, tidied_section, tidied}
+use Rattle.plain_laws.specs.Plain.{item_step, section_step, plain_item, plain_section, plain_items, plain_test, plain_selector, ended, given, tidied_step, tidied_item, tidied_section, tidied}
 use Rattle.plain_form.specs.declared.slots.Slots.{Slots}
 use Rattle.plain_form.specs.declared.slots.Guards.{Guards}
 use Rattle.plain_form.specs.declared.slots.Guards.TheVariants.{Kept, Variables}

@@ -11,7 +11,7 @@ use Rattle.c_tree.specs.declared.tree.Test.{Test, Test-F, roll-Test, ind-Test, m
 use Rattle.c_tree.specs.declared.tree.Test.TheOpen as T
 use Rattle.c_tree.specs.declared.tree.Selector.{Selector, Selector-F, roll-Selector, ind-Selector, map-Selector, fold-roll-Selector}
 use Rattle.c_tree.specs.declared.tree.Selector.TheOpen as S
-use Rattle.plain_core.specs.Plain.{test_names_step, test_names, selector_names_step, selector_names, any_true, names_step, section_names_step, item_names, section_names, is_left, labels_left, names_left, numbers_from}
+use Rattle.plain_laws.specs.Plain.{test_names_step, test_names, selector_names_step, selector_names, any_true, names_step, section_names_step, item_names, section_names, is_left, labels_left, names_left, numbers_from}
 use Rattle.plain_form.specs.Marks.{Marking, mark, all_marked, test_marked_step, test_marked, selector_marked_step, selector_marked, marked_step, section_marked_step, item_marked, section_marked, items_marked, unmarked, marks_of, places_marked, names_marked}
 
 -- ---- marks with more marks, by a test of the labels from n on

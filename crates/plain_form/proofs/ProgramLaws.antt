@@ -5,8 +5,8 @@ use Rattle.c_tree.specs.declared.tree.Program.{Program}
 use Rattle.c_tree.specs.InRange.{IsProgramInRange}
 use Rattle.c_tree.specs.Jumps.{is_jump_free_program, is_plain_program}
 use Rattle.jump_meaning.specs.Runs.{BehaveTheSame}
-use Rattle.plain_core.specs.Laws.{IsProgramReady, BehavesAsStructured}
-use Rattle.plain_core.proofs.TheLaws.{plain_laws}
+use Rattle.plain_laws.specs.Laws.{IsProgramReady, BehavesAsStructured}
+use Rattle.plain_laws.proofs.TheLaws.{plain_laws}
 use Rattle.guard_vars.specs.GuardNames.{guard_names}
 use Rattle.guard_vars.proofs.GuardNames.{length-guard_names}
 use Rattle.plain_form.specs.Few.{AreFewInTops}

@@ -5,7 +5,7 @@ use Rattle.c_tree.specs.declared.tree.Expression.{Expression}
 use Rattle.c_tree.specs.declared.tree.Item.{Item}
 use Rattle.c_tree.specs.declared.tree.Section.{Section, out-Section, roll-Section}
 use Rattle.c_tree.specs.TextItems.{is_empty}
-use Rattle.plain_core.specs.Plain.{is_break, last_is_break, without_last, ended, with_entries, give_to, given}
+use Rattle.plain_laws.specs.Plain.{is_break, last_is_break, without_last, ended, with_entries, give_to, given}
 use Rattle.plain_form.specs.Made.{given_after}
 
 -- ---- the last item

@@ -9,7 +9,7 @@ use Rattle.c_tree.specs.declared.tree.Item.TheOpen as I
 use Rattle.c_tree.specs.declared.tree.Section.{Section, fold-Section}
 use Rattle.c_types.specs.declared.kinds.IntKind.TheVariants.{Int}
 use Rattle.std.specs.Prelude.{pos}
-use Rattle.plain_core.specs.Plain.{number, guard_set, armed, plain_test, plain_selector, slot_among, ended, given}
+use Rattle.plain_laws.specs.Plain.{number, guard_set, armed, plain_test, plain_selector, slot_among, ended, given}
 use Rattle.plain_form.specs.declared.slots.Slots.{Slots}
 use Rattle.plain_form.specs.declared.slots.Guards.{Guards}
 use Rattle.plain_form.specs.declared.slots.Guards.TheVariants.{Kept, Variables}

@@ -7,7 +7,7 @@ use Rattle.c_tree.specs.declared.tree.Selector.TheOpen as S
 use Rattle.c_tree.specs.declared.tree.Item.{Item, Item-F, fold-Item}
 use Rattle.c_tree.specs.declared.tree.Item.TheOpen as I
 use Rattle.c_tree.specs.declared.tree.Section.{Section, fold-Section}
-use Rattle.plain_core.specs.Plain.{is_left, numbers_from}
+use Rattle.plain_laws.specs.Plain.{is_left, numbers_from}
 
 -- so many marks, none of which is set
 abbrev pub unmarked : ℕ → List Bool

@@ -1,7 +1,7 @@
 -- The plain form of a program in which these names are used.
 use Rattle.std.specs.Prelude.{ℕ, List}
 use Rattle.c_tree.specs.declared.tree.Program.{Program}
-use Rattle.plain_core.specs.Plain.{plain_with}
+use Rattle.plain_laws.specs.Plain.{plain_with}
 use Rattle.guard_vars.specs.GuardNames.{guard_names}
 
 -- with the names that `guard_names` gives to the guards of each function

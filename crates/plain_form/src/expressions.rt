@@ -1,6 +1,6 @@
 ghost use Rattle.std.specs.Prelude.{◌≡◌, ◌≤ℤ◌, negsuc, pos, IfOk};
 ghost use Rattle.c_types.specs.Numbers.{least as the_least};
-ghost use Rattle.plain_core.specs.Plain.{expression as the_expression, number as the_number, guard as the_guard, guard_off as the_guard_off, guard_set as the_guard_set, is_truth as the_is_truth, is_truth_mark as the_is_truth_mark, truth as the_truth, least_constant as the_least_constant, constant as the_constant, promoted as the_promoted, plain_test as the_plain_test, selector_kind as the_selector_kind, picked as the_picked, plain_selector as the_plain_selector, armed as the_armed, slot_among};
+ghost use Rattle.plain_laws.specs.Plain.{expression as the_expression, number as the_number, guard as the_guard, guard_off as the_guard_off, guard_set as the_guard_set, is_truth as the_is_truth, is_truth_mark as the_is_truth_mark, truth as the_truth, least_constant as the_least_constant, constant as the_constant, promoted as the_promoted, plain_test as the_plain_test, selector_kind as the_selector_kind, picked as the_picked, plain_selector as the_plain_selector, armed as the_armed, slot_among};
 
 use crate::slots::Slots;
 use c_copies::copy_expression;

@@ -1,6 +1,6 @@
 ghost use Rattle.std.specs.Prelude.{◌≡◌, ◌≤◌, ◌+◌, ◌-◌, ◌++◌, length, map, Some, IfOk};
 ghost use Rattle.guard_vars.specs.GuardNames.{guard_names_beside as the_guard_names_beside};
-ghost use Rattle.plain_core.specs.Plain.{guard_slot, numbers_from, variable_declared, guard_declared as the_guard_declared, declared as the_declared, guarded_body as the_guarded_body, with_guard_variables as the_with_guard_variables, tidied, plain_function as the_plain_function};
+ghost use Rattle.plain_laws.specs.Plain.{guard_slot, numbers_from, variable_declared, guard_declared as the_guard_declared, declared as the_declared, guarded_body as the_guarded_body, with_guard_variables as the_with_guard_variables, tidied, plain_function as the_plain_function};
 
 use crate::expressions::number;
 use crate::items::{plain_items, tidied_items};
@@ -10,7 +10,7 @@ use crate::slots::Slots;
 use c_copies::{copy_function, copy_slots};
 use c_tree::{Function, Item, Slot};
 use c_types::{IntKind, List, MOST, Memory, Name};
-use fresh_names::UsedNames;
+use c_fresh_names::UsedNames;
 use guard_vars::guard_names_beside;
 use std::alloc::Global;
 

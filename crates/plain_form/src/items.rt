@@ -1,5 +1,5 @@
 ghost use Rattle.std.specs.Prelude.{◌≡◌, IfOk};
-ghost use Rattle.plain_core.specs.Plain.{given as the_given, plain_items as the_plain_items, slot_among, tidied};
+ghost use Rattle.plain_laws.specs.Plain.{given as the_given, plain_items as the_plain_items, slot_among, tidied};
 ghost use Rattle.plain_form.specs.Made.{test_made, selector_made, arm_made, land_made, made_item as the_made_item, made_section as the_made_section, made_items as the_made_items, made_sections as the_made_sections};
 
 use crate::expressions::{armed, guard_set, number, plain_selector, plain_test};

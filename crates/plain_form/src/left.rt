@@ -1,7 +1,7 @@
 //! The guards that are left in a body.
 
 ghost use Rattle.std.specs.Prelude.{◌≡◌, ◌≤◌, ◌++◌, ◌∷◌, [], cond, length, IfOk, OnOk};
-ghost use Rattle.plain_core.specs.Plain.{labels_left, names_left};
+ghost use Rattle.plain_laws.specs.Plain.{labels_left, names_left};
 ghost use Rattle.plain_form.specs.Marks.{unmarked, mark as the_mark, test_marked, selector_marked, item_marked, section_marked, items_marked, sections_marked, marks_of as the_marks_of, places_marked as the_places_marked, names_marked as the_names_marked};
 
 use c_tree::{Item, Section, Selector, Test};

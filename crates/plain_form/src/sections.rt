@@ -1,7 +1,7 @@
 ghost use Rattle.std.specs.Prelude.{◌≡◌, ◌+◌, ◌≤◌, ◌++◌, ◌∷◌, ◌&&◌, not, List as Several, IfOk, OnOk, vec_len};
 ghost use Rattle.c_tree.specs.declared.tree.Section.{Section, out-Section};
 ghost use Rattle.c_tree.specs.TextItems.{is_empty};
-ghost use Rattle.plain_core.specs.Plain.{is_break as the_is_break, last_is_break as the_last_is_break, ended as the_ended, with_entries as the_with_entries, given as the_given};
+ghost use Rattle.plain_laws.specs.Plain.{is_break as the_is_break, last_is_break as the_last_is_break, ended as the_ended, with_entries as the_with_entries, given as the_given};
 ghost use Rattle.plain_form.specs.Made.{given_after};
 
 use c_tree::{Item, Section};

@@ -1,5 +1,5 @@
 ghost use Rattle.std.specs.Prelude.{◌≡◌, ◌+◌, ◌≤◌, length};
-ghost use Rattle.plain_core.specs.Plain.{slot_among};
+ghost use Rattle.plain_laws.specs.Plain.{slot_among};
 
 use c_types::List;
 

@@ -3,8 +3,8 @@ ghost use Rattle.c_tree.specs.Jumps.{is_jump_free_program, is_plain_program};
 ghost use Rattle.c_tree.specs.InRange.{IsProgramInRange};
 ghost use Rattle.jump_meaning.specs.Runs.{BehaveTheSame};
 ghost use Rattle.guard_vars.specs.GuardNames.{guard_names, guard_names_beside};
-ghost use Rattle.plain_core.specs.Laws.{IsProgramReady, BehavesAsStructured};
-ghost use Rattle.plain_core.specs.Plain.{plain_top as the_plain_top};
+ghost use Rattle.plain_laws.specs.Laws.{IsProgramReady, BehavesAsStructured};
+ghost use Rattle.plain_laws.specs.Plain.{plain_top as the_plain_top};
 ghost use Rattle.plain_form.specs.Few.{AreFewInTops};
 ghost use Rattle.plain_form.specs.Plain.{plain as the_plain};
 
@@ -12,7 +12,7 @@ use crate::functions::plain_function;
 use c_copies::copy_top;
 use c_tree::{Program, Top};
 use c_types::{List, Memory, Name};
-use fresh_names::UsedNames;
+use c_fresh_names::UsedNames;
 use std::alloc::Global;
 
 fn plain_top(alloc: Global, used: &mut UsedNames, top: &Top) -> Result<Top, Memory>

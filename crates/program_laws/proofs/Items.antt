@@ -4,9 +4,9 @@ use Rattle.std.specs.Prelude.{option_map}
 use Rattle.c_tree.specs.declared.tree.Item as item
 use Rattle.c_tree.specs.declared.tree.Section.{Section}
 use Rattle.c_tree.specs.declared.tree.Test as test
-use Rattle.c_source.specs.Terms.{Term}
-use Rattle.c_source.specs.Items.{Size, NoSize, Unsized, Sized, Declarator, Declaration, Label, Named, Case, Default, Start, NoStart, StartValue, StartNames, Declares, States, Plain, From, Statement, Null, Evaluate, If, IfElse, While, DoWhile, For, Switch, Block, Goto, Break, Continue, Return, Unread, Body, Braces, Lone, Items, NoItem, Then, first_label}
-use Rattle.c_source.specs.Items as items
+use Rattle.c_layers.specs.Terms.{Term}
+use Rattle.c_layers.specs.Items.{Size, NoSize, Unsized, Sized, Declarator, Declaration, Label, Named, Case, Default, Start, NoStart, StartValue, StartNames, Declares, States, Plain, From, Statement, Null, Evaluate, If, IfElse, While, DoWhile, For, Switch, Block, Goto, Break, Continue, Return, Unread, Body, Braces, Lone, Items, NoItem, Then, first_label}
+use Rattle.c_layers.specs.Items as items
 use Rattle.c_kinds.specs.Scopes.{Names}
 use Rattle.c_kinds.specs.Values.{value_of, dropped}
 use Rattle.c_kinds.specs.Constants.{constant_of}

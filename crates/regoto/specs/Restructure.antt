@@ -1,19 +1,19 @@
 -- What `restructure FROM TO`, `restructure FROM TO --report REPORT`, `show FROM` and `moves FROM` do.
 use Rattle.std.specs.Prelude.{◌≡◌, ℕ, List, Option}
-use Rattle.text_reading.specs.Reading.{IsInSubset, IsRefusedFor}
+use Rattle.c_text.specs.Reading.{IsInSubset, IsRefusedFor}
 use Rattle.move_driver.specs.Text.{Output, IsTextRestructured, IsOnlyOutput}
 use Rattle.move_driver.specs.Settled.{IsTextSettled}
 use Rattle.rg_ports.specs.Files.{Files}
 use Rattle.rg_ports.specs.declared.reads.ReadCounts.{ReadCounts}
 use Rattle.rg_ports.specs.Written.{Written}
-use Rattle.command_lines.specs.declared.lines.Summary.TheVariants as summary
-use Rattle.command_lines.specs.declared.status.Status.{Status}
-use Rattle.file_commands.specs.declared.translator.Translation.{Translation}
-use Rattle.file_commands.specs.declared.translator.Part.{Part}
-use Rattle.file_commands.specs.Translated.{Completes as CompletesWhere}
-use Rattle.file_commands.specs.Written.{Writes}
-use Rattle.file_commands.specs.Shown.{Shows}
-use Rattle.text_replay.specs.Laws.{GivesTheSame}
+use Rattle.cmd_words.specs.declared.lines.Summary.TheVariants as summary
+use Rattle.cmd_words.specs.declared.status.Status.{Status}
+use Rattle.cmd_files.specs.declared.translator.Translation.{Translation}
+use Rattle.cmd_files.specs.declared.translator.Part.{Part}
+use Rattle.cmd_files.specs.Translated.{Completes as CompletesWhere}
+use Rattle.cmd_files.specs.Written.{Writes}
+use Rattle.cmd_files.specs.Shown.{Shows}
+use Rattle.cmd_replay_text.specs.Laws.{GivesTheSame}
 
 -- what is written of a restructured text, and told of it
 abbrev pub translation_of : Output → Translation

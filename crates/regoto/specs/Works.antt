@@ -1,11 +1,11 @@
 -- What the commands do with texts.
 use Rattle.std.specs.Prelude.{ℕ, List, Option}
 use Rattle.command_table.specs.Effects.{Effects}
-use Rattle.demo_runs.specs.Demos.{ShowsDemo, CompletesDemo}
-use Rattle.text_runs.specs.Texts.{RunsText, CompletesText}
-use Rattle.text_replay.specs.Texts.{ReplaysText, CompletesText as CompletesReplay}
-use Rattle.text_tidy.specs.Texts.{TidiesText, CompletesText as CompletesTidy}
-use Rattle.text_lower.specs.Texts.{LowersText, CompletesText as CompletesLower}
+use Rattle.cmd_demo.specs.Demos.{ShowsDemo, CompletesDemo}
+use Rattle.cmd_run_text.specs.Texts.{RunsText, CompletesText}
+use Rattle.cmd_replay_text.specs.Texts.{ReplaysText, CompletesText as CompletesReplay}
+use Rattle.cmd_tidy.specs.Texts.{TidiesText, CompletesText as CompletesTidy}
+use Rattle.cmd_lower.specs.Texts.{LowersText, CompletesText as CompletesLower}
 use Rattle.regoto.specs.Restructure.{Restructures, ShowsRestructured, Completes}
 
 abbrev pub text_effects : Effects

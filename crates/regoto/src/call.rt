@@ -1,18 +1,18 @@
 ghost use Rattle.std.specs.Prelude.{◌≡◌, ◌↔◌, ℕ, List, Option, map, string_bytes, Some, None};
-ghost use Rattle.command_lines.specs.Lines.{Tells, usage_line};
-ghost use Rattle.command_lines.specs.Command.{Restructure, Run, Demo, Help, Show, Moves, Replay, Tidy, Lower, command_of};
-ghost use Rattle.command_lines.specs.Help.{Helps};
-ghost use Rattle.demo_runs.specs.Demos.{ShowsDemo, CompletesDemo};
-ghost use Rattle.text_runs.specs.Texts.{RunsText, CompletesText};
-ghost use Rattle.text_replay.specs.Texts.{ReplaysText, CompletesText as CompletesReplay};
-ghost use Rattle.text_tidy.specs.Texts.{TidiesText, CompletesText as CompletesTidy};
-ghost use Rattle.text_lower.specs.Texts.{LowersText, CompletesText as CompletesLower};
+ghost use Rattle.cmd_words.specs.Lines.{Tells, usage_line};
+ghost use Rattle.cmd_words.specs.Command.{Restructure, Run, Demo, Help, Show, Moves, Replay, Tidy, Lower, command_of};
+ghost use Rattle.cmd_words.specs.Help.{Helps};
+ghost use Rattle.cmd_demo.specs.Demos.{ShowsDemo, CompletesDemo};
+ghost use Rattle.cmd_run_text.specs.Texts.{RunsText, CompletesText};
+ghost use Rattle.cmd_replay_text.specs.Texts.{ReplaysText, CompletesText as CompletesReplay};
+ghost use Rattle.cmd_tidy.specs.Texts.{TidiesText, CompletesText as CompletesTidy};
+ghost use Rattle.cmd_lower.specs.Texts.{LowersText, CompletesText as CompletesLower};
 ghost use Rattle.regoto.specs.Restructure.{Restructures, ShowsRestructured, Completes};
 
 use crate::works::TextWorks;
-use command_lines::Status;
+use cmd_words::Status;
 use command_table::carry_out;
-use file_commands::Part;
+use cmd_files::Part;
 use rg_ports::{Shelf, Sink, Source};
 use std::alloc::Global;
 

@@ -1,8 +1,8 @@
 ghost use Rattle.std.specs.Prelude.{◌≡◌};
 
 use c_types::ReadStop;
-use command_lines::Summary;
-use file_commands::{Translation, Translator};
+use cmd_words::Summary;
+use cmd_files::{Translation, Translator};
 use move_driver::{Counts, Written, restructure_text};
 use std::alloc::Global;
 
@@ -10,8 +10,8 @@ use std::alloc::Global;
 pub struct Restructurer;
 
 impl Translator for Restructurer {
-    ghost use Rattle.text_reading.specs.Reading.{IsInSubset, IsRefusedFor};
-    ghost use Rattle.text_reading.proofs.Readings.{faultless};
+    ghost use Rattle.c_text.specs.Reading.{IsInSubset, IsRefusedFor};
+    ghost use Rattle.c_text.proofs.Readings.{faultless};
     ghost use Rattle.regoto.specs.Restructure.{IsRestructuredTo};
 
     ghost gives = { IsRestructuredTo };
@@ -20,7 +20,7 @@ impl Translator for Restructurer {
 
     ghost refuses = { λ text refusal. IsRefusedFor text refusal };
 
-    #[tactic(auto, using(text_replay::proofs::Rewritten::report_law))]
+    #[tactic(auto, using(cmd_replay_text::proofs::Rewritten::report_law))]
     fn translate(&self, alloc: Global, text: &[u8]) -> Result<Translation, ReadStop> {
         let Written {
             text,

@@ -1,21 +1,21 @@
 ghost use Rattle.std.specs.Prelude.{◌≡◌, None};
-ghost use Rattle.command_lines.specs.Lines.{Tells};
-ghost use Rattle.file_commands.specs.Translated.{Completes as CompletesWhere};
-ghost use Rattle.file_commands.specs.Written.{Writes};
+ghost use Rattle.cmd_words.specs.Lines.{Tells};
+ghost use Rattle.cmd_files.specs.Translated.{Completes as CompletesWhere};
+ghost use Rattle.cmd_files.specs.Written.{Writes};
 
 use crate::restructurer::Restructurer;
-use command_lines::Status;
+use cmd_words::Status;
 use command_table::Works;
-use demo_runs::demo;
-use file_commands::{Part, Targets, Translator, show, write};
-use replay_commands::replay_file;
+use cmd_demo::demo;
+use cmd_files::{Part, Targets, Translator, show, write};
+use cmd_replay::replay_file;
 use rg_ports::{Shelf, Sink, Source};
-use run_commands::run_file;
+use cmd_run::run_file;
 use std::alloc::Global;
-use text_lower::TextLowerer;
-use text_replay::TextReplayer;
-use text_runs::TextReader;
-use text_tidy::TextTidier;
+use cmd_lower::TextLowerer;
+use cmd_replay_text::TextReplayer;
+use cmd_run_text::TextReader;
+use cmd_tidy::TextTidier;
 
 /// Reads one file, and writes what becomes of its text to another, which may be the same; no report is written.
 fn write_text<T: Translator, H: Shelf, E: Sink>(

@@ -6,3 +6,4 @@ pub mod Calls
 pub mod MemoryPorts
 pub mod Reads
 pub mod CountSink
+pub mod Writing

@@ -1,6 +1,8 @@
 //! The ports through which a command reaches the outside: a shelf of files, an input and outputs.
 //! docs/COMMANDS.md says which command uses which. The memory ports are for tests: a call of theirs
 //! fails where it was asked to.
+//!
+//! Texts that go to a sink through one buffer, and take no memory.
 #![tactic(auto)]
 
 mod calls;
@@ -13,6 +15,8 @@ mod no_input;
 mod port;
 mod reads;
 mod write;
+mod growing;
+mod writer;
 
 pub use count_sink::CountSink;
 pub use mem_shelf::MemShelf;
@@ -22,3 +26,5 @@ pub use no_input::NoInput;
 pub use port::{Failed, ReadError, Shelf, Sink, Source, WriteError};
 pub use reads::{NO_READS, ReadCounts, after_read};
 pub use write::write_all;
+pub use growing::Growing;
+pub use writer::{Output, Writer};

@@ -1,7 +1,7 @@
 -- The rules for declared variables (ISO/IEC 9899:2011, 6.7).
 use Rattle.std.specs.Prelude.{◌≡◌, ◌⊎◌, ℕ, true, List, [], ◌∷◌}
-use Rattle.c_source.specs.Terms.{Term}
-use Rattle.c_source.specs.Items.{Size, Sized, Initialiser, NoValue, OneValue, ValueList, Declarator, Declaration}
+use Rattle.c_layers.specs.Terms.{Term}
+use Rattle.c_layers.specs.Items.{Size, Sized, Initialiser, NoValue, OneValue, ValueList, Declarator, Declaration}
 use Rattle.c_kinds.specs.declared.typed.Fault.{Fault}
 use Rattle.c_kinds.specs.Scopes.{Env}
 use Rattle.c_statements.specs.declared.extents.Kinded.{Kinded}

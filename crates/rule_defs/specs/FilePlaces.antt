@@ -1,7 +1,7 @@
 -- The places of a file: the scopes round them, by what stands in front.
 use Rattle.std.specs.Prelude.{ℕ, ℤ, negsuc, List, [], ◌∷◌, Option, Some}
-use Rattle.c_source.specs.Items.{Declarator}
-use Rattle.c_source.specs.Tops.{Enumerator, Function, Form, Enum, Globals, Defines, Top, From}
+use Rattle.c_layers.specs.Items.{Declarator}
+use Rattle.c_layers.specs.Tops.{Enumerator, Function, Form, Enum, Globals, Defines, Top, From}
 use Rattle.c_kinds.specs.declared.binding.Binding.TheVariants as binding
 use Rattle.c_kinds.specs.declared.binding.Binding.TheVariants.{Constant, Global}
 use Rattle.c_kinds.specs.Scopes.{Env, Scope, known_scope}

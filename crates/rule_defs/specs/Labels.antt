@@ -2,7 +2,7 @@
 use Rattle.std.specs.Prelude.{ℕ, suc, not, List, [], ◌∷◌, map}
 use Rattle.std.specs.List.{filter}
 use Rattle.std.specs.Str.{bytes_eq}
-use Rattle.c_source.specs.Items.{Body}
+use Rattle.c_layers.specs.Items.{Body}
 use Rattle.c_kinds.specs.Scopes.{Names}
 use Rattle.c_statements.specs.Labels.{body_labels}
 

@@ -1,7 +1,7 @@
 -- The places of a function. What is known at one is told by what stands above it, and in front of it in its own list.
 use Rattle.std.specs.Prelude.{ℕ, ◌+◌, List, [], ◌∷◌, length, Some, None}
-use Rattle.c_source.specs.Items.{Declarator, Declaration, Start, StartNames, Item, Declares, States, Plain, From, Statement, If, IfElse, While, DoWhile, For, Switch, Block, Body, Braces, Lone, Items, NoItem, Then}
-use Rattle.c_source.specs.Tops.{Parameter}
+use Rattle.c_layers.specs.Items.{Declarator, Declaration, Start, StartNames, Item, Declares, States, Plain, From, Statement, If, IfElse, While, DoWhile, For, Switch, Block, Body, Braces, Lone, Items, NoItem, Then}
+use Rattle.c_layers.specs.Tops.{Parameter}
 use Rattle.c_kinds.specs.declared.binding.Binding.TheVariants.{Local}
 use Rattle.c_kinds.specs.Scopes.{Env, Scope}
 use Rattle.c_statements.specs.declared.extents.Kinded.{Kinded}

@@ -6,15 +6,15 @@ use Rattle.c_tree.specs.declared.tree.Top as tree_top
 use Rattle.c_tree.specs.declared.tree.Top.TheVariants as top
 use Rattle.c_lexer.specs.declared.token.Token.{Token}
 use Rattle.c_lexer.specs.declared.token.Span.{Span}
-use Rattle.c_source.specs.Words.{word_of}
-use Rattle.c_source.specs.Items.{Declarator}
-use Rattle.c_source.specs.Tops.{Enumerator, Function, Form, Line, Enum, Globals, Defines, Unread, Top, From}
+use Rattle.c_layers.specs.Words.{word_of}
+use Rattle.c_layers.specs.Items.{Declarator}
+use Rattle.c_layers.specs.Tops.{Enumerator, Function, Form, Line, Enum, Globals, Defines, Unread, Top, From}
 use Rattle.c_kinds.specs.Scopes.{Scope}
 use Rattle.c_statements.specs.declared.extents.Kinded.{Kinded}
 use Rattle.c_statements.specs.declared.anchors.Anchor.TheVariants.{Before, Last}
 use Rattle.c_statements.specs.Declarations.{kinded, slot_of, initial, constant_at}
 use Rattle.c_statements.specs.Functions.{FlatCounts}
-use Rattle.comment_places.specs.Notes.{notes_of}
+use Rattle.c_comments.specs.Notes.{notes_of}
 use Rattle.c_scopes.specs.Enums.{value_of, or_zero}
 use Rattle.c_scopes.specs.Files.{File, notes_tops}
 use Rattle.rule_defs.specs.FilePlaces.{names_at, file_start, enum_named, global_named, function_named, behind_top}

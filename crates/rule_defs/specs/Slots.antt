@@ -1,7 +1,7 @@
 -- The slots of a function: its parameters and its variables, in text order of their declarations.
 use Rattle.std.specs.Prelude.{ℕ, List, [], ◌∷◌, ◌++◌}
 use Rattle.c_tree.specs.declared.tree.Slot.{Slot}
-use Rattle.c_source.specs.Items.{Declarator, Declaration, Start, StartNames, Item, Declares, States, Plain, From, Statement, If, IfElse, While, DoWhile, For, Switch, Block, Body, Braces, Lone, Items, NoItem, Then}
+use Rattle.c_layers.specs.Items.{Declarator, Declaration, Start, StartNames, Item, Declares, States, Plain, From, Statement, If, IfElse, While, DoWhile, For, Switch, Block, Body, Braces, Lone, Items, NoItem, Then}
 use Rattle.c_statements.specs.declared.extents.Kinded.{Kinded}
 use Rattle.c_statements.specs.Declarations.{kinded, slot_of}
 use Rattle.rule_defs.specs.Places.{Place, env_of, within, past, behind, behind_name, behind_start, variables_of_body}

@@ -12,7 +12,7 @@ use Rattle.c_tree.specs.declared.tree.Step.{Step}
 use Rattle.c_tree.specs.declared.tree.Path.{Path}
 use Rattle.c_tree.specs.Paths.{list_at}
 use Rattle.c_tree.specs.Join.{CanJoin, joined_before}
-use Rattle.list_edits.proofs.CutLemmas.{set_lap}
+use Rattle.move_list_edits.proofs.CutLemmas.{set_lap}
 use Rattle.c_tree.proofs.PathLemmas.{map_some}
 use Rattle.c_tree.proofs.RuleChanges.{stands}
 use Rattle.label_offsets.specs.Marks.{leap_label, label_at, is_land, land_after}

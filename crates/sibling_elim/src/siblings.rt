@@ -3,13 +3,13 @@ ghost use Rattle.c_tree.specs.Join.{joined_after, joined_before, joined, joined_
 ghost use Rattle.c_tree.specs.Paths.{list_at};
 ghost use Rattle.c_tree.specs.Trees.{trees_of};
 ghost use Rattle.c_tree.specs.WellMade.{IsWellMade};
-ghost use Rattle.move_core.specs.Laws.{Keeps};
+ghost use Rattle.move_laws.specs.MoveRuleLaws.{Keeps};
 ghost use Rattle.sibling_elim.specs.Sibling.{HasSibling, IsJoined, land_beside as the_land_beside};
 
 use c_tree::{Item, Path, Step, Test, find_list, replace_at};
 use c_types::{List, Memory};
 use label_offsets::{first_land, label_at, land_after};
-use list_edits::{cut, guard_between, set_at};
+use move_list_edits::{cut, guard_between, set_at};
 use std::alloc::Global;
 
 fn join_before(items: &mut Vec<Item>, leap: usize, land: usize, label: u32) -> Result<(), Memory>

@@ -13,7 +13,7 @@ use Rattle.step_machine.specs.Machines.{state_of}
 use Rattle.step_interp.specs.declared.runs.RunAnswer.{RunAnswer}
 use Rattle.step_interp.specs.declared.runs.RunAnswer.TheVariants.{Ended, Trapped, Spent, ReadFault, WriteFault, Memory}
 use Rattle.step_interp.specs.declared.runs.After.TheVariants as A
-use Rattle.step_known.specs.Shown.{bytes_in}
+use Rattle.step_library.specs.Shown.{bytes_in}
 use Rattle.step_interp.specs.Steps.{IsReading}
 use Rattle.step_interp.specs.Answers.{Beginning, after, left_in, input_after, output_of, events_in, StandsAt, IsOverAt, GoesOnAt, IsSpentAt, IsStoppedAt, Answers, Agrees}
 use Rattle.step_interp.specs.Followed.{Followed, Follows, HasPorts, IsLast}

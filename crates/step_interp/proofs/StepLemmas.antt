@@ -11,8 +11,8 @@ use Rattle.step_machine.specs.declared.machine.Machine.{Machine}
 use Rattle.step_machine.specs.declared.machine.Next.TheVariants.{Goes, Reads, Writes, Prints, Ends, Traps}
 use Rattle.step_machine.specs.Machines.{IsGiven}
 use Rattle.step_machine.specs.Moves.{StandsFor}
-use Rattle.step_known.specs.Calls.{QuietlyReaches}
-use Rattle.step_known.specs.Shown.{bytes_in}
+use Rattle.step_library.specs.Calls.{QuietlyReaches}
+use Rattle.step_library.specs.Shown.{bytes_in}
 use Rattle.step_interp.specs.Answers.{output_of}
 use Rattle.step_interp.specs.Followed.{HasPorts, Follows, IsLast, WroteFront, HasRead, ReadsNext}
 

@@ -11,7 +11,7 @@ use Rattle.jump_meaning.specs.Runs.{run, shows, start, jump_run, TakesSteps}
 use Rattle.step_interp.specs.declared.entry.Entry.{Entry}
 use Rattle.step_interp.specs.declared.runs.RunAnswer.{RunAnswer}
 use Rattle.step_interp.specs.declared.runs.RunAnswer.TheVariants.{Ended, Trapped, Spent, ReadFault, WriteFault, Memory}
-use Rattle.step_known.specs.Shown.{bytes_in}
+use Rattle.step_library.specs.Shown.{bytes_in}
 use Rattle.step_interp.specs.Steps.{IsReading}
 
 -- the events so far in a state

@@ -14,7 +14,7 @@ use Rattle.step_tasks.specs.Controls.{guards_of}
 use Rattle.step_tasks.specs.Tasks.{task_of, tasks_of}
 use Rattle.step_machine.specs.Machines.{HasWorld, frames_of, state_of}
 use Rattle.step_machine.specs.Moves.{Reaches}
-use Rattle.step_known.specs.Calls.{IsGetchar, QuietlyReaches}
+use Rattle.step_library.specs.Calls.{IsGetchar, QuietlyReaches}
 
 -- the next step is a call of `getchar`, of which the program has no body
 abbrev pub IsReading : Code → State → Type 0

@@ -2,7 +2,7 @@ ghost use Rattle.std.specs.Prelude.{◌≡◌, IfOk};
 ghost use Rattle.step_interp.specs.Steps.{Performs, Steps};
 
 use c_types::Memory;
-use step_known::invoke;
+use step_library::invoke;
 use step_machine::{Machine, Next};
 use step_tasks::{Done, Task, act, control, is_control, next_task};
 

@@ -1,5 +1,5 @@
 use Rattle.std.proofs.Common.{length}
-use Rattle.slot_numbers.specs.Gone.{left}
+use Rattle.tidy_laws.specs.Gone.{left}
 use Rattle.break_recovery.specs.Starts.{IsStart}
 use Rattle.break_recovery.proofs.Numbered.{Going}
 use Rattle.break_recovery.proofs.functions.change_all.Given as goal

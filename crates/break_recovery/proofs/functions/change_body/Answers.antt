@@ -1,8 +1,8 @@
 use Rattle.std.proofs.Common.{◌≡◌, Some, option_map, sym, ap, subst, refl, ◌∙◌}
 use Rattle.c_tree.specs.Trees.{Forest, trees_of}
-use Rattle.tail_exits.proofs.Counted.{if_ok_more}
-use Rattle.next_changes.specs.Places.{AreQuietBut}
-use Rattle.next_changes.proofs.Places.{none_some}
+use Rattle.tidy_tails.proofs.Counted.{if_ok_more}
+use Rattle.tidy_search.specs.Places.{AreQuietBut}
+use Rattle.tidy_search.proofs.Places.{none_some}
 use Rattle.break_recovery.proofs.Undeclared.{no_body}
 use Rattle.break_recovery.proofs.functions.change_body.Goals as goal
 

@@ -1,7 +1,7 @@
 use Rattle.std.proofs.Common.{sym, subst}
 use Rattle.c_tree.specs.Trees.{trees_of}
-use Rattle.next_changes.specs.Places.{IsFoundAt}
-use Rattle.next_changes.proofs.Places.{none_next, none_some}
+use Rattle.tidy_search.specs.Places.{IsFoundAt}
+use Rattle.tidy_search.proofs.Places.{none_next, none_some}
 use Rattle.break_recovery.proofs.Outermost.{found_changed, found_goes_on}
 use Rattle.break_recovery.proofs.Undeclared.{body_changed, body_settled}
 use Rattle.break_recovery.proofs.functions.change_list_of.Goals as goal

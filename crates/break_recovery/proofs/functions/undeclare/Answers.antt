@@ -1,6 +1,6 @@
 use Rattle.std.proofs.Common.{◌≡◌, ◌<◌, get_or, length, sym, ap, ◌∙◌, arith}
 use Rattle.c_tree.specs.Trees.{trees_of}
-use Rattle.next_changes.specs.Places.{removed}
+use Rattle.tidy_search.specs.Places.{removed}
 use Rattle.break_recovery.proofs.Outermost.{removed_is}
 use Rattle.break_recovery.proofs.Undeclared.{none_passed, one_passed, declaration_gone, none_declared}
 use Rattle.break_recovery.proofs.functions.undeclare.Goals as goal

@@ -1,10 +1,10 @@
 use Rattle.std.proofs.Common.{◌≡◌, ◌+◌, drop, get_or, sym, ap, ◌∙◌}
 use Rattle.c_tree.specs.Trees.{trees_of}
-use Rattle.tree_views.specs.Views.{tree_at}
-use Rattle.tree_views.proofs.Views.{trees-at}
-use Rattle.tail_exits.proofs.Counted.{if_ok_more}
-use Rattle.loop_changes.specs.Slots.{count_in, break_slot}
-use Rattle.next_changes.specs.Next.{break_first}
+use Rattle.c_tree.specs.Views.{tree_at}
+use Rattle.c_tree.proofs.Views.{trees-at}
+use Rattle.tidy_tails.proofs.Counted.{if_ok_more}
+use Rattle.tidy_loops.specs.Slots.{count_in, break_slot}
+use Rattle.tidy_search.specs.Next.{break_first}
 use Rattle.break_recovery.proofs.here.break_at.Goals as goal
 
 pub returns : goal.returns

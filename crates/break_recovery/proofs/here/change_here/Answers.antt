@@ -1,7 +1,7 @@
 use mathlib.Core.Path.{fun_ext}
 use Rattle.std.proofs.Common.{take, drop, sym, ◌∙◌}
 use Rattle.c_tree.specs.Trees.{trees_of, join}
-use Rattle.loop_changes.specs.Slots.{count_in}
+use Rattle.tidy_loops.specs.Slots.{count_in}
 use Rattle.break_recovery.proofs.Steps.{here_continue}
 use Rattle.break_recovery.proofs.here.change_here.Goals as goal
 

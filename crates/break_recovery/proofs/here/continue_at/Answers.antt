@@ -1,8 +1,8 @@
 use Rattle.std.proofs.Common.{◌≡◌, get_or, sym, ap, ◌∙◌}
-use Rattle.tree_views.proofs.Views.{trees-at}
-use Rattle.tail_exits.proofs.Counted.{if_ok_more}
-use Rattle.loop_changes.specs.Slots.{count_in}
-use Rattle.next_changes.specs.Next.{continue_first}
+use Rattle.c_tree.proofs.Views.{trees-at}
+use Rattle.tidy_tails.proofs.Counted.{if_ok_more}
+use Rattle.tidy_loops.specs.Slots.{count_in}
+use Rattle.tidy_search.specs.Next.{continue_first}
 use Rattle.break_recovery.proofs.here.continue_at.Goals as goal
 
 pub returns : goal.returns

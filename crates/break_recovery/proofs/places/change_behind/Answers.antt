@@ -1,7 +1,7 @@
 use Rattle.std.proofs.Common.{◌≤◌, length, refl, ap, ◌∙◌, arith}
 use Rattle.c_tree.specs.Trees.{trees_of}
-use Rattle.next_changes.specs.Next.{put, next_at}
-use Rattle.next_changes.specs.Places.{behind, replaced}
+use Rattle.tidy_search.specs.Next.{put, next_at}
+use Rattle.tidy_search.specs.Places.{behind, replaced}
 use Rattle.break_recovery.proofs.Outermost.{some_none, none_found, one_found, more_quiet, all_quiet}
 use Rattle.break_recovery.proofs.places.change_behind.Goals as goal
 

@@ -1,8 +1,8 @@
 use Rattle.std.proofs.Common.{◌≡◌, ◌-◌, length}
 use Rattle.c_tree.specs.Trees.{trees_of}
 use Rattle.jump_meaning.specs.Code.{FunctionTree}
-use Rattle.loop_changes.specs.Slots.{Tells}
-use Rattle.next_changes.specs.Places.{AreQuiet}
+use Rattle.tidy_loops.specs.Slots.{Tells}
+use Rattle.tidy_search.specs.Places.{AreQuiet}
 use Rattle.break_recovery.proofs.places.change_behind.Given as goal
 
 abbrev pub invariant-loop-i : goal.invariant-loop-i

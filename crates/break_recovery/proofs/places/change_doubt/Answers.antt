@@ -1,8 +1,8 @@
 use Rattle.std.proofs.Common.{sym, subst, ◌∙◌}
 use Rattle.c_tree.specs.Trees.{trees_of}
-use Rattle.tail_exits.proofs.Counted.{if_ok_more}
-use Rattle.next_changes.specs.Next.{next_at}
-use Rattle.next_changes.specs.Places.{behind, replaced, AreQuiet, IsFoundAt}
+use Rattle.tidy_tails.proofs.Counted.{if_ok_more}
+use Rattle.tidy_search.specs.Next.{next_at}
+use Rattle.tidy_search.specs.Places.{behind, replaced, AreQuiet, IsFoundAt}
 use Rattle.break_recovery.proofs.Outermost.{some_none, none_found, one_found, before_doubt, doubt_gone}
 use Rattle.break_recovery.proofs.places.change_doubt.Goals as goal
 

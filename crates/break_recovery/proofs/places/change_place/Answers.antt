@@ -1,5 +1,5 @@
 use Rattle.std.proofs.Common.{refl, ◌∙◌, arith}
-use Rattle.tail_exits.proofs.Counted.{if_ok_more}
+use Rattle.tidy_tails.proofs.Counted.{if_ok_more}
 use Rattle.break_recovery.proofs.Outermost.{at_place, past_place}
 use Rattle.break_recovery.proofs.places.change_place.Goals as goal
 

@@ -1,4 +1,4 @@
-use Rattle.tidied_resolved.proofs.TheLaws.{end_law}
+use Rattle.tidy_result_laws.proofs.TheLaws.{end_law}
 use Rattle.break_recovery.proofs.Chains.{tidied_by}
 use Rattle.break_recovery.proofs.program.tidy.Goals as goal
 

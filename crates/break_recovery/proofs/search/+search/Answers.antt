@@ -3,8 +3,8 @@ use Rattle.std.proofs.Common.{◌<◌, ◌≤◌, length, take, drop, slice_get,
 use Rattle.c_tree.specs.declared.tree.Item.{If, While, Do, For, Switch, Block}
 use Rattle.c_tree.specs.Trees.{trees_of, sections_of, join}
 use Rattle.c_tree.proofs.PathLemmas.{set_same}
-use Rattle.tail_exits.proofs.Counted.{if_ok_more}
-use Rattle.next_changes.specs.Next.{put, next_at, next_here, changed_to}
+use Rattle.tidy_tails.proofs.Counted.{if_ok_more}
+use Rattle.tidy_search.specs.Next.{put, next_at, next_here, changed_to}
 use Rattle.break_recovery.proofs.Sizes.{items, items_in, of_if, of_while, of_do, of_for, of_switch, of_block, item_within, section_within}
 use Rattle.break_recovery.proofs.Steps.{starts, goes_on, found, ends, sections_start, sections_go_on, section_found, sections_end, an_entry, no_slot, no_answer, a_slot, an_answer, item_changed, entry_is, here_found, no_here, first_changed, second_changed, if_changed, while_changed, do_changed, for_changed, switch_changed, block_changed, leaf_stays, section_changed}
 use Rattle.break_recovery.proofs.search.+search.Goals as goal

@@ -2,7 +2,7 @@ use Rattle.std.proofs.Common.{◌≡◌, ◌+◌, ◌-◌, ◌*◌, length}
 use Rattle.c_tree.specs.Paths.{list_of}
 use Rattle.c_tree.specs.Trees.{tree_of, trees_of, sections_of}
 use Rattle.jump_meaning.specs.Code.{FunctionTree}
-use Rattle.loop_changes.specs.Slots.{Tells}
+use Rattle.tidy_loops.specs.Slots.{Tells}
 use Rattle.break_recovery.proofs.Sizes.{items, items_of, items_in}
 use Rattle.break_recovery.proofs.Steps.{Goes, SectionsGo}
 use Rattle.break_recovery.proofs.search.+search.Given as goal

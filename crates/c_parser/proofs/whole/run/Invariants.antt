@@ -2,7 +2,7 @@ use Rattle.std.proofs.Common.{◌≡◌, ◌≤◌, ◌++◌, ◌∷◌, [], dro
 use Rattle.c_grammar.specs.declared.class.Class.TheVariants.{End}
 use Rattle.c_grammar.specs.TokenClasses.{classes_of}
 use Rattle.c_parser.specs.Answers as answers
-use Rattle.parse_stack.specs.Machine as spec
+use Rattle.c_parse_step.specs.Machine as spec
 use Rattle.c_parser.proofs.whole.run.Given as goal
 
 -- what is left goes on to what the whole text gives

@@ -1,7 +1,7 @@
 use Rattle.std.proofs.Common.{ℕ, List, drop, map}
 use Rattle.c_tree.specs.TextPieces.{Piece}
 use Rattle.c_tree.specs.TextExpressions.{operands, expression_text, expressions_text}
-use Rattle.byte_writer.specs.Writing.{Start}
+use Rattle.rg_ports.specs.Writing.{Start}
 use Rattle.c_printer.specs.Writing.{StandsBefore}
 use Rattle.c_printer.proofs.Lists.{listed_from}
 use Rattle.c_printer.proofs.expressions.+put_expression.Given as goal

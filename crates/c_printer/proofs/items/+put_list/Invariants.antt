@@ -1,7 +1,7 @@
 use Rattle.std.proofs.Common.{ℕ, List, drop, map}
 use Rattle.c_tree.specs.TextPieces.{Piece}
 use Rattle.c_tree.specs.TextItems.{printed, printed_section, list_text, sections_text}
-use Rattle.byte_writer.specs.Writing.{Start}
+use Rattle.rg_ports.specs.Writing.{Start}
 use Rattle.c_printer.specs.Writing.{StandsBefore}
 use Rattle.c_printer.proofs.items.+put_list.Given as goal
 

@@ -1,7 +1,7 @@
 use Rattle.std.proofs.Common.{ℕ, List, drop, map}
 use Rattle.c_tree.specs.TextPieces.{Piece, joined}
 use Rattle.c_tree.specs.TextItems.{case_line}
-use Rattle.byte_writer.specs.Writing.{Start}
+use Rattle.rg_ports.specs.Writing.{Start}
 use Rattle.c_printer.specs.Writing.{StandsBefore}
 use Rattle.c_printer.proofs.items.put_cases.Given as goal
 

@@ -1,5 +1,5 @@
 use Rattle.std.proofs.Common.{ℕ, ◌-◌, ◌*◌, List, ◌++◌, replicate}
-use Rattle.byte_writer.specs.Writing.{Start, Stands}
+use Rattle.rg_ports.specs.Writing.{Start, Stands}
 use Rattle.c_printer.proofs.pieces.put_indentation.Given as goal
 
 abbrev pub invariant-loop : goal.invariant-loop

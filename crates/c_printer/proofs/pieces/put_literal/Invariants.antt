@@ -1,6 +1,6 @@
 use Rattle.std.proofs.Common.{ℕ, List, ◌∷◌, drop}
 use Rattle.c_tree.specs.TextPieces.{escaped_bytes}
-use Rattle.byte_writer.specs.Writing.{Start, Stands}
+use Rattle.rg_ports.specs.Writing.{Start, Stands}
 use Rattle.c_printer.proofs.pieces.put_literal.Given as goal
 
 abbrev pub invariant-loop-byte : goal.invariant-loop-byte

@@ -1,7 +1,7 @@
 use Rattle.std.proofs.Common.{[]}
 use Rattle.c_tree.specs.Text.{text_of}
 use Rattle.c_printer.specs.Writing.{StandsBefore}
-use Rattle.byte_writer.proofs.Progress.{start_of, begun, end_same, end_grows, end_ok, end_err, end_rose}
+use Rattle.rg_ports.proofs.Progress.{start_of, begun, end_same, end_grows, end_ok, end_err, end_rose}
 use Rattle.c_printer.proofs.whole.write_program.Goals as goal
 
 pub returns : goal.returns

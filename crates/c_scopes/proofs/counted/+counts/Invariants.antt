@@ -1,6 +1,6 @@
 use Rattle.std.proofs.Common.{◌≡◌, ◌≤◌, ◌+◌, ◌*◌, drop, length, map}
-use Rattle.c_source.specs.Parts.{part_of, greatest, sum_counted}
-use Rattle.c_source.specs.Views.{words_of, weight, weights}
+use Rattle.c_layers.specs.Parts.{part_of, greatest, sum_counted}
+use Rattle.c_layers.specs.Views.{words_of, weight, weights}
 use Rattle.c_statements.specs.Measures.{bounded}
 use Rattle.c_scopes.proofs.counted.+counts.Given as goal
 

@@ -1,8 +1,8 @@
 use Rattle.std.proofs.Common.{◌≡◌, ◌++◌, drop}
-use Rattle.c_source.specs.Views.{words_of}
+use Rattle.c_layers.specs.Views.{words_of}
 use Rattle.c_scopes.specs.Files.{tops_of, file_faults}
 use Rattle.c_scopes.specs.FileViews.{file_of, state_of}
-use Rattle.comment_places.specs.NodeViews.{tops_in}
+use Rattle.c_comments.specs.NodeViews.{tops_in}
 use Rattle.c_scopes.proofs.files.read_tops.Given as goal
 
 abbrev pub invariant-loop-x : goal.invariant-loop-x

@@ -1,11 +1,11 @@
 use Rattle.std.proofs.Common.{◌≡◌, [], ap, sym, ◌∙◌}
-use Rattle.c_source.specs.Parts.{file_of}
-use Rattle.c_source.specs.Views.{words_of}
+use Rattle.c_layers.specs.Parts.{file_of}
+use Rattle.c_layers.specs.Views.{words_of}
 use Rattle.c_scopes.specs.FileViews as views
 use Rattle.c_scopes.specs.Files.{file_faults, start, tops_of}
 use Rattle.c_scopes.specs.FunctionNames.{bodies_of}
-use Rattle.comment_places.specs.NodeViews.{tops_in}
-use Rattle.comment_places.specs.Notes.{notes_of}
+use Rattle.c_comments.specs.NodeViews.{tops_in}
+use Rattle.c_comments.specs.Notes.{notes_of}
 use Rattle.c_scopes.proofs.resolving.read_file.Goals as goal
 
 pub returns-clause-tops : goal.returns-clause-tops

@@ -1,7 +1,7 @@
 use Rattle.std.proofs.Common.{ap, ◌∙◌}
 use Rattle.std.proofs.lemmas.Result.{on_ok_weaker}
 use Rattle.c_tree.specs.Trees.{trees_of}
-use Rattle.tree_views.proofs.Views.{trees-push}
+use Rattle.c_tree.proofs.Views.{trees-push}
 use Rattle.flat_items.proofs.pieces.add.Goals as goal
 
 pub returns : goal.returns

@@ -3,7 +3,7 @@ use Rattle.std.proofs.lemmas.Result.{on_ok_weaker}
 use Rattle.c_tree.specs.Trees.{trees_of, expression_trees, join}
 use Rattle.flat_items.proofs.pieces.add_initialised.Goals as goal
 use Rattle.jump_meaning.specs.World.{no_slot}
-use Rattle.flat_core.specs.FlatForm.{assigned}
+use Rattle.flat_laws.specs.FlatForm.{assigned}
 use Rattle.c_tree.specs.declared.tree.Slot.{Slot}
 use Rattle.flat_items.proofs.Joining.{entry_is}
 

@@ -3,7 +3,7 @@ use Rattle.c_tree.specs.Trees.{trees_of, join}
 use Rattle.c_tree.proofs.TreeLaws.{join-nil}
 use Rattle.flat_items.proofs.pieces.add_leaving.Goals as goal
 use Rattle.flat_items.specs.Plans.{aim_of}
-use Rattle.flat_core.specs.FlatForm.{end_goto}
+use Rattle.flat_laws.specs.FlatForm.{end_goto}
 
 pub returns-in-Stays : goal.returns-in-Stays
 returns-in-Stays c = sym (ap (λ z. join (trees_of c.args.out.now) (end_goto true (aim_of z))) c.in-Stays.is ∙ join-nil (trees_of c.args.out.now))

@@ -1,7 +1,7 @@
 use Rattle.std.proofs.Common.{◌≡◌, [], None, sym, ap, ◌∙◌}
 use Rattle.c_tree.specs.Trees.{trees_of, expression_trees, join}
 use Rattle.c_tree.proofs.TreeLaws.{join-nil}
-use Rattle.flat_core.specs.FlatForm.{assigned}
+use Rattle.flat_laws.specs.FlatForm.{assigned}
 use Rattle.flat_items.proofs.pieces.add_number.Goals as goal
 
 pub returns-then-is_empty : goal.returns-then-is_empty

@@ -4,9 +4,9 @@ use Rattle.c_tree.specs.Changed.{one}
 use Rattle.c_tree.specs.TestTrees.{test_tree}
 use Rattle.c_tree.specs.Trees as Plain
 use Rattle.c_tree.specs.Trees.{Tree, Forest, Nil, Then, Sections, NoSection, trees_of, sections_of, expression_trees, join}
-use Rattle.loose_core.specs.Pieces.{mark_of}
-use Rattle.tree_views.specs.Views.{tree_at}
-use Rattle.tree_views.proofs.Views.{at-While}
+use Rattle.flat_looser_laws.specs.Pieces.{mark_of}
+use Rattle.c_tree.specs.Views.{tree_at}
+use Rattle.c_tree.proofs.Views.{at-While}
 use Rattle.flat_items.proofs.pieces.add_while.Goals as goal
 use Rattle.flat_items.proofs.Joining.{one_more}
 use Rattle.flat_items.specs.Plans.{aim_of}

@@ -1,7 +1,7 @@
 use Rattle.std.proofs.Common.{ap, ◌∙◌}
 use Rattle.c_tree.specs.ExpressionTrees.{expression_tree}
 use Rattle.c_tree.specs.Trees as Plain
-use Rattle.tree_views.proofs.Views.{at-Evaluate}
+use Rattle.c_tree.proofs.Views.{at-Evaluate}
 use Rattle.flat_items.proofs.Spelling.{typed-Assign}
 use Rattle.flat_items.proofs.values.assignment.Goals as goal
 

@@ -4,7 +4,7 @@ use Rattle.c_tree.specs.ExpressionTrees.{expression_tree}
 use Rattle.c_tree.specs.Numerals.{number}
 use Rattle.c_tree.specs.Trees as Plain
 use Rattle.std.proofs.lemmas.Int.{ints}
-use Rattle.tree_views.proofs.Views.{at-Evaluate}
+use Rattle.c_tree.proofs.Views.{at-Evaluate}
 use Rattle.flat_items.proofs.Spelling.{typed-Cell}
 use Rattle.flat_items.proofs.values.cell.Goals as goal
 

@@ -5,7 +5,7 @@ use Rattle.c_tree.specs.Trees as Plain
 use Rattle.c_tree.specs.Trees.{Then, trees_of}
 use Rattle.c_tree.specs.declared.tree.Item as I
 use Rattle.c_tree.proofs.TreeLaws.{trees-none}
-use Rattle.tree_views.proofs.Views.{at-If, at-Goto, trees-first}
+use Rattle.c_tree.proofs.Views.{at-If, at-Goto, trees-first}
 use Rattle.flat_items.proofs.values.jump.Goals as goal
 
 pub returns-in-Ok : goal.returns-in-Ok

@@ -7,17 +7,17 @@ use Rattle.c_tree.specs.TestTrees.{test_tree, selector_tree}
 use Rattle.c_tree.specs.Trees as Plain
 use Rattle.c_tree.specs.Trees.{Tree, Forest, Nil, Then, Sections, NoSection, trees_of, sections_of, expression_trees, join}
 use Rattle.c_tree.proofs.TreeLaws.{trees-none, join-nil}
-use Rattle.loose_core.specs.Pieces.{mark_of, case_marks, assign_number}
-use Rattle.tree_views.specs.Views.{tree_at}
-use Rattle.tree_views.proofs.Views.{at-If, at-While, at-Do, at-For, at-Switch, at-Block, at-Goto, at-Mark, at-Break, at-Continue, at-Local, at-Arrival}
+use Rattle.flat_looser_laws.specs.Pieces.{mark_of, case_marks, assign_number}
+use Rattle.c_tree.specs.Views.{tree_at}
+use Rattle.c_tree.proofs.Views.{at-If, at-While, at-Do, at-For, at-Switch, at-Block, at-Goto, at-Mark, at-Break, at-Continue, at-Local, at-Arrival}
 use Rattle.flat_items.proofs.walk.+write.Goals as goal
-use Rattle.flat_core.specs.Parts.{past, past_item, ending, ending_of, is_scattered, holds_jump, kept_breaks, ends_then}
+use Rattle.flat_laws.specs.Parts.{past, past_item, ending, ending_of, is_scattered, holds_jump, kept_breaks, ends_then}
 use Rattle.c_tree.specs.Exits.{breaks, continues}
 use Rattle.c_tree.specs.declared.tree.Section.{out-Section}
-use Rattle.flat_core.specs.FlatForm.{aim, flat, flat_item, flat_last, flat_last_item, flat_sections, spread, flat_loop, flat_for, if_breaks, end_goto}
-use Rattle.loose_core.specs.Loose.{NoArrival}
-use Rattle.flat_parts.specs.Reading.{is_flagged, ending_as}
-use Rattle.flat_parts.proofs.EndLaws.{goes, ends_here}
+use Rattle.flat_laws.specs.FlatForm.{aim, flat, flat_item, flat_last, flat_last_item, flat_sections, spread, flat_loop, flat_for, if_breaks, end_goto}
+use Rattle.flat_looser_laws.specs.Loose.{NoArrival}
+use Rattle.flat_questions.specs.Reading.{is_flagged, ending_as}
+use Rattle.flat_questions.proofs.EndLaws.{goes, ends_here}
 use Rattle.flat_items.specs.Forms.{entered_of, past_among, kept_form, scattered_form, section_form, with_parts, is_breaks, loop_breaks}
 use Rattle.flat_items.specs.Pieces.{behind}
 use Rattle.flat_items.specs.Plans.{plan_of, here_of, aim_of, arrivals_of, arrivals_if, case_names}
@@ -26,8 +26,8 @@ use Rattle.flat_items.proofs.Joining.{joined}
 use Rattle.flat_items.proofs.Steps.{same_here, still, past_If, past_While, past_Do, past_For, past_Block, place_step, place_end, walk_step, walk_end, last_step, last_here, last_end, place_step_in, place_end_in, sections_step, sections_end, spread_step, spread_end}
 use Rattle.flat_items.proofs.Arms.{same_item, past_kept, switch_item, last_other, past_other, breaks_is, other_end, ends_on, past_last, inside_scattered, scattered_is, cases_are, local_is}
 use Rattle.flat_items.proofs.Steps.{past_Switch}
-use Rattle.flat_core.specs.Parts.{switch_labels, cases_among}
-use Rattle.flat_core.specs.FlatForm.{otherwise_label, scatter_aim}
+use Rattle.flat_laws.specs.Parts.{switch_labels, cases_among}
+use Rattle.flat_laws.specs.FlatForm.{otherwise_label, scatter_aim}
 use Rattle.jump_meaning.specs.Step.{switch_kind}
 use Rattle.flat_items.specs.Pieces.{number_tests}
 use Rattle.flat_items.specs.Plans.{number_label}

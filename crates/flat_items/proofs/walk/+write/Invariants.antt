@@ -1,7 +1,7 @@
 use Rattle.std.proofs.Common.{◌≡◌, drop}
 use Rattle.c_tree.specs.Trees.{trees_of, sections_of, join}
-use Rattle.flat_core.specs.Parts.{past, ending}
-use Rattle.flat_core.specs.FlatForm.{flat, flat_last, flat_sections, spread}
+use Rattle.flat_laws.specs.Parts.{past, ending}
+use Rattle.flat_laws.specs.FlatForm.{flat, flat_last, flat_sections, spread}
 use Rattle.flat_items.specs.Forms.{past_among}
 use Rattle.flat_items.specs.Pieces.{behind}
 use Rattle.flat_items.specs.Plans.{plan_of, here_of, aim_of, arrivals_of, case_names}

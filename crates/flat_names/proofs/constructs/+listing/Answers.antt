@@ -3,9 +3,9 @@ use Rattle.std.proofs.lemmas.Result.{on_ok_weaker}
 use Rattle.c_tree.specs.Paths.{list_of}
 use Rattle.c_tree.specs.declared.tree.Section.{Section}
 use Rattle.c_tree.specs.Trees.{trees_of}
-use Rattle.tree_views.specs.Views.{tree_at}
-use Rattle.tree_views.proofs.Views.{at-If, at-For}
-use Rattle.tree_views.proofs.Collecting.{collected, collected_all, collected_in, collected_all_in}
+use Rattle.c_tree.specs.Views.{tree_at}
+use Rattle.c_tree.proofs.Views.{at-If, at-For}
+use Rattle.c_tree.proofs.Collecting.{collected, collected_all, collected_in, collected_all_in}
 use Rattle.flat_names.specs.FlatNames.{constructs, constructs_in, constructs_among}
 use Rattle.flat_names.specs.declared.constructs.Construct.TheVariants.{Stays}
 use Rattle.flat_names.proofs.constructs.+listing.Goals as goal

@@ -3,7 +3,7 @@ use Rattle.c_tree.specs.Lift.{lifted_at, path_lifted}
 use Rattle.c_tree.specs.Trees.{trees_of}
 use Rattle.c_tree.proofs.RuleChanges.{lifts_changed}
 use Rattle.c_tree.proofs.WellMoved.{well_moved}
-use Rattle.move_core.proofs.Laws.{behaviour_laws}
+use Rattle.move_laws.proofs.Laws.{behaviour_laws}
 use Rattle.goto_lifting.proofs.lifting.lift.Goals as goal
 
 pub returns-clause-well_made : goal.returns-clause-well_made

@@ -1,7 +1,7 @@
 use Rattle.std.proofs.Common.{◌≡◌, sym, ap, ◌∙◌}
-use Rattle.resolved_core.specs.Counts.{flat_counts}
-use Rattle.lowered_programs.proofs.Expressions.{expressions}
-use Rattle.lowered_programs.proofs.Tops.{behaves}
+use Rattle.c_resolved_laws.specs.Counts.{flat_counts}
+use Rattle.lower_result_laws.proofs.Expressions.{expressions}
+use Rattle.lower_result_laws.proofs.Tops.{behaves}
 use Rattle.goto_lowering.proofs.Tops.{whole}
 use Rattle.goto_lowering.proofs.program.lower.Goals as goal
 

@@ -1,7 +1,7 @@
 use Rattle.std.proofs.Common.{◌≡◌, ℕ, List}
 use Rattle.std.specs.Vec.Iter.{into_iter_items}
 use Rattle.flat_names.specs.Gathered.{AreGathered}
-use Rattle.lowered_forms.specs.Lowering.{tops_gotos}
+use Rattle.lower_laws.specs.Lowering.{tops_gotos}
 use Rattle.goto_lowering.proofs.Tops.{Awaits}
 use Rattle.goto_lowering.proofs.program.lower_tops.Given as goal
 

@@ -1,7 +1,7 @@
 use Rattle.std.proofs.Common.{eqb, sym, ap, ◌∙◌}
 use Rattle.c_tree.specs.declared.tree.Item.{Arm}
 use Rattle.c_tree.specs.Trees.{tree_of}
-use Rattle.unread_guards.specs.Drops.{dropped_item}
+use Rattle.move_laws.specs.Drops.{dropped_item}
 use Rattle.guard_drops.specs.Goes.{goes}
 use Rattle.guard_drops.proofs.GuardGone.{arm_evaluates, arm_stays, arm_none}
 use Rattle.guard_drops.proofs.drops.disarmed.Goals as goal

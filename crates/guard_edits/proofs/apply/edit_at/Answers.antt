@@ -1,7 +1,7 @@
 use Rattle.std.proofs.Common.{rules, sym, ap, ◌∙◌}
 use Rattle.std.proofs.lemmas.Result.{on_ok_weaker}
 use Rattle.c_tree.specs.Paths.{list_at, put_at}
-use Rattle.list_edits.proofs.PutLemmas.{still_there, put_changed}
+use Rattle.move_list_edits.proofs.PutLemmas.{still_there, put_changed}
 use Rattle.guard_edits.proofs.Chosen.{may_edit, within_list, list_there}
 use Rattle.guard_edits.proofs.apply.edit_at.Goals as goal
 

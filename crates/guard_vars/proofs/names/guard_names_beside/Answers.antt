@@ -1,7 +1,7 @@
 use Rattle.std.proofs.Common.{◌≡◌, ℕ, List, ◌++◌, [], length, ap, ◌∙◌}
 use Rattle.std.proofs.lemmas.Result.{IfOk-weaker}
 use Rattle.c_copies.specs.Names.{has_name, with_names}
-use Rattle.fresh_names.proofs.NameSets.{more_names}
+use Rattle.c_fresh_names.proofs.NameSets.{more_names}
 use Rattle.guard_vars.specs.GuardNames.{named_guards, own_names, guard_names_beside, AreNew}
 use Rattle.guard_vars.proofs.GuardNames.{length-named_guards, new_where_same, same_beside}
 use Rattle.guard_vars.proofs.names.guard_names_beside.Goals as goal

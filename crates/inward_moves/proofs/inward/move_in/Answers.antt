@@ -3,7 +3,7 @@ use Rattle.c_tree.specs.Inward.{moved_in_at}
 use Rattle.c_tree.specs.Trees.{trees_of}
 use Rattle.c_tree.proofs.RuleChanges.{moves_in_changed}
 use Rattle.c_tree.proofs.WellMoved.{well_moved}
-use Rattle.move_core.proofs.Laws.{behaviour_laws}
+use Rattle.move_laws.proofs.Laws.{behaviour_laws}
 use Rattle.inward_moves.proofs.WayLemmas.{path_is}
 use Rattle.inward_moves.proofs.inward.move_in.Goals as goal
 

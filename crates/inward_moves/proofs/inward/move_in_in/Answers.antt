@@ -2,7 +2,7 @@ use Rattle.std.proofs.Common.{[], Some, rules, sym, ap, ◌∙◌, unwrap_or}
 use Rattle.std.proofs.lemmas.Result.{on_ok_weaker}
 use Rattle.c_tree.specs.Paths.{put_at}
 use Rattle.c_tree.specs.Inward.{moved_in}
-use Rattle.list_edits.proofs.PutLemmas.{still_there, put_changed}
+use Rattle.move_list_edits.proofs.PutLemmas.{still_there, put_changed}
 use Rattle.inward_moves.proofs.SpotLemmas.{list_of_item}
 use Rattle.inward_moves.proofs.inward.move_in_in.Goals as goal
 

@@ -2,7 +2,7 @@ use Rattle.std.proofs.Common.{sym, ap, ◌∙◌}
 use Rattle.std.specs.Vec.Iter.{into_iter_items}
 use Rattle.c_tree.specs.Changed.{one}
 use Rattle.c_tree.specs.Trees.{trees_of, join}
-use Rattle.tree_views.proofs.Views.{trees-push}
+use Rattle.c_tree.proofs.Views.{trees-push}
 use Rattle.flat_items.specs.Plans.{number_at}
 use Rattle.lowered_bodies.specs.Renumbered.{renumbered}
 use Rattle.lowered_items.proofs.Moving.{emptied}

@@ -2,7 +2,7 @@ use Rattle.std.proofs.Common.{◌+◌, None, ap, ◌∙◌}
 use Rattle.c_tree.specs.Changed.{one}
 use Rattle.c_tree.specs.declared.tree.Item as I
 use Rattle.c_tree.specs.Trees.{trees_of, join}
-use Rattle.tree_views.proofs.Views.{at-Local, trees-push}
+use Rattle.c_tree.proofs.Views.{at-Local, trees-push}
 use Rattle.lowered_bodies.proofs.Layouts.{declared_start, declared_step, declared_end}
 use Rattle.lowered_bodies.proofs.bodies.declare.Goals as goal
 

@@ -1,6 +1,6 @@
 use Rattle.std.proofs.Common.{◌≡◌, ◌+◌, ◌-◌}
 use Rattle.c_tree.specs.Trees.{trees_of, join}
-use Rattle.lowered_core.specs.Lowered.{declarations}
+use Rattle.lower_laws.specs.Lowered.{declarations}
 use Rattle.lowered_bodies.proofs.bodies.declare.Given as goal
 
 abbrev pub invariant-loop-i : goal.invariant-loop-i

@@ -1,5 +1,5 @@
 use Rattle.std.proofs.Common.{◌+◌, ◌*◌, refl, ap, ◌∙◌}
-use Rattle.flat_core.specs.FlatForm.{place_of}
+use Rattle.flat_laws.specs.FlatForm.{place_of}
 use Rattle.lowered_items.proofs.cases.chosen.Goals as goal
 
 pub returns-clause-cases : goal.returns-clause-cases

@@ -1,5 +1,5 @@
 use Rattle.std.proofs.Common.{sym, ◌∙◌}
-use Rattle.flat_parts.specs.Reading.{is_flagged}
+use Rattle.flat_questions.specs.Reading.{is_flagged}
 use Rattle.lowered_items.proofs.Jumping.{bare_next, bare_no, bare_end}
 use Rattle.lowered_items.proofs.jumps.is_bare.Goals as goal
 

@@ -1,7 +1,7 @@
 use Rattle.std.proofs.Common.{◌≡◌, drop}
 use Rattle.c_tree.specs.Trees.{trees_of}
-use Rattle.flat_parts.specs.Reading.{is_flagged}
-use Rattle.lowered_core.specs.Lowered.{is_bare}
+use Rattle.flat_questions.specs.Reading.{is_flagged}
+use Rattle.lower_laws.specs.Lowered.{is_bare}
 use Rattle.lowered_items.proofs.jumps.is_bare.Given as goal
 
 abbrev pub invariant-loop-i : goal.invariant-loop-i

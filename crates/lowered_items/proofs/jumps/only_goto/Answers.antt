@@ -1,6 +1,6 @@
 use Rattle.std.proofs.Common.{cond, None, sym, ap, ◌∙◌}
-use Rattle.flat_parts.specs.Reading.{is_flagged}
-use Rattle.tree_views.specs.Views.{tree_at}
+use Rattle.flat_questions.specs.Reading.{is_flagged}
+use Rattle.c_tree.specs.Views.{tree_at}
 use Rattle.lowered_items.specs.Jumps.{goto_of}
 use Rattle.lowered_items.proofs.Jumping.{goto_next, goto_here, goto_end}
 use Rattle.lowered_items.proofs.jumps.only_goto.Goals as goal

@@ -1,7 +1,7 @@
 use Rattle.std.proofs.Common.{◌≡◌, drop}
 use Rattle.c_tree.specs.Trees.{trees_of}
-use Rattle.flat_parts.specs.Reading.{is_flagged}
-use Rattle.lowered_core.specs.Lowered.{only_goto}
+use Rattle.flat_questions.specs.Reading.{is_flagged}
+use Rattle.lower_laws.specs.Lowered.{only_goto}
 use Rattle.lowered_items.proofs.jumps.only_goto.Given as goal
 
 abbrev pub invariant-loop-i : goal.invariant-loop-i

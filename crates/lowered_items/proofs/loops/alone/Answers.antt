@@ -2,7 +2,7 @@ use Rattle.std.proofs.Common.{ap, ◌∙◌}
 use Rattle.c_tree.specs.Changed.{one}
 use Rattle.c_tree.specs.Trees.{trees_of, join}
 use Rattle.c_tree.proofs.TreeLaws.{trees-none}
-use Rattle.tree_views.specs.Views.{tree_at}
+use Rattle.c_tree.specs.Views.{tree_at}
 use Rattle.lowered_items.proofs.loops.alone.Goals as goal
 
 pub returns : goal.returns

@@ -4,9 +4,9 @@ use Rattle.c_tree.specs.Exits.{breaks, continues}
 use Rattle.c_tree.specs.TestTrees.{test_tree}
 use Rattle.c_tree.specs.Trees as Plain
 use Rattle.c_tree.specs.Trees.{trees_of}
-use Rattle.flat_core.specs.FlatForm.{aim}
-use Rattle.lowered_core.specs.Straight.{jump_if}
-use Rattle.tree_views.proofs.Views.{at-Mark}
+use Rattle.flat_laws.specs.FlatForm.{aim}
+use Rattle.lower_laws.specs.Straight.{jump_if}
+use Rattle.c_tree.proofs.Views.{at-Mark}
 use Rattle.lowered_items.specs.declared.plans.Labels as N
 use Rattle.lowered_items.proofs.Shapes.{frame_equal}
 use Rattle.lowered_items.proofs.loops.do_loop.Goals as goal

@@ -2,8 +2,8 @@ use Rattle.std.proofs.Common.{◌+◌, sym, ap, ◌∙◌, arith}
 use Rattle.c_tree.specs.Everywhere.{total, total_in}
 use Rattle.c_tree.specs.Paths.{list_of}
 use Rattle.c_tree.specs.Trees.{trees_of}
-use Rattle.lowered_core.specs.Lowered.{constructs_of, cases_of, variables_of}
-use Rattle.tree_views.proofs.Views.{trees-at, trees-end, sections-at, sections-end}
+use Rattle.lower_laws.specs.Lowered.{constructs_of, cases_of, variables_of}
+use Rattle.c_tree.proofs.Views.{trees-at, trees-end, sections-at, sections-end}
 use Rattle.lowered_items.proofs.numbers.+number.Goals as goal
 
 pub behind_items-loop-i-preserved : goal.behind_items-loop-i-preserved

@@ -1,7 +1,7 @@
 use Rattle.std.proofs.Common.{◌≡◌, ◌+◌, drop}
 use Rattle.c_tree.specs.Everywhere.{total, total_in}
 use Rattle.c_tree.specs.Trees.{trees_of, sections_of}
-use Rattle.lowered_core.specs.Lowered.{constructs_of, cases_of, variables_of}
+use Rattle.lower_laws.specs.Lowered.{constructs_of, cases_of, variables_of}
 use Rattle.lowered_items.proofs.numbers.+number.Given as goal
 
 abbrev pub invariant-behind_items-loop-i : goal.invariant-behind_items-loop-i

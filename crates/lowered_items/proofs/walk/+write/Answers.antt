@@ -8,15 +8,15 @@ use Rattle.c_tree.specs.Trees as Plain
 use Rattle.c_tree.specs.Trees.{Then, trees_of, sections_of, expression_trees, join}
 use Rattle.c_tree.specs.declared.tree.Section.{out-Section}
 use Rattle.c_tree.proofs.TreeLaws.{trees-none}
-use Rattle.loose_core.specs.Pieces.{Stays, case_marks}
-use Rattle.loose_core.specs.Loose.{NoArrival, Arrives}
-use Rattle.flat_core.specs.Parts.{switch_labels, cases_among}
-use Rattle.flat_core.specs.FlatForm.{end_goto}
+use Rattle.flat_looser_laws.specs.Pieces.{Stays, case_marks}
+use Rattle.flat_looser_laws.specs.Loose.{NoArrival, Arrives}
+use Rattle.flat_laws.specs.Parts.{switch_labels, cases_among}
+use Rattle.flat_laws.specs.FlatForm.{end_goto}
 use Rattle.jump_meaning.specs.Step.{switch_kind}
-use Rattle.flat_parts.specs.Reading.{is_flagged}
-use Rattle.lowered_core.specs.Lowered.{jump_of, past, past_item, inside, lowered, lowered_item, lowered_among, lowered_for, for_aim, continue_aim}
-use Rattle.tree_views.specs.Views.{tree_at}
-use Rattle.tree_views.proofs.Views.{at-Evaluate, at-If, at-While, at-Do, at-For, at-Switch, at-Block, at-Goto, at-Mark, at-Break, at-Continue, at-Return, at-Local, at-Arm, at-Leap, at-Land, at-Note, at-Arrival}
+use Rattle.flat_questions.specs.Reading.{is_flagged}
+use Rattle.lower_laws.specs.Lowered.{jump_of, past, past_item, inside, lowered, lowered_item, lowered_among, lowered_for, for_aim, continue_aim}
+use Rattle.c_tree.specs.Views.{tree_at}
+use Rattle.c_tree.proofs.Views.{at-Evaluate, at-If, at-While, at-Do, at-For, at-Switch, at-Block, at-Goto, at-Mark, at-Break, at-Continue, at-Return, at-Local, at-Arm, at-Leap, at-Land, at-Note, at-Arrival}
 use Rattle.flat_items.proofs.Joining.{joined}
 use Rattle.flat_items.specs.Plans.{here_of, aim_of, arrivals_if}
 use Rattle.lowered_items.specs.Plans.{layout_of, entered_at, arrivals_of, case_names}

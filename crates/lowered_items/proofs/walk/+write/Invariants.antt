@@ -1,7 +1,7 @@
 use Rattle.std.proofs.Common.{◌≡◌}
 use Rattle.std.specs.Vec.Iter.{into_iter_items}
 use Rattle.c_tree.specs.Trees.{trees_of, sections_of, join}
-use Rattle.lowered_core.specs.Lowered.{past, lowered, lowered_among}
+use Rattle.lower_laws.specs.Lowered.{past, lowered, lowered_among}
 use Rattle.lowered_items.specs.Forms.{past_among}
 use Rattle.flat_items.specs.Plans.{here_of, aim_of}
 use Rattle.lowered_items.specs.Plans.{layout_of, arrivals_of, case_names}

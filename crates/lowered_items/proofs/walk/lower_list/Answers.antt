@@ -1,10 +1,10 @@
 use Rattle.std.proofs.Common.{ap, ◌∙◌}
 use Rattle.c_tree.specs.Trees.{trees_of, join}
 use Rattle.c_tree.proofs.TreeLaws.{trees-none}
-use Rattle.loose_core.specs.Pieces.{Stays}
-use Rattle.flat_core.specs.FlatForm.{first_here}
+use Rattle.flat_looser_laws.specs.Pieces.{Stays}
+use Rattle.flat_laws.specs.FlatForm.{first_here}
 use Rattle.flat_items.specs.Plans.{arrivals_if}
-use Rattle.lowered_core.specs.Lowered.{lowered}
+use Rattle.lower_laws.specs.Lowered.{lowered}
 use Rattle.lowered_items.specs.Plans.{layout_of, arrivals_of, case_names}
 use Rattle.lowered_items.proofs.walk.lower_list.Goals as goal
 

@@ -1,8 +1,8 @@
 use Rattle.std.proofs.Common.{◌*◌, sym, ap, ◌∙◌}
 use Rattle.c_tree.specs.Trees.{trees_of, join}
 use Rattle.c_tree.proofs.TreeLaws.{join-nil}
-use Rattle.flat_core.specs.FlatForm.{mark_if}
-use Rattle.flat_parts.specs.Reading.{is_flagged}
+use Rattle.flat_laws.specs.FlatForm.{mark_if}
+use Rattle.flat_questions.specs.Reading.{is_flagged}
 use Rattle.lowered_items.proofs.walk.write_label.Goals as goal
 
 pub returns-else-is_flagged-clause-items : goal.returns-else-is_flagged-clause-items

@@ -1,6 +1,6 @@
 use Rattle.std.proofs.Common.{◌≡◌, ◌+◌, ◌++◌, ◌∷◌, [], drop, sym, ap, ◌∙◌}
 use Rattle.flat_names.specs.Gathered.{all_used}
-use Rattle.lowered_forms.specs.Lowering.{label_names}
+use Rattle.lower_laws.specs.Lowering.{label_names}
 use Rattle.lowered_names.specs.Steps.{chosen, used_then, next_then}
 use Rattle.lowered_names.proofs.Steps.{labels_step, labels_end, next_less}
 use Rattle.lowered_names.proofs.labels.label_names.Goals as goal

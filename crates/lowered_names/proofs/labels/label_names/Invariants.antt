@@ -1,6 +1,6 @@
 use Rattle.std.proofs.Common.{◌≡◌, ◌≤◌, ◌+◌, ◌++◌, drop}
 use Rattle.flat_names.specs.Gathered.{all_used}
-use Rattle.lowered_forms.specs.Lowering.{label_names}
+use Rattle.lower_laws.specs.Lowering.{label_names}
 use Rattle.lowered_names.proofs.labels.label_names.Given as goal
 
 abbrev pub invariant-loop-i : goal.invariant-loop-i

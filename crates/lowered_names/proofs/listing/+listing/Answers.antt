@@ -3,10 +3,10 @@ use Rattle.std.proofs.lemmas.Result.{on_ok_weaker}
 use Rattle.c_tree.specs.Paths.{list_of}
 use Rattle.c_tree.specs.declared.tree.Section.{Section}
 use Rattle.c_tree.specs.Trees.{trees_of}
-use Rattle.tree_views.specs.Views.{tree_at}
-use Rattle.tree_views.proofs.Views.{at-If, at-For}
-use Rattle.tree_views.proofs.Collecting.{collected, collected_all, collected_in, collected_all_in}
-use Rattle.lowered_forms.specs.Lowering.{constructs, constructs_in, constructs_among}
+use Rattle.c_tree.specs.Views.{tree_at}
+use Rattle.c_tree.proofs.Views.{at-If, at-For}
+use Rattle.c_tree.proofs.Collecting.{collected, collected_all, collected_in, collected_all_in}
+use Rattle.lower_laws.specs.Lowering.{constructs, constructs_in, constructs_among}
 use Rattle.lowered_names.proofs.listing.+listing.Goals as goal
 
 pub add_items-loop-i-preserved : goal.add_items-loop-i-preserved

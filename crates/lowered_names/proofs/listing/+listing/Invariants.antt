@@ -1,6 +1,6 @@
 use Rattle.std.proofs.Common.{◌≡◌, drop, ◌++◌}
 use Rattle.c_tree.specs.Trees.{trees_of, sections_of}
-use Rattle.lowered_forms.specs.Lowering.{constructs, constructs_among}
+use Rattle.lower_laws.specs.Lowering.{constructs, constructs_among}
 use Rattle.lowered_names.proofs.listing.+listing.Given as goal
 
 abbrev pub invariant-add_items-loop-i : goal.invariant-add_items-loop-i

@@ -1,6 +1,6 @@
 use Rattle.std.proofs.Common.{◌≡◌, ◌+◌, drop}
 use Rattle.flat_names.specs.Gathered.{named_of}
-use Rattle.lowered_forms.specs.Lowering.{with_variables}
+use Rattle.lower_laws.specs.Lowering.{with_variables}
 use Rattle.lowered_names.proofs.whole.add_variables.Given as goal
 
 abbrev pub invariant-loop-i : goal.invariant-loop-i

@@ -1,7 +1,7 @@
 use Rattle.std.proofs.Common.{sym, subst}
 use Rattle.c_tree.specs.declared.tree.Top.TheVariants as T
-use Rattle.flat_forms.proofs.Gathered.{gathered_beside}
-use Rattle.named_programs.specs.Flattened.{fd_function}
+use Rattle.flat_form.proofs.Gathered.{gathered_beside}
+use Rattle.restructure_laws.specs.Flattened.{fd_function}
 use Rattle.move_driver.specs.Flattened.{IsTopFlattenedBeside}
 use Rattle.move_driver.proofs.Programs.{stays}
 use Rattle.move_driver.proofs.program.flatten_top.Goals as goal

@@ -1,5 +1,5 @@
 use Rattle.c_tree.specs.Text.{text_of}
-use Rattle.text_reading.proofs.Readings.{program_as}
+use Rattle.c_text.proofs.Readings.{program_as}
 use Rattle.move_driver.proofs.Kept.{skeletons, guards, levels, sizes}
 use Rattle.move_driver.proofs.Programs.{movable, restructured, reads_back, ranged}
 use Rattle.move_driver.proofs.Settled.{notes_kept, only, settled}

@@ -1,5 +1,5 @@
 use Rattle.std.proofs.Common.{sym, subst, ◌∙◌, true≢false}
-use Rattle.printed_limits.specs.Limits.{IsWithinLimits}
+use Rattle.print_limits.specs.Limits.{IsWithinLimits}
 use Rattle.move_replay.proofs.replaying.finish.Goals as goal
 
 pub returns-else-is_within_limits-clause-deep : goal.returns-else-is_within_limits-clause-deep

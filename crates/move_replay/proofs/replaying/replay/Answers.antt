@@ -1,8 +1,8 @@
 use Rattle.std.proofs.lemmas.Result.{IfOk-weaker}
 use Rattle.c_tree.specs.Text.{text_of}
-use Rattle.resolved_core.specs.Counts.{flat_counts}
-use Rattle.resolved_core.proofs.TheLaws.{resolved_laws}
-use Rattle.text_reading.proofs.Readings.{program_as}
+use Rattle.c_resolved_laws.specs.Counts.{flat_counts}
+use Rattle.c_resolved_laws.proofs.TheLaws.{resolved_laws}
+use Rattle.c_text.proofs.Readings.{program_as}
 use Rattle.move_replay.proofs.Outcomes.{read_back, restructured, complete, exact}
 use Rattle.move_replay.proofs.replaying.replay.Goals as goal
 

@@ -2,7 +2,7 @@ use Rattle.std.proofs.Common.{sym, ◌∙◌}
 use Rattle.c_tree.specs.Trees.{trees_of}
 use Rattle.c_tree.proofs.RuleChanges.{moves_out_changed}
 use Rattle.c_tree.proofs.WellMoved.{well_moved}
-use Rattle.move_core.proofs.Laws.{behaviour_laws}
+use Rattle.move_laws.proofs.Laws.{behaviour_laws}
 use Rattle.outward_moves.proofs.OutLemmas.{found_applies}
 use Rattle.outward_moves.proofs.outward.move_out.Goals as goal
 

@@ -2,7 +2,7 @@ use Rattle.std.proofs.Common.{[], Some, rules, sym, ap, ◌∙◌, unwrap_or}
 use Rattle.std.proofs.lemmas.Result.{on_ok_weaker, on_err_weaker}
 use Rattle.c_tree.specs.Paths.{put_at}
 use Rattle.c_tree.specs.Outward.{moved_out}
-use Rattle.list_edits.proofs.PutLemmas.{still_there, put_changed, put_unchanged}
+use Rattle.move_list_edits.proofs.PutLemmas.{still_there, put_changed, put_unchanged}
 use Rattle.outward_moves.proofs.OutLemmas.{leap_in_construct}
 use Rattle.outward_moves.proofs.outward.move_out_in.Goals as goal
 

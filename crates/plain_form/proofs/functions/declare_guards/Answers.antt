@@ -1,6 +1,6 @@
 use Rattle.std.proofs.Common.{[], ◌∷◌, ◌++◌, ap, ◌∙◌}
 use Rattle.c_tree.specs.declared.tree.Item.{Item}
-use Rattle.plain_core.specs.Plain.{guard_declared}
+use Rattle.plain_laws.specs.Plain.{guard_declared}
 use Rattle.plain_form.proofs.LoopLemmas.{declare_step}
 use Rattle.plain_form.proofs.functions.declare_guards.Goals as goal
 

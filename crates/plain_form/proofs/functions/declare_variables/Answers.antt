@@ -1,4 +1,4 @@
-use Rattle.plain_core.specs.Plain.{variable_declared}
+use Rattle.plain_laws.specs.Plain.{variable_declared}
 use Rattle.plain_form.proofs.LoopLemmas.{declare_step}
 use Rattle.plain_form.proofs.functions.declare_variables.Goals as goal
 

@@ -1,5 +1,5 @@
 use Rattle.std.proofs.Common.{◌≡◌, ◌++◌, ◌-◌, map}
-use Rattle.plain_core.specs.Plain.{numbers_from, variable_declared}
+use Rattle.plain_laws.specs.Plain.{numbers_from, variable_declared}
 use Rattle.plain_form.proofs.functions.declare_variables.Given as goal
 
 abbrev pub invariant-loop-k : goal.invariant-loop-k

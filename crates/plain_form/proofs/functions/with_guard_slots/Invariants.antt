@@ -1,5 +1,5 @@
 use Rattle.std.proofs.Common.{◌≡◌, ◌++◌, map}
-use Rattle.plain_core.specs.Plain.{guard_slot}
+use Rattle.plain_laws.specs.Plain.{guard_slot}
 use Rattle.plain_form.proofs.functions.with_guard_slots.Given as goal
 
 abbrev pub invariant-loop-name : goal.invariant-loop-name

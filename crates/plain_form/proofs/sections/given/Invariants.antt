@@ -1,6 +1,6 @@
 use Rattle.std.proofs.Common.{◌≡◌, ◌++◌, List}
 use Rattle.c_tree.specs.declared.tree.Section.{Section}
-use Rattle.plain_core.specs.Plain.{given}
+use Rattle.plain_laws.specs.Plain.{given}
 use Rattle.plain_form.specs.Made.{given_after}
 use Rattle.plain_form.proofs.sections.given.Given as goal
 

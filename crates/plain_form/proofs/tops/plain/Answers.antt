@@ -1,7 +1,7 @@
 use Rattle.std.proofs.Common.{ℕ, ap, ◌∙◌, List, map}
 use Rattle.c_tree.specs.declared.tree.Top.{Top}
 use Rattle.guard_vars.specs.GuardNames.{guard_names, guard_names_beside}
-use Rattle.plain_core.specs.Plain.{plain_top}
+use Rattle.plain_laws.specs.Plain.{plain_top}
 use Rattle.plain_form.proofs.ProgramLaws.{no_jumps, few, ranged, behaves, structured}
 use Rattle.plain_form.proofs.tops.plain.Goals as goal
 

@@ -1,6 +1,6 @@
 use Rattle.std.proofs.Common.{◌≡◌, map, take}
 use Rattle.guard_vars.specs.GuardNames.{guard_names_beside}
-use Rattle.plain_core.specs.Plain.{plain_top}
+use Rattle.plain_laws.specs.Plain.{plain_top}
 use Rattle.plain_form.proofs.tops.plain_tops.Given as goal
 
 abbrev pub invariant-loop-top : goal.invariant-loop-top

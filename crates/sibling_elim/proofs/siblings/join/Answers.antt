@@ -4,7 +4,7 @@ use Rattle.c_tree.specs.Join.{joined_at}
 use Rattle.c_tree.specs.Trees.{trees_of}
 use Rattle.c_tree.proofs.RuleChanges.{joins_changed}
 use Rattle.c_tree.proofs.WellMoved.{well_moved}
-use Rattle.move_core.proofs.Laws.{behaviour_laws}
+use Rattle.move_laws.proofs.Laws.{behaviour_laws}
 use Rattle.sibling_elim.proofs.siblings.join.Goals as goal
 
 pub returns-clause-well_made : goal.returns-clause-well_made

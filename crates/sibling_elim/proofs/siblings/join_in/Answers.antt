@@ -4,7 +4,7 @@ use Rattle.c_tree.specs.declared.tree.Item.{Leap}
 use Rattle.c_tree.specs.Paths.{put_at}
 use Rattle.c_tree.specs.Join.{joined}
 use Rattle.c_tree.proofs.RuleChanges.{stands}
-use Rattle.list_edits.proofs.PutLemmas.{still_there, put_changed, put_unchanged}
+use Rattle.move_list_edits.proofs.PutLemmas.{still_there, put_changed, put_unchanged}
 use Rattle.sibling_elim.proofs.PairLemmas.{taken}
 use Rattle.sibling_elim.proofs.siblings.join_in.Goals as goal
 

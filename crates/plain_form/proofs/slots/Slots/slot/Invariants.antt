@@ -1,5 +1,5 @@
 use Rattle.std.proofs.Common.{◌≡◌, ◌+◌, drop}
-use Rattle.plain_core.specs.Plain.{slot_among}
+use Rattle.plain_laws.specs.Plain.{slot_among}
 use Rattle.plain_form.proofs.slots.Slots.slot.Given as goal
 
 abbrev pub invariant-loop-i : goal.invariant-loop-i

@@ -1,0 +1,17 @@
+use Rattle.std.proofs.Common.{◌≤◌, ◌-◌, drop, length}
+use Rattle.c_layers.specs.Views.{words_of}
+use Rattle.c_statements.specs.Nodes.{items_of}
+use Rattle.c_comments.specs.Notes.{members_place}
+use Rattle.c_comments.specs.Steps.{Behind}
+use Rattle.c_comments.proofs.lists.pass_members.Given as goal
+
+abbrev pub invariant-loop-i : goal.invariant-loop-i
+invariant-loop-i l = record {
+  within : l.i ≤ length l.items;
+  rest :
+      Behind (members_place l.begun l.fn.switch l.fn.first (items_of (words_of l.words) (drop l.i l.items)))
+      (members_place l.fn.had_begun l.fn.switch l.fn.first (items_of (words_of l.words) l.items)) l.fn.token;
+}
+
+abbrev pub decreases-loop-i : goal.decreases-loop-i
+decreases-loop-i l = length l.items - l.i

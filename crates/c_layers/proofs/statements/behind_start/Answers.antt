@@ -1,0 +1,7 @@
+use Rattle.std.proofs.Common.{sym, ◌∙◌, arith}
+use Rattle.c_layers.specs.Views.{words_of}
+use Rattle.c_layers.proofs.Items.{local-behind}
+use Rattle.c_layers.proofs.statements.behind_start.Goals as goal
+
+pub returns-then-is_local-clause-rest : goal.returns-then-is_local-clause-rest
+returns-then-is_local-clause-rest c = local-behind (words_of c.args.words.now) c.args.parts.now c.index-parts-0.result (omega arith) (sym c.is_local.ensures ∙ c.if-is_local.true)

@@ -1,0 +1,19 @@
+//! The derivation of a text gives source trees as the laws of resolving read them.
+//!
+//! The function here runs no code: its contract is the laws.
+//!
+//! The derivation of a text gives source trees within the limits of a file, and so all that resolving asks of them.
+#![tactic(auto)]
+
+ghost use Rattle.c_limits_laws.specs.CSourceLaws.{DerivedLaws};
+ghost use Rattle.c_limits_laws.specs.CLimitsLaws.{LimitLaws};
+
+/// The source of a derived text has what resolving asks of it (ISO/IEC 9899:2011, 6.5 to 6.9).
+pub fn derived_laws()
+    ensures { DerivedLaws }
+{}
+
+/// A derived text is read whole, with its limits (ISO/IEC 9899:2011, 5.2.4.1), its directives and its comments.
+pub fn limit_laws()
+    ensures { LimitLaws }
+{}

@@ -1,0 +1,114 @@
+//! Tokens that begin a part of a file.
+
+ghost use Rattle.std.specs.Prelude.{◌≡◌, ◌<◌, IfOk};
+ghost use Rattle.c_parse_step.specs.Starts as spec;
+ghost use Rattle.c_parse_step.specs.Steps.{Steps};
+
+use crate::build::{leaf, more, node, one};
+use crate::form::{Lead, Member, Want};
+use crate::frame::Frame;
+use crate::load::{Load, OUTSIDE};
+use crate::types::{at_type, begun};
+use crate::want::{rest, todo};
+use c_grammar::{Class, Production, Syntax};
+use c_types::{List, Memory, Stack};
+use std::alloc::Global;
+
+fn function_rest(alloc: Global) -> Result<Stack<Want>, Memory>
+    ensures { IfOk result (λ it. it ≡ spec.function_rest) }
+{
+    todo(
+        alloc,
+        &[
+            Want::Token(Class::Name),
+            Want::Token(Class::Open),
+            Want::Parameters,
+            Want::Token(Class::Close),
+            Want::FunctionEnd,
+        ],
+    )
+}
+
+/// A declaration or a function, which has these parts so far.
+pub fn at_external(
+    alloc: Global,
+    stack: &mut Stack<Frame>,
+    first: u32,
+    parts: List<Syntax>,
+    class: Class,
+    at: u32,
+) -> Result<Option<Load>, Memory>
+    requires { at < 4294967295 }
+    ensures { Steps (spec.at_external first parts stack.old class at) result stack.new }
+{
+    match class {
+        Class::Const => {
+            let none = Stack::new(alloc);
+            rest(stack, Production::Declaration, first, 0, parts, none)?;
+            let wants = todo(
+                alloc,
+                &[
+                    Want::Type,
+                    Want::Declarator,
+                    Want::Optional(Lead::Declarators),
+                    Want::Token(Class::Semicolon),
+                ],
+            )?;
+            begun(alloc, stack, OUTSIDE, Production::Local, 0, at, wants)
+        }
+        Class::Void => {
+            let parts = more(parts, leaf(alloc, at))?;
+            let wants = function_rest(alloc)?;
+            rest(stack, Production::Function, first, 0, parts, wants)?;
+            Ok(Some(OUTSIDE))
+        }
+        _ => {
+            stack.push(Frame::TopType(first, parts, at))?;
+            at_type(alloc, stack, class, at)
+        }
+    }
+}
+
+pub fn at_top(
+    alloc: Global,
+    stack: &mut Stack<Frame>,
+    parts: List<Syntax>,
+    class: Class,
+    at: u32,
+) -> Result<Option<Load>, Memory>
+    requires { at < 4294967295 }
+    ensures { Steps (spec.at_top parts stack.old class at) result stack.new }
+{
+    match class {
+        Class::End => {
+            stack.push(Frame::Accepted(node(Production::File, 0, at, parts)))?;
+            Ok(Some(OUTSIDE))
+        }
+        Class::Directive => {
+            stack.push(Frame::Tops(more(parts, leaf(alloc, at))?))?;
+            Ok(Some(OUTSIDE))
+        }
+        Class::Enum => {
+            stack.push(Frame::Tops(parts))?;
+            let wants = todo(
+                alloc,
+                &[
+                    Want::Token(Class::OpenBlock),
+                    Want::Enumerator,
+                    Want::Tail(Member::Enumerator),
+                    Want::Token(Class::Semicolon),
+                ],
+            )?;
+            begun(alloc, stack, OUTSIDE, Production::Enum, 0, at, wants)
+        }
+        Class::Static => {
+            stack.push(Frame::Tops(parts))?;
+            stack.push(Frame::External(at, one(alloc, leaf(alloc, at))?))?;
+            Ok(Some(OUTSIDE))
+        }
+        _ => {
+            stack.push(Frame::Tops(parts))?;
+            at_external(alloc, stack, at, List::new(alloc), class, at)
+        }
+    }
+}

@@ -1,0 +1,248 @@
+//! Tokens that begin a declaration or a part of one.
+
+ghost use Rattle.std.specs.Prelude.{◌≡◌, ◌<◌, ◌∷◌, []};
+ghost use Rattle.c_grammar.specs.Nodes as nodes;
+ghost use Rattle.c_parse_step.specs.Starts as spec;
+ghost use Rattle.c_parse_step.specs.Steps.{Steps};
+
+use crate::build::{leaf, one};
+use crate::expressions::at_full;
+use crate::form::{Lead, Member, Want};
+use crate::frame::{Frame, Full};
+use crate::kind::is_same;
+use crate::load::{Load, OUTSIDE, UNCOUNTED};
+use crate::want::{rest, todo};
+use c_grammar::{Class, Production};
+use c_types::{List, Memory, Stack};
+use std::alloc::Global;
+
+/// Behind the first token of a node, which it has alone so far.
+pub fn begun(
+    alloc: Global,
+    stack: &mut Stack<Frame>,
+    load: Load,
+    rule: Production,
+    level: u32,
+    at: u32,
+    todo: Stack<Want>,
+) -> Result<Option<Load>, Memory>
+    requires { at < 4294967295 }
+    ensures { Steps (spec.Takes load (spec.rest rule at level (nodes.leaf at ∷ []) todo ∷ stack.old)) result stack.new }
+{
+    let parts = one(alloc, leaf(alloc, at))?;
+    rest(stack, rule, at, level, parts, todo)?;
+    Ok(Some(load))
+}
+
+pub fn at_type(
+    alloc: Global,
+    stack: &mut Stack<Frame>,
+    class: Class,
+    at: u32,
+) -> Result<Option<Load>, Memory>
+    requires { at < 4294967295 }
+    ensures { Steps (spec.at_type stack.old class at) result stack.new }
+{
+    match class {
+        Class::Char | Class::Int => {
+            begun(
+                alloc,
+                stack,
+                UNCOUNTED,
+                Production::NumberType,
+                0,
+                at,
+                Stack::new(alloc),
+            )
+        }
+        Class::Long => {
+            let wants = todo(alloc, &[Want::Optional(Lead::Int)])?;
+            begun(
+                alloc,
+                stack,
+                UNCOUNTED,
+                Production::NumberType,
+                0,
+                at,
+                wants,
+            )
+        }
+        Class::Signed | Class::Unsigned => {
+            let wants = todo(alloc, &[Want::Base])?;
+            begun(
+                alloc,
+                stack,
+                UNCOUNTED,
+                Production::NumberType,
+                0,
+                at,
+                wants,
+            )
+        }
+        _ => Ok(None),
+    }
+}
+
+pub fn at_local(
+    alloc: Global,
+    stack: &mut Stack<Frame>,
+    class: Class,
+    at: u32,
+) -> Result<Option<Load>, Memory>
+    requires { at < 4294967295 }
+    ensures { Steps (spec.at_local stack.old class at) result stack.new }
+{
+    if let Class::Const = class {
+        let wants = todo(
+            alloc,
+            &[
+                Want::Type,
+                Want::Declarator,
+                Want::Optional(Lead::Declarators),
+                Want::Token(Class::Semicolon),
+            ],
+        )?;
+        return begun(alloc, stack, OUTSIDE, Production::Local, 0, at, wants);
+    }
+    let wants = todo(
+        alloc,
+        &[
+            Want::Declarator,
+            Want::Optional(Lead::Declarators),
+            Want::Token(Class::Semicolon),
+        ],
+    )?;
+    rest(stack, Production::Local, at, 0, List::new(alloc), wants)?;
+    at_type(alloc, stack, class, at)
+}
+
+pub fn at_declarator(
+    alloc: Global,
+    stack: &mut Stack<Frame>,
+    class: Class,
+    at: u32,
+) -> Result<Option<Load>, Memory>
+    requires { at < 4294967295 }
+    ensures { Steps (spec.at_declarator stack.old class at) result stack.new }
+{
+    if !is_same(Class::Name, class) {
+        return Ok(None);
+    }
+    let wants = todo(
+        alloc,
+        &[Want::Optional(Lead::Size), Want::Optional(Lead::Value)],
+    )?;
+    begun(alloc, stack, OUTSIDE, Production::Declarator, 0, at, wants)
+}
+
+pub fn at_enumerator(
+    alloc: Global,
+    stack: &mut Stack<Frame>,
+    class: Class,
+    at: u32,
+) -> Result<Option<Load>, Memory>
+    requires { at < 4294967295 }
+    ensures { Steps (spec.at_enumerator stack.old class at) result stack.new }
+{
+    if !is_same(Class::Name, class) {
+        return Ok(None);
+    }
+    let wants = todo(alloc, &[Want::Optional(Lead::Constant)])?;
+    begun(alloc, stack, OUTSIDE, Production::Enumerator, 0, at, wants)
+}
+
+pub fn at_initialiser(
+    alloc: Global,
+    stack: &mut Stack<Frame>,
+    class: Class,
+    at: u32,
+) -> Result<Option<Load>, Memory>
+    requires { at < 4294967295 }
+    ensures { Steps (spec.at_initialiser stack.old class at) result stack.new }
+{
+    if is_same(Class::OpenBlock, class) {
+        let wants = todo(
+            alloc,
+            &[Want::Full(Full::Assignment), Want::Tail(Member::Value)],
+        )?;
+        return begun(alloc, stack, OUTSIDE, Production::Initialiser, 0, at, wants);
+    }
+    rest(
+        stack,
+        Production::Initialiser,
+        at,
+        0,
+        List::new(alloc),
+        Stack::new(alloc),
+    )?;
+    at_full(alloc, stack, Full::Assignment, class, at)
+}
+
+pub fn at_member(
+    alloc: Global,
+    stack: &mut Stack<Frame>,
+    member: Member,
+    class: Class,
+    at: u32,
+) -> Result<Option<Load>, Memory>
+    requires { at < 4294967295 }
+    ensures { Steps (spec.at_member member stack.old class at) result stack.new }
+{
+    match member {
+        Member::Value => at_full(alloc, stack, Full::Assignment, class, at),
+        Member::Enumerator => at_enumerator(alloc, stack, class, at),
+    }
+}
+
+pub fn at_parameter(
+    alloc: Global,
+    stack: &mut Stack<Frame>,
+    class: Class,
+    at: u32,
+) -> Result<Option<Load>, Memory>
+    requires { at < 4294967295 }
+    ensures { Steps (spec.at_parameter stack.old class at) result stack.new }
+{
+    if let Class::Const = class {
+        let wants = todo(
+            alloc,
+            &[
+                Want::Type,
+                Want::Optional(Lead::Name),
+                Want::Optional(Lead::Size),
+            ],
+        )?;
+        return begun(alloc, stack, OUTSIDE, Production::Param, 0, at, wants);
+    }
+    let wants = todo(
+        alloc,
+        &[Want::Optional(Lead::Name), Want::Optional(Lead::Size)],
+    )?;
+    rest(stack, Production::Param, at, 0, List::new(alloc), wants)?;
+    at_type(alloc, stack, class, at)
+}
+
+pub fn at_parameters(
+    alloc: Global,
+    stack: &mut Stack<Frame>,
+    class: Class,
+    at: u32,
+) -> Result<Option<Load>, Memory>
+    requires { at < 4294967295 }
+    ensures { Steps (spec.at_parameters stack.old class at) result stack.new }
+{
+    if let Class::Void = class {
+        return begun(
+            alloc,
+            stack,
+            OUTSIDE,
+            Production::Params,
+            0,
+            at,
+            Stack::new(alloc),
+        );
+    }
+    let wants = todo(alloc, &[Want::Optional(Lead::Parameters)])?;
+    rest(stack, Production::Params, at, 0, List::new(alloc), wants)?;
+    at_parameter(alloc, stack, class, at)
+}

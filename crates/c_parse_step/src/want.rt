@@ -1,0 +1,113 @@
+//! What is awaited for a node that begins at a place.
+
+ghost use Rattle.std.specs.Prelude.{◌≡◌, ◌∷◌, OnOk, IfOk};
+ghost use Rattle.c_parse_step.specs.Machine as machine;
+ghost use Rattle.c_parse_step.specs.Starts as spec;
+
+use crate::form::{Form, Lead, Want};
+use crate::frame::{Frame, Full};
+use c_grammar::{Production, Syntax};
+use c_types::{List, Memory, Stack};
+use std::alloc::Global;
+
+pub fn want_conditional(stack: &mut Stack<Frame>, at: u32) -> Result<(), Memory>
+    ensures { OnOk result (stack.new ≡ spec.conditional at stack.old) }
+{
+    stack.push(Frame::Choice(at))?;
+    stack.push(Frame::Operand(at))?;
+    stack.push(Frame::WantUnary)?;
+    Ok(())
+}
+
+pub fn want_assignment(stack: &mut Stack<Frame>, at: u32) -> Result<(), Memory>
+    ensures { OnOk result (stack.new ≡ spec.assignment at stack.old) }
+{
+    stack.push(Frame::Assigns(at))?;
+    want_conditional(stack, at)?;
+    Ok(())
+}
+
+pub fn want_expression(alloc: Global, stack: &mut Stack<Frame>, at: u32) -> Result<(), Memory>
+    ensures { OnOk result (stack.new ≡ spec.expression at stack.old) }
+{
+    stack.push(Frame::Commas(at, at, List::new(alloc)))?;
+    want_assignment(stack, at)?;
+    Ok(())
+}
+
+/// The frames of a full expression behind that which awaits its first token.
+pub fn behind_full(
+    alloc: Global,
+    stack: &mut Stack<Frame>,
+    kind: Full,
+    at: u32,
+) -> Result<(), Memory>
+    ensures { OnOk result (stack.new ≡ spec.behind_full kind at stack.old) }
+{
+    stack.push(Frame::Whole(kind, at))?;
+    match kind {
+        Full::Conditional => {}
+        Full::Assignment => stack.push(Frame::Assigns(at))?,
+        Full::Expression => {
+            stack.push(Frame::Commas(at, at, List::new(alloc)))?;
+            stack.push(Frame::Assigns(at))?;
+        }
+    }
+    stack.push(Frame::Choice(at))?;
+    stack.push(Frame::Operand(at))?;
+    Ok(())
+}
+
+/// What is left of a production.
+pub fn todo(alloc: Global, wants: &[Want]) -> Result<Stack<Want>, Memory>
+    ensures { IfOk result (λ it. it ≡ wants.now) }
+{
+    let mut left = Stack::new(alloc);
+    let mut i = wants.len();
+    while i > 0 {
+        i -= 1;
+        left.push(wants[i])?;
+    }
+    Ok(left)
+}
+
+/// Puts what is left of a node on the stack.
+pub fn rest(
+    stack: &mut Stack<Frame>,
+    rule: Production,
+    first: u32,
+    level: u32,
+    parts: List<Syntax>,
+    todo: Stack<Want>,
+) -> Result<(), Memory>
+    ensures { OnOk result (stack.new ≡ spec.rest rule first level parts todo ∷ stack.old) }
+{
+    stack.push(Frame::Rest(Form {
+        rule,
+        first,
+        level,
+        parts,
+        todo,
+    }))
+}
+
+/// What stands behind the token that leads in what may be left out.
+pub fn lead_in(todo: &mut Stack<Want>, lead: Lead) -> Result<(), Memory>
+    ensures { OnOk result (todo.new ≡ machine.follow lead todo.old) }
+{
+    match lead {
+        Lead::Const | Lead::Name | Lead::Int => Ok(()),
+        Lead::Size => todo.push(Want::Length),
+        Lead::Value => todo.push(Want::Initialiser),
+        Lead::Constant => todo.push(Want::Full(Full::Conditional)),
+        Lead::Else => todo.push(Want::Body),
+        Lead::Declarators => {
+            todo.push(Want::Optional(Lead::Declarators))?;
+            todo.push(Want::Declarator)
+        }
+        Lead::Parameters => {
+            todo.push(Want::Optional(Lead::Parameters))?;
+            todo.push(Want::Parameter)
+        }
+    }
+}

@@ -1,8 +1,0 @@
-use Rattle.std.proofs.Common.{sym, ◌∙◌}
-use Rattle.c_source.specs.Views.{words_of}
-use Rattle.c_source.proofs.Layers.{brackets}
-use Rattle.c_source.proofs.layer.+layer.Goals as goal
-
-pub bracket_layer-returns-then-is_token-clause-form : goal.bracket_layer-returns-then-is_token-clause-form
-bracket_layer-returns-then-is_token-clause-form t c =
-    brackets (words_of c.args.words.now) c.args.parts.now c.index-parts-0.result c.index-parts-1.result c.requires (sym c.is_token.ensures ∙ c.if-is_token.true)

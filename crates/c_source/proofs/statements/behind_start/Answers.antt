@@ -1,7 +1,0 @@
-use Rattle.std.proofs.Common.{sym, ◌∙◌, arith}
-use Rattle.c_source.specs.Views.{words_of}
-use Rattle.c_source.proofs.Items.{local-behind}
-use Rattle.c_source.proofs.statements.behind_start.Goals as goal
-
-pub returns-then-is_local-clause-rest : goal.returns-then-is_local-clause-rest
-returns-then-is_local-clause-rest c = local-behind (words_of c.args.words.now) c.args.parts.now c.index-parts-0.result (omega arith) (sym c.is_local.ensures ∙ c.if-is_local.true)

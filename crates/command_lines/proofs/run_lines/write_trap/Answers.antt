@@ -1,4 +1,0 @@
-use Rattle.command_lines.proofs.run_lines.write_trap.Goals as goal
-
-pub returns : goal.returns
-returns g c = rw c.format.ensures.text at c.write_pieces.ensures

@@ -1,5 +1,0 @@
-use Rattle.command_lines.proofs.Lengths.{too_many}
-use Rattle.command_lines.proofs.words.command.Goals as goal
-
-pub returns-in-len6-up : goal.returns-in-len6-up
-returns-in-len6-up c = too_many _ c.args.words.now c.in-len6-up.len_at_least

@@ -1,9 +1,0 @@
-use Rattle.std.proofs.Common.{◌≡◌, length}
-use Rattle.comment_places.specs.Frames.{holding}
-use Rattle.comment_places.proofs.frames.leave.Given as goal
-
-abbrev pub invariant-loop-frame : goal.invariant-loop-frame
-invariant-loop-frame l = holding l.fn.token l.frames ≡ holding l.fn.token l.fn.frames
-
-abbrev pub decreases-loop-frame : goal.decreases-loop-frame
-decreases-loop-frame l = length l.frames

@@ -1,8 +1,0 @@
-use Rattle.std.proofs.Common.{◌≡◌, drop}
-use Rattle.c_source.specs.ItemViews.{labels_of}
-use Rattle.c_source.specs.Views.{words_of}
-use Rattle.comment_places.specs.Notes.{case_place}
-use Rattle.comment_places.proofs.labels.case_place.Given as goal
-
-abbrev pub invariant-loop-x : goal.invariant-loop-x
-invariant-loop-x l = case_place l.fn.first (labels_of (words_of l.words) (drop l.x-index l.nodes)) ≡ case_place l.fn.first (labels_of (words_of l.words) l.nodes)

@@ -1,8 +1,0 @@
-use Rattle.std.proofs.Common.{◌≡◌, drop}
-use Rattle.c_source.specs.ItemViews.{labels_of}
-use Rattle.c_source.specs.Views.{words_of}
-use Rattle.c_statements.specs.Labels.{has_case}
-use Rattle.comment_places.proofs.labels.has_case.Given as goal
-
-abbrev pub invariant-loop-x : goal.invariant-loop-x
-invariant-loop-x l = has_case (labels_of (words_of l.words) (drop l.x-index l.nodes)) ≡ has_case (labels_of (words_of l.words) l.nodes)

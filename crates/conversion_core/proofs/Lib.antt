@@ -1,4 +1,0 @@
-pub mod ConvertedTrees
-pub mod BetterConverted
-pub mod Kept
-pub mod ProgramsConverted

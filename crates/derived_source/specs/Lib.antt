@@ -1,4 +1,0 @@
-pub mod Classed
-pub mod Directives
-pub mod Formed
-pub mod Laws

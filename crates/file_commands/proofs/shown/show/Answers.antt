@@ -1,6 +1,0 @@
-use Rattle.file_commands.proofs.Completion.{completes}
-use Rattle.file_commands.proofs.shown.show.Goals as goal
-
-pub returns-in-Err-clause-completes : goal.returns-in-Err-clause-completes
-returns-in-Err-clause-completes g c =
-    completes g.T.Translator.accepts g.T.Translator.refuses g.met.T.Translator.apart _ c.args.from.now _ _ _ _ _ c.in-Err.status c.in-Err.ensures.untranslated

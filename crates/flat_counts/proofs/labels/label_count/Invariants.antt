@@ -1,9 +1,0 @@
-use Rattle.std.proofs.Common.{◌≡◌, ◌+◌, ◌≤◌, drop}
-use Rattle.resolved_core.specs.Counts.{labels_from}
-use Rattle.flat_counts.proofs.labels.label_count.Given as goal
-
-abbrev pub invariant-loop-i : goal.invariant-loop-i
-invariant-loop-i l = record {
-  counted : l.count + labels_from l.sources l.codes l.i (drop l.i l.codes) ≡ labels_from l.sources l.codes 0 l.codes;
-  few : l.count ≤ l.i;
-}

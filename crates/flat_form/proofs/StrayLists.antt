@@ -1,0 +1,56 @@
+-- A list without stray case labels, from one place on.
+use Rattle.std.proofs.Common.{◌≡◌, ℕ, ◌+◌, ◌<◌, ◌≤◌, Bool, true, false, not, List, [], ◌∷◌, ◌++◌, Option, length, drop, get_or, refl, sym, ap, ◌∙◌}
+use Rattle.std.specs.Prelude.{IfOk, Result, Ok, Err}
+use Rattle.c_tree.specs.declared.tree.Item.{Item}
+use Rattle.c_tree.specs.ExpressionTrees.{ExpressionTree}
+use Rattle.c_tree.specs.TextItems.{is_empty}
+use Rattle.c_tree.specs.Trees.{Tree, Forest, Nil, Then, If, While, Do, For, Block, Arrival, trees_of, join}
+use Rattle.c_tree.proofs.TreeLaws.{join-nil}
+use Rattle.flat_laws.specs.Parts.{arrivals, arrivals_in}
+use Rattle.flat_items.proofs.Joining.{joined}
+use Rattle.c_resolved_laws.specs.Counts.{without_strays, without_stray, bound_counts, flat_counts}
+use Rattle.c_tree.specs.Views.{tree_at}
+use Rattle.c_tree.proofs.Views.{trees-at, trees-end}
+
+pub strays_step : (xs : List Item) (i : ℕ) (x : Item) → i < length xs → x ≡ get_or xs i x → (out new all : Forest) → new ≡ join out (without_stray (tree_at x)) → join out (without_strays (trees_of (drop i xs))) ≡ all → join new (without_strays (trees_of (drop (i + 1) xs))) ≡ all
+strays_step xs i x l e out new all n inv =
+    let rest = without_strays (trees_of (drop (i + 1) xs)) in
+    ap (λ z. join z rest) n ∙ joined out (without_stray (tree_at x)) rest ∙ sym (ap (λ a. join out (without_strays a)) (trees-at xs i x l e)) ∙ inv
+
+pub strays_end : (xs : List Item) (i : ℕ) → length xs ≤ i → (out all : Forest) → join out (without_strays (trees_of (drop i xs))) ≡ all → out ≡ all
+strays_end xs i l out all inv = sym (join-nil out) ∙ sym (ap (λ a. join out (without_strays a)) (trees-end xs i l)) ∙ inv
+
+-- ---- where none is stray
+
+empty_left : (xs ys : List (Option ExpressionTree)) → is_empty (xs ++ ys) ≡ true → is_empty xs ≡ true
+empty_left [] ys h = refl
+empty_left (x ∷ xs) ys h = h
+
+empty_right : (xs ys : List (Option ExpressionTree)) → is_empty (xs ++ ys) ≡ true → is_empty ys ≡ true
+empty_right [] ys h = h
+empty_right (x ∷ xs) ys h = cc
+
+mutual
+  none_stray : (a : Forest) → is_empty (arrivals a) ≡ true → without_strays a ≡ a
+  none_stray Nil h = refl
+  none_stray (Then x a) h = none_behind x (without_strays a) (empty_left (arrivals_in x) (arrivals a) h) ∙ ap (Then x) (none_stray a (empty_right (arrivals_in x) (arrivals a) h))
+
+  none_behind : (x : Tree) (b : Forest) → is_empty (arrivals_in x) ≡ true → join (without_stray x) b ≡ Then x b
+  none_behind (If t c d) b h = let k = none_stray c (empty_left (arrivals c) (arrivals d) h) in let l = none_stray d (empty_right (arrivals c) (arrivals d) h) in λ i. Then (If t (k i) (l i)) b
+  none_behind (While t c) b h = λ i. Then (While t (none_stray c h i)) b
+  none_behind (Do c t) b h = λ i. Then (Do (none_stray c h i) t) b
+  none_behind (For first t u c) b h = λ i. Then (For first t u (none_stray c h i)) b
+  none_behind (Block c) b h = λ i. Then (Block (none_stray c h i)) b
+  none_behind (Arrival e) b h = cc
+  none_behind x b h = refl
+
+is_true : (b : Bool) → not b ≡ false → b ≡ true
+is_true true h = refl
+is_true false h = cc
+
+pub none_stray_counts : (a : Forest) → not (is_empty (arrivals a)) ≡ false → bound_counts a ≡ flat_counts a
+none_stray_counts a h = ap bound_counts (sym (none_stray a (is_true (is_empty (arrivals a)) h)))
+
+pub none_stray_answer : {E : Type 0} (r : Result (Option (ℕ × ℕ)) E) (a : Forest) → not (is_empty (arrivals a)) ≡ false → IfOk r (λ it. it ≡ bound_counts a) → IfOk r (λ it. it ≡ flat_counts a)
+none_stray_answer (Ok x) a h p = p ∙ none_stray_counts a h
+none_stray_answer (Err e) a h p = tt

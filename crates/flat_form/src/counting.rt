@@ -1,0 +1,144 @@
+//! Gotos and labels of flat forms, counted.
+
+ghost use Rattle.std.specs.Prelude.{◌≡◌, ◌+◌, [], length, IfOk, OnOk};
+ghost use Rattle.c_tree.specs.Everywhere.{total, total_of, total_in};
+ghost use Rattle.c_tree.specs.Trees.{trees_of, sections_of};
+ghost use Rattle.c_resolved_laws.specs.Counts.{goto_of, bound_counts as the_bound_counts, flat_counts as the_flat_counts};
+ghost use Rattle.c_tree.specs.Views.{tree_at};
+
+use crate::flat_counts_labels::label_count;
+use crate::strays::without_strays;
+use c_tree::{Function, Item, Section};
+use c_types::{List, Memory, Name};
+use crate::{flat_body, labels_in};
+use flat_questions::{has_arrival, has_jumps};
+use std::alloc::Global;
+
+fn add_one(count: &mut u64) -> Result<(), Memory>
+    ensures { OnOk result (count.new ≡ count.old + 1) }
+{
+    match count.checked_add(1) {
+        Some(sum) => {
+            *count = sum;
+            Ok(())
+        }
+        None => Err(Memory),
+    }
+}
+
+#[cycle(counting)]
+fn add_list(list: &List<Item>, count: &mut u64) -> Result<(), Memory>
+    ensures { OnOk result (count.new ≡ count.old + total goto_of (trees_of list.now)) }
+{
+    add_items(list.as_slice(), count)
+}
+
+#[cycle(counting)]
+fn add_items(items: &[Item], count: &mut u64) -> Result<(), Memory>
+    ensures { OnOk result (count.new ≡ count.old + total goto_of (trees_of items.now)) }
+{
+    for i in 0..items.len() {
+        add_item(&items[i], count)?;
+    }
+    Ok(())
+}
+
+#[cycle(counting)]
+fn add_item(item: &Item, count: &mut u64) -> Result<(), Memory>
+    ensures { OnOk result (count.new ≡ count.old + total_of goto_of (tree_at item.now)) }
+{
+    match item {
+        Item::If(_, a, b) => {
+            add_list(a, count)?;
+            add_list(b, count)
+        }
+        Item::While(_, a) => add_list(a, count),
+        Item::Do(a, _) => add_list(a, count),
+        Item::For(first, _, _, a) => {
+            add_list(first, count)?;
+            add_list(a, count)
+        }
+        Item::Block(a) => add_list(a, count),
+        Item::Switch(_, sections) => add_sections(sections.as_slice(), count),
+        Item::Goto(_) => add_one(count),
+        _ => Ok(()),
+    }
+}
+
+#[cycle(counting)]
+fn add_sections(sections: &[Section], count: &mut u64) -> Result<(), Memory>
+    ensures { OnOk result (count.new ≡ count.old + total_in goto_of (sections_of sections.now)) }
+{
+    for i in 0..sections.len() {
+        add_list(&sections[i].list, count)?;
+    }
+    Ok(())
+}
+
+/// How many gotos a body has. Want of memory is the only failure: more than `u64` holds count as that.
+pub fn gotos_in(list: &List<Item>) -> Result<u64, Memory>
+    ensures { IfOk result (λ it. it ≡ total goto_of (trees_of list.now)) }
+{
+    let mut count = 0;
+    add_list(list, &mut count)?;
+    Ok(count)
+}
+
+/// So many labels without names.
+fn unnamed(alloc: Global, count: usize) -> Result<List<Name>, Memory>
+    ensures { IfOk result (λ it. length it ≡ count) }
+{
+    let mut out = List::new(alloc);
+    for _i in 0..count {
+        out.push(Name::from_string(String::new(alloc)))?;
+    }
+    Ok(out)
+}
+
+/// A function without variables, and with so many labels.
+fn frame(alloc: Global, labels: usize) -> Result<Function, Memory>
+    ensures slots { IfOk result (λ it. it.slots ≡ []) }
+    ensures labels { IfOk result (λ it. length it.labels ≡ labels) }
+{
+    Ok(Function {
+        name: Name::from_string(String::new(alloc)),
+        result: None,
+        file_only: false,
+        params: 0,
+        slots: List::new(alloc),
+        labels: unnamed(alloc, labels)?,
+        body: None,
+        flat: false,
+    })
+}
+
+/// How many gotos and labels the flat form of a body has that holds no stray case label.
+fn bound_counts(alloc: Global, body: &List<Item>) -> Result<Option<(u64, u64)>, Memory>
+    ensures { IfOk result (λ it. it ≡ the_bound_counts (trees_of body.now)) }
+{
+    if has_jumps(body) {
+        let sources = labels_in(alloc, body)?.len();
+        let frame = frame(alloc, sources)?;
+        let flat = flat_body(alloc, &frame, body)?;
+        let gotos = gotos_in(&flat.items)?;
+        let labels = label_count(alloc, sources, flat.codes.as_slice())?;
+        Ok(Some((gotos, labels)))
+    } else {
+        Ok(None)
+    }
+}
+
+/// How many gotos and how many labels the flat form of a function with this body has, whatever its
+/// variables and labels are; `None` where it has no jumps. A label that stands twice counts once, and
+/// a case label outside of any switch for nothing. Want of memory is the only failure. The flat form
+/// is made to be counted, so it takes the time and the memory of that.
+pub fn flat_counts(alloc: Global, body: &List<Item>) -> Result<Option<(u64, u64)>, Memory>
+    ensures { IfOk result (λ it. it ≡ the_flat_counts (trees_of body.now)) }
+{
+    if has_arrival(body) {
+        let bound = without_strays(alloc, body)?;
+        bound_counts(alloc, &bound)
+    } else {
+        bound_counts(alloc, body)
+    }
+}

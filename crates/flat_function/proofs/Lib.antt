@@ -1,0 +1,5 @@
+pub mod Forms
+pub mod FreshNames
+pub mod OwnNames
+pub mod NamedOwn
+pub mod Exchanged

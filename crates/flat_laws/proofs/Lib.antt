@@ -1,0 +1,25 @@
+mod Tried
+pub mod LooserItems
+pub mod Derived
+pub mod Flattened
+pub mod Counts
+pub mod Ranges
+pub mod Once
+pub mod Unlabelled
+pub mod FlatInstance
+pub mod ExitsLeft
+pub mod LiveGotos
+pub mod Hopless
+pub mod Converting
+pub mod Arrived
+pub mod Made
+pub mod Stand
+pub mod WellMade
+pub mod Relabelled
+pub mod Numbered
+pub mod SlotsKept
+pub mod FlatWellMadeInstance
+pub mod NoLabels
+pub mod Sourced
+pub mod Unscattered
+pub mod SameCounts

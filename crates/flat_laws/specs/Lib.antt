@@ -1,0 +1,7 @@
+pub mod Parts
+pub mod FlatForm
+pub mod Source
+pub mod Unlabelled
+pub mod FlatLaws
+pub mod FlatMade
+pub mod FlatWellMadeLaws

@@ -1,7 +1,0 @@
-use Rattle.std.proofs.Common.{◌≡◌, drop}
-use Rattle.c_tree.specs.Trees.{Sections, sections_of}
-use Rattle.flat_core.specs.Parts.{is_scattered}
-use Rattle.flat_parts.proofs.arrivals.is_scattered.Given as goal
-
-abbrev pub invariant-loop-i : goal.invariant-loop-i
-invariant-loop-i l = (λ (d : Sections). is_scattered d) (sections_of l.sections) ≡ (λ (d : Sections). is_scattered d) (sections_of (drop l.i l.sections))

@@ -1,5 +1,0 @@
-use Rattle.fresh_names.specs.Runs.{AreRuns}
-use Rattle.fresh_names.proofs.file_names.runs.Given as goal
-
-abbrev pub invariant-loop-i : goal.invariant-loop-i
-invariant-loop-i l = AreRuns l.names l.runs

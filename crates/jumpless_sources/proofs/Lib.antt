@@ -1,4 +1,0 @@
-pub mod Still
-pub mod Sections
-pub mod Statements
-pub mod Files

@@ -1,9 +1,0 @@
-pub mod Bodies
-pub mod OneBody
-pub mod Tops
-pub mod ByRules
-pub mod Joined
-pub mod Replays
-pub mod FirstPlaces
-pub mod Rewriting
-pub mod Whole

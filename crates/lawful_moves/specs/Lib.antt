@@ -1,3 +1,0 @@
-pub mod Lawful
-pub mod Replayed
-pub mod Laws

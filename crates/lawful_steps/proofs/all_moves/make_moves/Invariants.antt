@@ -1,8 +1,0 @@
-use Rattle.std.proofs.Common.{All, take}
-use Rattle.lawful_moves.specs.Lawful.{Moves}
-use Rattle.lawful_moves.specs.Replayed.{IsTopWellMade}
-use Rattle.function_places.specs.Places.{Finds}
-use Rattle.lawful_steps.proofs.all_moves.make_moves.Given as goal
-
-abbrev pub invariant-loop-i : goal.invariant-loop-i
-invariant-loop-i l = Moves l.initial.tops (take l.i l.moves) l.tops × All IsTopWellMade l.tops × Finds l.places l.tops

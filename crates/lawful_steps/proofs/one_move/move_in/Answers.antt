@@ -1,7 +1,0 @@
-use Rattle.std.proofs.lemmas.Result.{IfOk-weaker}
-use Rattle.lawful_steps.proofs.Leaping.{no_simplification}
-use Rattle.lawful_steps.proofs.one_move.move_in.Goals as goal
-
-pub returns-else-branch-clause-no : goal.returns-else-branch-clause-no
-returns-else-branch-clause-no c =
-    IfOk-weaker c.apply_one.result _ _ (λ b h e g k. no_simplification c.args.step.now c.args.function.now (c.in_ok-has_leap_left.ensures.no c.if-branch.false) (h e) g k) c.apply_one.ensures.no

@@ -1,8 +1,0 @@
-//! The words of commands, and texts that are written in pieces, on worked examples. This crate holds tests alone, so that
-//! what they call is not proved twice for them.
-#![tactic(auto)]
-
-#[cfg(test)]
-mod pieces;
-#[cfg(test)]
-mod words;

@@ -1,0 +1,5 @@
+pub mod Expressions
+pub mod LoweredBehavesLaws
+pub mod Modest
+pub mod LoweredResolvedLaws
+pub mod LoweredRereadLaws

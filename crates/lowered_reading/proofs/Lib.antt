@@ -1,3 +1,0 @@
-pub mod Unmeasured
-pub mod OneLowering
-pub mod TheLaws

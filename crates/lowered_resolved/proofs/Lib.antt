@@ -1,9 +1,0 @@
-pub mod FreshOnes
-pub mod OwnNames
-pub mod LoweredForm
-pub mod LoweredBound
-pub mod SourcePrints
-pub mod LoweredSpelled
-pub mod LoweredFunctions
-pub mod LoweredFile
-pub mod LoweredText

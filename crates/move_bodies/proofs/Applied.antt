@@ -1,0 +1,78 @@
+-- What the four calls want of the Leap that a rule applies to, and what they make of it.
+use Rattle.std.proofs.Common.{◌≡◌, ℕ, List, Option, Some, None, option_and_then, refl, sym, ap, subst, ◌∙◌}
+use Rattle.c_tree.specs.declared.tree.Item.{Item, Leap}
+use Rattle.c_tree.specs.declared.tree.Path.{Path}
+use Rattle.c_tree.specs.declared.tree.Step.{Step}
+use Rattle.c_tree.specs.Paths.{item_at}
+use Rattle.c_tree.specs.Join.{Holds}
+use Rattle.c_tree.specs.Trees.{trees_of}
+use Rattle.c_tree.specs.WellMade.{IsWellMade}
+use Rattle.c_tree.proofs.MoveLemmas.{some_same}
+use Rattle.label_offsets.specs.declared.places.Rule.TheVariants.{InwardOf, LiftOf}
+use Rattle.label_offsets.specs.Choice.{IsRuleAt}
+use Rattle.label_offsets.specs.Marks.{leap_label, label_at}
+use Rattle.label_offsets.proofs.HeldLaws.{leap_label-Leap, leap-is}
+use Rattle.sibling_elim.specs.Sibling as S
+use Rattle.goto_lifting.specs.Lifting as L
+use Rattle.goto_lifting.specs.Lifting.{IsHeldBefore}
+use Rattle.outward_moves.specs.Leaving.{IsMovedOut}
+use Rattle.inward_moves.specs.Entering.{LeadsTo, IsHeldAfter, IsMovedIn}
+use Rattle.report_moves.specs.declared.moves.MoveKind.TheVariants.{Out, Lift, Inward, Join}
+use Rattle.move_order_laws.specs.Next.{GoesOut, IsLifted, GoesIn, IsJoined}
+use Rattle.move_bodies.specs.Moving.{IsMove}
+
+-- what they want
+
+pub held_before : (body : List Item) (at : Path) → IsRuleAt LiftOf body at → IsHeldBefore body at
+held_before body at r = let a = r.applies in record { label = r.label; place = a.place; applies = a.applies }
+
+pub held_after : (body : List Item) (at : Path) → IsWellMade (trees_of body) → IsRuleAt InwardOf body at → IsHeldAfter body at
+held_after body at w r =
+    let a = r.applies in
+    record {
+      label = r.label;
+      place = a.place;
+      branch = a.branch;
+      well_made = w;
+      leap = r.leap;
+      later = a.later;
+      leads = subst (Holds (LeadsTo r.label a.branch)) (sym a.there) (record { construct = a.construct; held = a.held });
+    }
+
+-- the label of the Leap at the path is that of the rule
+
+pub same_label : (body : List Item) (at : Path) (l m : ℕ) → label_at body at ≡ Some l → item_at body at.steps at.item ≡ Some (Leap m) → m ≡ l
+same_label body at l m e f = some_same (sym (leap_label-Leap m) ∙ sym (ap (option_and_then leap_label) f) ∙ e)
+
+pub leap_at : (body : List Item) (at : Path) (l : ℕ) → label_at body at ≡ Some l → item_at body at.steps at.item ≡ Some (Leap l)
+leap_at body at l e = by_item (item_at body at.steps at.item) e where
+  by_item : (o : Option Item) → option_and_then leap_label o ≡ Some l → o ≡ Some (Leap l)
+  by_item None f = cc
+  by_item (Some x) f = ap (λ z. Some z) (leap-is l x f)
+
+pub label_there : (body : List Item) (at : Path) (l : ℕ) → item_at body at.steps at.item ≡ Some (Leap l) → label_at body at ≡ Some l
+label_there body at l e = ap (option_and_then leap_label) e ∙ leap_label-Leap l
+
+-- what they make
+
+module _ (body new : List Item) (at : Path) (l : ℕ) (e : label_at body at ≡ Some l) where
+  pub joined : S.IsJoined at body new → IsMove l at Join None body new
+  joined h =
+      let s = same_label body at l h.label e h.joins.applies.leap in
+      record { moves = (refl, subst (λ m. IsJoined m (record { body = body; at = at }) new) s (record { place = h.place; moves = h.joins })) }
+
+  pub lifted : (to : Path) → L.IsLifted at body new to → IsMove l at Lift (Some to) body new
+  lifted to h =
+      let s = same_label body at l h.label e h.lifts.applies.leap in
+      record { moves = subst (λ m. IsLifted m (record { body = body; at = at }) (record { body = new; at = to })) s (record { place = h.place; moves = h.lifts }) }
+
+  pub moved_in : (to : Path) → IsMovedIn at body new to → IsMove l at Inward (Some to) body new
+  moved_in to h =
+      let s = same_label body at l h.label e h.moves.applies.leap in
+      record { moves = subst (λ m. GoesIn m (record { body = body; at = at }) (record { body = new; at = to })) s (record { number = h.number; place = h.place; branch = h.branch; moves = h.moves }) }
+
+  pub moved_out : (to : Path) → IsMovedOut at body new to → IsMove l at Out (Some to) body new
+  moved_out to h =
+      let leap = ap (λ (z : List Step). item_at body z at.item) h.steps ∙ h.moves.applies.leap in
+      let s = same_label body at l h.label e leap in
+      record { moves = subst (λ m. GoesOut m (record { body = body; at = at }) (record { body = new; at = to })) s (record { outer = h.outer; last = h.last; steps = h.steps; moves = h.moves }) }

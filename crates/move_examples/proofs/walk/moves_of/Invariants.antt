@@ -1,6 +1,0 @@
-use Rattle.c_tree.specs.Trees.{trees_of}
-use Rattle.c_tree.specs.WellMade.{IsWellMade}
-use Rattle.move_examples.proofs.walk.moves_of.Given as goal
-
-abbrev pub invariant-loop : goal.invariant-loop
-invariant-loop l = IsWellMade (trees_of l.body)

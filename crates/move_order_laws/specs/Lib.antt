@@ -1,0 +1,15 @@
+pub mod Levels
+pub mod Leaps
+pub mod Next
+pub mod Nesting
+pub mod Derivations
+pub mod MoveOrderLaws
+pub mod Naming
+pub mod MoveOrderCounts
+pub mod MoveBodyLaws
+pub mod Skeletons
+pub mod MoveSkeletonLaws
+pub mod ConvertLaws
+pub mod Moved
+pub mod MoveFunctionCounts
+pub mod MoveFunctionLaws

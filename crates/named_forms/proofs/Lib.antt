@@ -1,4 +1,0 @@
-pub mod Forms
-pub mod FreshNames
-pub mod OwnNames
-pub mod NamedOwn

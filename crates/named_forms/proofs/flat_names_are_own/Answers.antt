@@ -1,5 +1,0 @@
-use Rattle.named_forms.proofs.NamedOwn.{flat_names_own}
-use Rattle.named_forms.proofs.flat_names_are_own.Goals as goal
-
-pub returns : goal.returns
-returns c = flat_names_own

@@ -1,5 +1,0 @@
-mod Lists
-mod Flat
-mod Skeletons
-mod Plain
-pub mod Programs

@@ -1,4 +1,0 @@
-pub mod Items
-mod Flat
-mod Simple
-pub mod Programs

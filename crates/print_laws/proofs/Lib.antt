@@ -1,0 +1,22 @@
+pub mod Levels
+pub mod Costs
+pub mod ExpressionFits
+pub mod Neighbours
+pub mod Parts
+pub mod Numbers
+pub mod ExpressionReads
+pub mod StatementFits
+pub mod DeclarationReads
+pub mod Relexed
+pub mod Tokens
+pub mod Places
+pub mod Standings
+pub mod StatementCosts
+pub mod FileFits
+pub mod StatementReads
+pub mod SectionReads
+pub mod ItemReads
+pub mod FileReads
+pub mod ReadBack
+mod Tried
+pub mod Parsing

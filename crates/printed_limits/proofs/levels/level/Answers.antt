@@ -1,6 +1,0 @@
-use Rattle.std.proofs.Common.{sym, ◌∙◌}
-use Rattle.printed_limits.proofs.Layers.{level-is}
-use Rattle.printed_limits.proofs.levels.level.Goals as goal
-
-pub returns : goal.returns
-returns c = c.node_level.ensures ∙ sym (level-is c.args.e.now)

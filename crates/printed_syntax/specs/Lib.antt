@@ -1,7 +1,0 @@
-pub mod Reread
-pub mod ExpressionDerivations
-pub mod StatementDerivations
-pub mod FileDerivations
-pub mod Standing
-pub mod Notes
-pub mod Laws

@@ -1,8 +1,0 @@
-//! Replays of reports on worked examples. This crate holds tests alone, so that what they call is not proved
-//! twice for them.
-#![tactic(auto)]
-
-#[cfg(test)]
-mod replays;
-#[cfg(test)]
-mod texts;

@@ -1,0 +1,15 @@
+pub mod Bodies
+pub mod OneBody
+pub mod Tops
+pub mod ByRules
+pub mod Joined
+pub mod Replays
+pub mod FirstPlaces
+pub mod Rewriting
+pub mod Whole
+pub mod Later
+pub mod PlainForms
+pub mod NamedTops
+pub mod ChoiceLabels
+pub mod MoveNames
+pub mod Laws

@@ -1,0 +1,4 @@
+pub mod Lawful
+pub mod Replayed
+pub mod ReplayMovesLaws
+pub mod ReplayLaws

@@ -1,0 +1,4 @@
+pub mod Notes
+pub mod Limits
+pub mod RereadProgramLaws
+pub mod RereadTextLaws

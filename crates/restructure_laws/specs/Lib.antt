@@ -1,0 +1,11 @@
+pub mod EachPlace
+pub mod Skeletons
+pub mod Guards
+pub mod Jumps
+pub mod Sizes
+pub mod WholeBoundsLaws
+pub mod RereadPlainLaws
+pub mod Flattened
+pub mod WholeNamesLaws
+pub mod WholeUniqueLaws
+pub mod WholeIdempotentLaws

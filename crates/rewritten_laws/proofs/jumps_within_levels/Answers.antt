@@ -1,5 +1,0 @@
-use Rattle.rewritten_laws.proofs.Levels.{jumps_are_within_levels}
-use Rattle.rewritten_laws.proofs.jumps_within_levels.Goals as goal
-
-pub returns : goal.returns
-returns c = jumps_are_within_levels

@@ -1,5 +1,0 @@
-use Rattle.rewritten_laws.proofs.Sizes.{sizes_are_bounded}
-use Rattle.rewritten_laws.proofs.sizes_bounded.Goals as goal
-
-pub returns : goal.returns
-returns c = sizes_are_bounded

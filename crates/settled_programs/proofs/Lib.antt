@@ -1,3 +1,0 @@
-mod Bodies
-mod Functions
-pub mod Programs

@@ -1,4 +1,0 @@
-pub mod Simpler
-pub mod Numbers
-pub mod Kept
-pub mod ProgramsSimplified

@@ -1,2 +1,0 @@
-pub mod Simplifications
-pub mod Laws

@@ -1,4 +1,0 @@
-pub mod Numbers
-pub mod Lists
-pub mod Reach
-mod Tried

@@ -1,4 +1,0 @@
-pub mod Mentions
-pub mod Renumbered
-pub mod Changes
-pub mod Laws

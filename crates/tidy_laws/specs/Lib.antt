@@ -1,0 +1,16 @@
+pub mod Likeness
+pub mod Tails
+pub mod Steps
+pub mod TidyExitLaws
+pub mod Mentions
+pub mod Renumbered
+pub mod Changes
+pub mod TidyChangesLaws
+pub mod Settles
+pub mod Settled
+pub mod TidyZeroLaws
+pub mod TidyBehaviourLaws
+pub mod Ends
+pub mod Renamed
+pub mod Gone
+pub mod TidyNumberingLaws

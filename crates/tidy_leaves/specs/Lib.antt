@@ -1,4 +1,0 @@
-pub mod Likeness
-pub mod Tails
-pub mod Steps
-pub mod Laws

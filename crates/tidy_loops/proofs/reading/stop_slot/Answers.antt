@@ -1,0 +1,11 @@
+use Rattle.std.proofs.Common.{sym, ap, ◌∙◌}
+use Rattle.c_tree.specs.TestTrees.{Source}
+use Rattle.tidy_tails.specs.Views.{test_at}
+use Rattle.tidy_tails.proofs.FormLaws.{expression_same}
+use Rattle.tidy_loops.specs.Slots.{stop_slot}
+use Rattle.tidy_loops.proofs.Read.{at_source}
+use Rattle.tidy_loops.proofs.reading.stop_slot.Goals as goal
+
+pub returns-in-Source : goal.returns-in-Source
+returns-in-Source c =
+    c.stop_slot_of.ensures ∙ ap (λ z. stop_slot (Source z)) (sym (expression_same c.in-Source.e)) ∙ sym (ap stop_slot (ap test_at c.in-Source.is ∙ at_source c.in-Source.e))

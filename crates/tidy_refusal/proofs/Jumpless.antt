@@ -1,0 +1,43 @@
+-- The program of a text without jumps.
+use Rattle.std.proofs.Common.{◌≡◌, ℕ, List, Option, Some, None, option_map, All, inl, inr, refl, sym, ap, subst, ◌∙◌}
+use Rattle.c_types.specs.declared.refusal.Refusal.{Refusal}
+use Rattle.c_lexer.specs.Faults.{refusal_of}
+use Rattle.c_lexer.specs.Pieces.{tokens_of, comments_of}
+use Rattle.c_lexer.proofs.Theorem.{scan_read_back}
+use Rattle.c_grammar.specs.TokenClasses.{offset_of}
+use Rattle.c_parser.proofs.Reading.{parses}
+use Rattle.c_layers.specs.Words.{word_of}
+use Rattle.c_layers.specs.Parts.{file_of}
+use Rattle.c_tree.specs.declared.tree.Program.{Program}
+use Rattle.c_scopes.specs.Files.{start}
+use Rattle.c_scopes.specs.Resolving.{file_at}
+use Rattle.tidy_refusal.specs.CFirstJumpJumps.{first_jump}
+use Rattle.tidy_refusal.specs.CJumplessLaws.{TopLacksJumps}
+use Rattle.tidy_refusal.proofs.Files.{jumpless_sources}
+use Rattle.c_text.specs.Reading.{counts_of, IsProgramOf}
+use Rattle.c_text.proofs.Readings.{faultless, same_program}
+use Rattle.tidy_refusal.specs.TidyRefusalJumps.{jump_of_tokens, jump_of_syntax, text_jump, IsRefusedForJumps, IsWithoutJumps}
+use Rattle.tidy_refusal.specs.TidyRefusalLaws.{TextJumpLaws}
+
+none_before : {A B : Type 0} (f : A → B) (o : Option A) → option_map f o ≡ None → o ≡ None
+none_before f None e = refl
+none_before f (Some x) e = cc
+
+-- no function of it has jumps
+pub lacks_jumps : (t : List ℕ) (p : Program) → IsProgramOf t p → text_jump t ≡ None → All TopLacksJumps p.tops
+lacks_jumps t p h e =
+    let tokens = tokens_of h.pieces in
+    let xs = file_of (word_of t tokens) h.syntax_of in
+    let found = sym (ap (jump_of_tokens t) (scan_read_back t h.pieces h.spells) ∙ ap (jump_of_syntax t tokens) (parses t tokens h.syntax_of h.derives)) ∙ e in
+    let none : first_jump xs ≡ None = none_before (λ at. refusal_of 60 t (offset_of t tokens at)) (first_jump xs) found in
+    subst (λ (z : Program). All TopLacksJumps z.tops) (same_program t h.pieces xs ∙ sym h.is) (jumpless_sources (file_at counts_of t tokens (comments_of h.pieces) xs) xs start none)
+
+none_is_some : (o : Option Refusal) (refusal : Refusal) → o ≡ None → o ≡ Some refusal → ⊥
+none_is_some o refusal e f = cc
+
+pub apart : (t : List ℕ) (refusal : Refusal) → IsWithoutJumps t → IsRefusedForJumps t refusal → ⊥
+apart t refusal w (inl r) = faultless t refusal r w.0
+apart t refusal w (inr r) = none_is_some (text_jump t) refusal w.1 r.1
+
+pub text_jump_laws : TextJumpLaws
+text_jump_laws = record { functions = lacks_jumps; apart = apart }

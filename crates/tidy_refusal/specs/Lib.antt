@@ -1,0 +1,4 @@
+pub mod CFirstJumpJumps
+pub mod CJumplessLaws
+pub mod TidyRefusalJumps
+pub mod TidyRefusalLaws

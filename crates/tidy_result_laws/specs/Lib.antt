@@ -1,0 +1,2 @@
+pub mod TidyResolvedLaws
+pub mod TidyRereadLaws

@@ -1,0 +1,28 @@
+//! What a change makes of the body of a resolved function.
+//!
+//! No code runs: proofs/ has lemmas alone, which the laws above cite.
+//!
+//! What is made of a resolved program without jumps by turning its guards back into `break` and `continue` is resolved.
+//!
+//! Reading back: what the printed text of the end of a program is read as, and that a program has one end.
+#![tactic(auto)]
+
+ghost use Rattle.tidy_result_laws.specs.TidyResolvedLaws.{EndLaws};
+ghost use Rattle.tidy_result_laws.specs.TidyRereadLaws.{EndsReadBack, OneEnd};
+
+/// A resolved program without jumps has a resolved end, which behaves as it does.
+#[tactic(auto, using(crate::proofs::TheLaws::end_law))]
+pub fn end_laws()
+    ensures { EndLaws }
+{}
+
+/// The end of a resolved program without jumps, whose guards were turned back into `break` and `continue`, is resolved,
+/// its printed text reads as it, and its runs by structure are the runs of the program.
+pub fn ends_read_back()
+    ensures { EndsReadBack }
+{}
+
+/// A program has one such end, after one number of changes.
+pub fn one_end()
+    ensures { OneEnd }
+{}

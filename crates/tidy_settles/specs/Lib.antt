@@ -1,3 +1,0 @@
-pub mod Settles
-pub mod Settled
-pub mod Laws

@@ -1,0 +1,29 @@
+//! Kinds that agree stay so through the conversion and each change of one body of a program.
+//!
+//! The definitions stand in specs/. The function here runs no code: its contract is the law.
+//!
+//! The whole of a rewriting: the flat forms, conversions, moves and simplifications of all functions of a
+//! program, and that the plain form of what they reach behaves as the program does.
+//!
+//! The Notes of a program, in text order: the rewriting keeps them.
+#![tactic(auto)]
+
+ghost use Rattle.whole_laws.specs.WholeKindsLaws.{KindLaws};
+ghost use Rattle.whole_laws.specs.WholeLaws.{WholeLaws};
+ghost use Rattle.whole_laws.specs.WholeCommentsLaws.{NotesLaws};
+
+/// A program whose kinds agree is one whose kinds agree after each change.
+pub fn kind_laws()
+    ensures { KindLaws }
+{}
+
+/// What a resolved program is rewritten to is steady, and its plain form behaves as the program does.
+pub fn whole_laws()
+    ensures { WholeLaws }
+{}
+
+/// The plain form of what a program is rewritten to has the Notes of the program, in their order: flat forms keep them,
+/// and so do conversions, moves and simplifications, and the plain form of any function.
+pub fn notes_laws()
+    ensures { NotesLaws }
+{}
