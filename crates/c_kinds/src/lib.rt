@@ -17,7 +17,7 @@ mod values;
 pub use binding::{Binding, Shape, Signature, Want};
 pub use faults::{report, report_if, same_kind, same_truth};
 pub use names::{Known, name_of};
-pub use scopes::{Scope, Scopes};
+pub use scopes::Scopes;
 pub use typed::{ArrayName, Fault, Given, Target, Typed, Valued, Variable};
 pub use typing::{constant_expression, dropped_value, typed_of, used_value};
 pub use values::{expression, expression_of, value_of};

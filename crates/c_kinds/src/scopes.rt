@@ -1,11 +1,16 @@
-//! The scopes around a place, by maps.
+//! The scopes around a place, by a log of what was entered and bound.
 
-ghost use Rattle.std.specs.Prelude.{◌≡◌, [], ◌∷◌, cond, drop, false, is_some, reverse, IfOk, OnOk};
+ghost use Rattle.std.specs.Prelude.{◌≡◌, [], ◌∷◌, cond, drop, false, is_some, reverse, IfOk, OnOk, IsSome};
+ghost use Rattle.std.specs.Map.{count_at};
+ghost use Rattle.std.specs.BTreeMap.{get, Updates};
 ghost use Rattle.std.specs.Option.{option_copied};
+ghost use Rattle.c_types.specs.Words.{name_cmp};
 ghost use Rattle.c_kinds.specs.Scopes as spec;
+ghost use Rattle.c_kinds.specs.ScopeLogs as logs;
 
 use crate::binding::{Binding, Signature, Want};
 use c_types::{IntKind, List, Memory};
+use name_keys::{Key, key_of};
 use std::alloc::Global;
 use std::collections::BTreeMap;
 use std::marker::Model;
@@ -24,168 +29,181 @@ fn takes(alloc: Global, kind: Option<IntKind>, number: bool) -> Result<Binding, 
     }))
 }
 
-/// The names of a scope, which contracts see in byte order with what they are bound to.
+/// A step of the log, with the number of the one that it takes the place of, or 0.
 #[derive(Drop)]
-pub struct Scope<'a> {
-    names: BTreeMap<&'a [u8], Binding>,
+enum Step<'a> {
+    /// A scope was entered.
+    Enter(usize),
+    /// A name was bound in the nearest scope.
+    Bind(Key<'a>, usize, Binding),
 }
 
-impl<'a> Model for Scope<'a> {
-    ghost use Rattle.std.specs.Prelude.{List, ℕ, map};
-    ghost use Rattle.c_kinds.specs.declared.binding.Binding.{Binding};
-
-    ghost Value = { List (List ℕ × Binding) };
-
-    ghost view = { λ it. map (λ e. (e.0.now, e.1)) it.names.entries };
-}
-
-impl<'a> Scope<'a> {
-    /// No names.
-    pub fn new(alloc: Global) -> Scope<'a>
-        ensures { result ≡ [] }
-    {
-        Scope {
-            names: BTreeMap::new(alloc),
-        }
-    }
-
-    /// The known functions.
-    pub fn known(alloc: Global) -> Result<Scope<'a>, Memory>
-        ensures { IfOk result (λ it. it ≡ spec.known_scope) }
-    {
-        let mut scope = Scope::new(alloc);
-        scope.insert(b"abort", takes(alloc, None, false)?)?;
-        scope.insert(b"exit", takes(alloc, None, true)?)?;
-        scope.insert(b"getchar", takes(alloc, Some(IntKind::Int), false)?)?;
-        scope.insert(b"printf", Binding::Printf)?;
-        scope.insert(b"putchar", takes(alloc, Some(IntKind::Int), true)?)?;
-        Ok(scope)
-    }
-
-    /// Binds a name.
-    #[tactic(auto, using(crate::proofs::Lookups::with_entry_in))]
-    pub fn insert(&mut self, name: &'a [u8], binding: Binding) -> Result<(), Memory>
-        ensures { OnOk result (self.new ≡ spec.with_entry name.now binding self.old) }
-    {
-        self.names.insert(name, binding)?;
-        Ok(())
-    }
-
-    /// Binds a name that the scope doesn't have.
-    pub fn bind(&mut self, name: &'a [u8], binding: Binding) -> Result<(), Memory>
-        ensures { OnOk result (self.new ≡ spec.with_name name.now binding self.old) }
-    {
-        if self.has(name) {
-            return Ok(());
-        }
-        self.insert(name, binding)
-    }
-
-    /// Whether the scope has the name.
-    pub fn has(&self, name: &[u8]) -> bool
-        ensures { result ≡ is_some (spec.found name.now self.now) }
-    {
-        self.get(name).is_some()
-    }
-
-    /// What the name is bound to.
-    #[tactic(auto, using(crate::proofs::Lookups::found_in))]
-    pub fn get(&self, name: &[u8]) -> Option<&Binding>
-        ensures { option_copied result ≡ spec.found name.now self.now }
-    {
-        self.names.get(name)
-    }
-}
-
-/// What the name is bound to in the last scope that has it.
-#[tactic(auto, using(crate::proofs::Lookups::nearest_first))]
-fn nearest<'s>(scopes: &'s [Scope], name: &[u8]) -> Option<&'s Binding>
-    ensures { option_copied result ≡ spec.look_up (reverse scopes.now) name.now }
+/// The number of the last step that bound the name, or 0.
+fn number_of<'a>(numbers: &BTreeMap<Key<'a>, usize>, name: &'a [u8]) -> usize
+    ensures { result ≡ count_at (get name_cmp numbers.now) name.now }
 {
-    let Some((last, others)) = scopes.split_last() else {
-        return None;
-    };
-    match last.get(name) {
-        Some(binding) => Some(binding),
-        None => nearest(others, name),
+    match numbers.get(&key_of(name)) {
+        Some(number) => *number,
+        None => 0,
     }
+}
+
+/// Gives a name that has a number another one. This takes no memory.
+fn set_number<'a>(numbers: &mut BTreeMap<Key<'a>, usize>, name: &Key<'a>, number: usize)
+    requires { IsSome (get name_cmp numbers.old name.now) }
+    ensures { Updates name_cmp numbers.old numbers.new name.now (Some number) }
+{
+    if let Some(old) = numbers.get_mut(name) {
+        *old = number;
+    }
+}
+
+fn bound_in<'s>(step: &'s Step) -> Option<&'s Binding>
+    ensures { option_copied result ≡ logs.bound_in step.now }
+{
+    match step {
+        Step::Enter(_) => None,
+        Step::Bind(_, _, binding) => Some(binding),
+    }
+}
+
+/// What the step with the number bound.
+#[tactic(auto, using(crate::proofs::ScopeLaws::bound_by_place))]
+fn bound_by<'s>(steps: &'s List<Step>, number: usize) -> Option<&'s Binding>
+    ensures { option_copied result ≡ logs.bound_by number (reverse steps.now) }
+{
+    if number == 0 {
+        return None;
+    }
+    match steps.get(number - 1) {
+        Some(step) => bound_in(step),
+        None => None,
+    }
+}
+
+/// Takes back what the nearest scope bound, and the scope. The result is the number of the step
+/// that entered the one around it.
+fn take_back<'a>(steps: &mut List<Step<'a>>, numbers: &mut BTreeMap<Key<'a>, usize>) -> usize
+    requires log { logs.IsLog (reverse steps.old) }
+    requires last { logs.HasLast numbers.old (reverse steps.old) }
+    ensures left { logs.scopes_after (reverse steps.new) ≡ drop 1 (logs.scopes_after (reverse steps.old)) }
+    ensures log { logs.IsLog (reverse steps.new) }
+    ensures last { logs.HasLast numbers.new (reverse steps.new) }
+    ensures entered { result ≡ logs.last_entered (reverse steps.new) }
+{
+    while let Some(step) = steps.pop() {
+        match step {
+            Step::Enter(outer) => return outer,
+            Step::Bind(name, before, _binding) => set_number(numbers, &name, before),
+        }
+    }
+    0
 }
 
 /// The scopes around a place, which contracts see with the nearest first.
 #[derive(Drop)]
 pub struct Scopes<'a> {
-    scopes: Vec<Scope<'a>>,
+    steps: List<Step<'a>>,
+    entered: usize,
+    numbers: BTreeMap<Key<'a>, usize>,
 }
 
 impl<'a> Model for Scopes<'a> {
-    ghost use Rattle.std.specs.Prelude.{List, ℕ, reverse};
+    ghost use Rattle.std.specs.Prelude.{◌≡◌, List, ℕ, reverse};
     ghost use Rattle.c_kinds.specs.declared.binding.Binding.{Binding};
 
     ghost Value = { List (List (List ℕ × Binding)) };
 
-    ghost view = { λ it. reverse it.scopes.items };
+    ghost use Rattle.c_kinds.specs.ScopeLogs.{scopes_after, last_entered, IsLog, HasLast};
+
+    ghost view = { λ it. scopes_after (reverse it.steps) };
+
+    ghost invariant = { λ it. IsLog (reverse it.steps) × (it.entered ≡ last_entered (reverse it.steps)) × HasLast it.numbers (reverse it.steps) };
 }
 
 impl<'a> Scopes<'a> {
+    /// No scopes.
+    fn new(alloc: Global) -> Scopes<'a>
+        ensures { result ≡ [] }
+    {
+        Scopes {
+            steps: List::new(alloc),
+            entered: 0,
+            numbers: BTreeMap::new(alloc),
+        }
+    }
+
     /// The scope around the file, which has the known functions.
-    #[tactic(auto, using(crate::proofs::Lookups::one_more))]
     pub fn known(alloc: Global) -> Result<Scopes<'a>, Memory>
         ensures { IfOk result (λ it. it ≡ spec.known_scope ∷ []) }
     {
-        let mut scopes = Vec::new(alloc);
-        scopes.push(Scope::known(alloc)?)?;
-        Ok(Scopes { scopes })
+        let mut scopes = Scopes::new(alloc);
+        scopes.enter(alloc)?;
+        scopes.bind(b"abort", takes(alloc, None, false)?)?;
+        scopes.bind(b"exit", takes(alloc, None, true)?)?;
+        scopes.bind(b"getchar", takes(alloc, Some(IntKind::Int), false)?)?;
+        scopes.bind(b"printf", Binding::Printf)?;
+        scopes.bind(b"putchar", takes(alloc, Some(IntKind::Int), true)?)?;
+        Ok(scopes)
     }
 
     /// Enters a scope without names.
-    #[tactic(auto, using(crate::proofs::Lookups::one_more))]
-    pub fn enter(&mut self, alloc: Global) -> Result<(), Memory>
+    pub fn enter(&mut self, _alloc: Global) -> Result<(), Memory>
         ensures { OnOk result (self.new ≡ [] ∷ self.old) }
     {
-        self.scopes.push(Scope::new(alloc))?;
+        self.steps.push(Step::Enter(self.entered))?;
+        self.entered = self.steps.len();
         Ok(())
     }
 
-    /// Leaves the nearest scope.
+    /// Leaves the nearest scope. This takes no memory.
     pub fn leave(&mut self)
         ensures { self.new ≡ drop 1 self.old }
     {
-        self.scopes.pop();
+        self.entered = take_back(&mut self.steps, &mut self.numbers);
     }
 
     /// Binds a name that the nearest scope doesn't have.
-    #[tactic(auto, using(crate::proofs::Lookups::bind_last))]
     pub fn bind(&mut self, name: &'a [u8], binding: Binding) -> Result<(), Memory>
         ensures { OnOk result (self.new ≡ spec.bind name.now binding self.old) }
     {
-        let Some(nearest) = self.scopes.last_mut() else {
+        let before = number_of(&self.numbers, name);
+        if self.entered == 0 || before > self.entered {
             return Ok(());
-        };
-        nearest.bind(name, binding)
+        }
+        self.steps.push(Step::Bind(key_of(name), before, binding))?;
+        if let Err(_) = self.numbers.insert(key_of(name), self.steps.len()) {
+            self.steps.pop();
+            return Err(Memory);
+        }
+        Ok(())
     }
 
     /// What the nearest scope has the name bound to.
-    #[tactic(auto, using(crate::proofs::Lookups::bound_last))]
-    pub fn bound(&self, name: &[u8]) -> Option<&Binding>
+    #[tactic(auto, using(crate::proofs::ScopeLaws::bound_is))]
+    pub fn bound(&self, name: &'a [u8]) -> Option<&Binding>
         ensures { option_copied result ≡ spec.bound name.now self.now }
     {
-        match self.scopes.last() {
-            Some(nearest) => nearest.get(name),
-            None => None,
+        let number = number_of(&self.numbers, name);
+        if number > self.entered {
+            bound_by(&self.steps, number)
+        } else {
+            None
         }
     }
 
     /// Whether the nearest scope has the name.
-    pub fn is_bound(&self, name: &[u8]) -> bool
+    pub fn is_bound(&self, name: &'a [u8]) -> bool
         ensures { result ≡ spec.is_bound name.now self.now }
     {
         self.bound(name).is_some()
     }
 
     /// What the name is bound to in the nearest scope that has it.
-    pub fn look_up(&self, name: &[u8]) -> Option<&Binding>
+    #[tactic(auto, using(crate::proofs::ScopeLaws::look_up_is))]
+    pub fn look_up(&self, name: &'a [u8]) -> Option<&Binding>
         ensures { option_copied result ≡ spec.look_up self.now name.now }
     {
-        nearest(self.scopes.as_slice(), name)
+        bound_by(&self.steps, number_of(&self.numbers, name))
     }
 }

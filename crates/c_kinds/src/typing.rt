@@ -25,8 +25,8 @@ use crate::values::{
     number_target, reading, unary, unused, used, writable,
 };
 use c_grammar::{Production, Syntax};
-use c_lexer::{Mark, mark_of};
 use c_layers::{Layer, first_token, kind_of, layer_of};
+use c_lexer::{Mark, mark_of};
 use c_tree::Expression;
 use c_types::{List, Memory, Stack};
 use std::alloc::Global;

@@ -9,8 +9,8 @@ ghost use Rattle.c_layers.specs.Views.{words_of};
 ghost use Rattle.c_statements.specs.Measures.{bounded};
 
 use c_grammar::{Production, Syntax};
-use c_lexer::{Mark, mark_of};
 use c_layers::Words;
+use c_lexer::{Mark, mark_of};
 use c_statements::greater;
 
 /// How many tokens of a node count, and the most that count in one full expression in it.

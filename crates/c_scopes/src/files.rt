@@ -133,7 +133,7 @@ fn declare<'n, 'a>(
     alloc: Global,
     file: &FileContext<'n, 'a>,
     state: &mut State<'a>,
-    before: &FunctionNames,
+    before: &FunctionNames<'a>,
     f: FunctionLayer,
 ) -> Result<(), Memory>
     ensures scopes { OnOk result (state.new.known.scopes ≡ (names.function_bound file.now.bodies.now (function_form (words_of file.now.outside.words) f.entry) (env file.now state.old)).scopes) }

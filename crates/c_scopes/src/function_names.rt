@@ -15,6 +15,7 @@ use c_grammar::Syntax;
 use c_kinds::{Binding, Fault, Known, Signature, report, report_if};
 use c_layers::{FunctionLayer, TopLayer, Words, block_layer, parameter_layer, top_layer};
 use c_types::{IntKind, Memory, Stack, is_known};
+use name_keys::{Key, key_of};
 use std::alloc::Global;
 use std::collections::BTreeSet;
 use std::marker::Model;
@@ -22,15 +23,15 @@ use std::marker::Model;
 /// Names of functions, which contracts see each once and in byte order.
 #[derive(Drop)]
 pub struct FunctionNames<'a> {
-    names: BTreeSet<&'a [u8]>,
+    names: BTreeSet<Key<'a>>,
 }
 
 impl<'a> Model for FunctionNames<'a> {
-    ghost use Rattle.std.specs.Prelude.{List, ℕ, map};
+    ghost use Rattle.std.specs.Prelude.{List, ℕ};
 
     ghost Value = { List (List ℕ) };
 
-    ghost view = { λ it. map (λ n. n.now) it.names.keys };
+    ghost view = { λ it. it.names.keys };
 }
 
 impl<'a> FunctionNames<'a> {
@@ -44,17 +45,17 @@ impl<'a> FunctionNames<'a> {
     }
 
     /// Whether a name is among them.
-    pub fn has(&self, name: &[u8]) -> bool
+    pub fn has(&self, name: &'a [u8]) -> bool
         ensures { result ≡ spec.has_function self.now name.now }
     {
-        self.names.contains(name)
+        self.names.contains(&key_of(name))
     }
 
     /// Puts a name among them.
     pub fn add(&mut self, name: &'a [u8]) -> Result<(), Memory>
         ensures { OnOk result (self.new ≡ spec.with_function name.now self.old) }
     {
-        self.names.insert(name)?;
+        self.names.insert(key_of(name))?;
         Ok(())
     }
 }
@@ -152,10 +153,10 @@ fn report_again(
 }
 
 /// Reports what is wrong with the name of a function.
-fn report_function_name(
+fn report_function_name<'a>(
     faults: &mut Stack<Fault>,
-    known: &Known,
-    before: &FunctionNames,
+    known: &Known<'a>,
+    before: &FunctionNames<'a>,
     f: FunctionLayer,
     signature: &Signature,
 ) -> Result<(), Memory>
@@ -170,10 +171,10 @@ fn report_function_name(
 }
 
 /// The signature of a function of a file with these bodies.
-fn signature_in(
+fn signature_in<'a>(
     alloc: Global,
-    words: &Words,
-    bodies: &FunctionNames,
+    words: &Words<'a>,
+    bodies: &FunctionNames<'a>,
     f: FunctionLayer,
 ) -> Result<Signature, Memory>
     ensures { IfOk result (λ s. s ≡ spec.signature_in bodies.now (words_of words.now) (function_form (words_of words.now) f.entry)) }
@@ -187,8 +188,8 @@ pub fn declare_function<'a>(
     alloc: Global,
     known: &mut Known<'a>,
     faults: &mut Stack<Fault>,
-    bodies: &FunctionNames,
-    before: &FunctionNames,
+    bodies: &FunctionNames<'a>,
+    before: &FunctionNames<'a>,
     f: FunctionLayer,
 ) -> Result<(), Memory>
     ensures words { OnOk result (known.new.words ≡ known.old.words) }

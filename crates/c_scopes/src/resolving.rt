@@ -17,13 +17,13 @@ use crate::function_names::{FunctionNames, bodies_of};
 use crate::functions::Outside;
 use crate::violations::{least, refused};
 use c_bodies::State;
+use c_comments::place_notes;
 use c_grammar::Syntax;
 use c_kinds::{Fault, Known, Scopes};
-use c_lexer::{Span, Token, comments};
 use c_layers::{Words, tops_of};
+use c_lexer::{Span, Token, comments};
 use c_tree::{Program, Top};
 use c_types::{List, Memory, ReadStop, Stack};
-use c_comments::place_notes;
 use std::alloc::Global;
 
 /// What stands at file scope, and the violations, the last first.

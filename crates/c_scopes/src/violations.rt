@@ -6,8 +6,8 @@ ghost use Rattle.c_lexer.specs.Pieces.{IsWithin};
 ghost use Rattle.c_scopes.specs.Resolving as spec;
 
 use c_kinds::Fault;
-use c_lexer::{Token, refusal_at};
 use c_layers::Words;
+use c_lexer::{Token, refusal_at};
 use c_types::{Refusal, Stack};
 
 fn is_before(a: Fault, b: Fault) -> bool

@@ -7,6 +7,7 @@ ghost use Rattle.c_statements.specs.Context as context;
 ghost use Rattle.c_statements.specs.Labels as spec;
 
 use c_types::Memory;
+use name_keys::{Key, key_of};
 use std::alloc::Global;
 use std::collections::BTreeMap;
 use std::marker::Model;
@@ -14,15 +15,15 @@ use std::marker::Model;
 /// Labels and their numbers, which contracts see in byte order.
 #[derive(Drop)]
 pub struct LabelNumbers<'a> {
-    numbers: BTreeMap<&'a [u8], u32>,
+    numbers: BTreeMap<Key<'a>, u32>,
 }
 
 impl<'a> Model for LabelNumbers<'a> {
-    ghost use Rattle.std.specs.Prelude.{List, ℕ, map};
+    ghost use Rattle.std.specs.Prelude.{List, ℕ};
 
     ghost Value = { List (List ℕ × ℕ) };
 
-    ghost view = { λ it. map (λ e. (e.0.now, e.1)) it.numbers.entries };
+    ghost view = { λ it. it.numbers.entries };
 }
 
 impl<'a> LabelNumbers<'a> {
@@ -37,24 +38,23 @@ impl<'a> LabelNumbers<'a> {
 
     /// The number of a label.
     #[tactic(auto, using(c_kinds::proofs::Lookups::found_in))]
-    pub fn get(&self, name: &[u8]) -> Option<&u32>
+    pub fn get(&self, name: &'a [u8]) -> Option<&u32>
         ensures { option_copied result ≡ found name.now self.now }
     {
-        self.numbers.get(name)
+        self.numbers.get(&key_of(name))
     }
 
     /// Whether there is a label with this name.
-    pub fn has(&self, name: &[u8]) -> bool
+    pub fn has(&self, name: &'a [u8]) -> bool
         ensures { result ≡ context.has_label self.now name.now }
     {
         self.get(name).is_some()
     }
 
-    #[tactic(auto, using(c_kinds::proofs::Lookups::with_entry_in))]
     fn insert(&mut self, name: &'a [u8], number: u32) -> Result<(), Memory>
         ensures { OnOk result (self.new ≡ with_entry name.now number self.old) }
     {
-        self.numbers.insert(name, number)?;
+        self.numbers.insert(key_of(name), number)?;
         Ok(())
     }
 
@@ -74,7 +74,7 @@ impl<'a> LabelNumbers<'a> {
 
     /// The number of a label, and behind all of them that of one that isn't there. More than 2^32 are
     /// refused as for want of memory.
-    pub fn number(&self, name: &[u8]) -> Result<u32, Memory>
+    pub fn number(&self, name: &'a [u8]) -> Result<u32, Memory>
         ensures { IfOk result (λ n. n ≡ context.number_in self.now name.now) }
     {
         if let Some(number) = self.get(name) {

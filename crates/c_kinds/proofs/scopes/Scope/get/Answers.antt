@@ -1,7 +1,0 @@
-use Rattle.std.proofs.Common.{ap, ◌∙◌}
-use Rattle.c_kinds.specs.Scopes.{found}
-use Rattle.c_kinds.proofs.Lookups.{found_in}
-use Rattle.c_kinds.proofs.scopes.Scope.get.Goals as goal
-
-pub returns : goal.returns
-returns c = c.get.ensures.value ∙ found_in c.args.name.now c.self.inside.names.entries ∙ ap (found c.args.name.now) c.self.view_is
