@@ -30,6 +30,11 @@ abbrev pub Lingers : List ℕ → Option (List ℕ) → Translation → Option F
 Lingers to None translation before after = after ≡ before
 Lingers to (Some report) translation before after = (after ≡ before) ⊎ (after ≡ holding to translation.text before)
 
+-- Why memory was refused, by the count of writes that were refused it: before the first write, or by a write. So where a file
+-- has changed, it was the write of the report that was refused memory.
+abbrev pub Wanted : Option Files → Option Files → ℕ → ℕ → Type 0
+Wanted before after wants wants' = ((after ≡ before) × (wants' ≡ wants)) ⊎ Rose wants wants'
+
 -- the text was written, and the report, and no other file changed
 pub record IsDone (said : List ℕ → Type 0) (to : List ℕ) (report : Option (List ℕ)) (before after : Option Files) (translation : Translation) : Type 0 where
   pub written : after ≡ written to report translation before

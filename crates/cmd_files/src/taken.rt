@@ -32,6 +32,7 @@ pub fn take_text<H: Shelf, E: Sink>(
     ensures once { IsOneRead (H.reads shelf.old) (H.reads shelf.new) }
     ensures grows { NotFewer (H.reads shelf.old) (H.reads shelf.new) }
     ensures writes { H.write_faults shelf.new ≡ H.write_faults shelf.old }
+    ensures wants { H.wants shelf.new ≡ H.wants shelf.old }
 {
     match shelf.read(alloc, from, most) {
         Ok(text) => Ok(text),

@@ -76,6 +76,7 @@ pub fn translated<T: Translator, H: Shelf, E: Sink>(
     ensures kept { H.held shelf.new ≡ H.held shelf.old }
     ensures grows { NotFewer (H.reads shelf.old) (H.reads shelf.new) }
     ensures writes { H.write_faults shelf.new ≡ H.write_faults shelf.old }
+    ensures wants { H.wants shelf.new ≡ H.wants shelf.old }
 {
     let text = take_text(alloc, from, MOST_BYTES, shelf, err)?;
     match translator.translate(alloc, text.as_slice()) {

@@ -2,7 +2,7 @@ ghost use Rattle.std.specs.Prelude.{◌≡◌, option_map, OnOk, Err};
 ghost use Rattle.rg_ports.specs.Count.{Rose};
 ghost use Rattle.cmd_words.specs.Lines.{Tells};
 ghost use Rattle.cmd_files.specs.Translated.{Completes};
-ghost use Rattle.cmd_files.specs.Written.{Writes, Puts, Stops, Lingers, written};
+ghost use Rattle.cmd_files.specs.Written.{Writes, Puts, Stops, Lingers, Wanted, written};
 
 use crate::translator::{Translation, Translator, translated};
 use cmd_words::{Status, tell, tell_summary};
@@ -31,6 +31,7 @@ pub fn write<T: Translator, H: Shelf, E: Sink>(
         (H.reads shelf.old) (H.reads shelf.new) (H.write_faults shelf.old) (H.write_faults shelf.new) result }
     ensures completes { Completes T.accepts from.now (H.held shelf.old) (H.reads shelf.old) (H.reads shelf.new)
         (H.write_faults shelf.old) (H.write_faults shelf.new) result }
+    ensures wanted { result ≡ Status.Memory → Wanted (H.held shelf.old) (H.held shelf.new) (H.wants shelf.old) (H.wants shelf.new) }
 {
     match translated(alloc, translator, from, shelf, err) {
         Ok(translation) => write_translation(to, &translation, shelf, err),
@@ -48,6 +49,7 @@ pub fn write_translation<H: Shelf, E: Sink>(
     ensures puts { Puts (λ line. Tells (E.written err.old) (E.written err.new) (E.faults err.old) (E.faults err.new) line)
         to.now.text.now (option_map (λ name. name.now) to.now.report) (H.held shelf.old) (H.held shelf.new)
         (H.write_faults shelf.old) (H.write_faults shelf.new) translation.now result }
+    ensures want { result ≡ Status.Memory → Rose (H.wants shelf.old) (H.wants shelf.new) }
     ensures reads { H.reads shelf.new ≡ H.reads shelf.old }
 {
     match put_files(to, translation, shelf) {
@@ -76,6 +78,7 @@ fn put_files<H: Shelf>(
     ensures stops { result ≡ Err WriteError.Failed → Stops to.now.text.now (option_map (λ name. name.now) to.now.report) translation.now (H.held shelf.old) (H.held shelf.new) }
     ensures failed { result ≡ Err WriteError.Failed → Rose (H.write_faults shelf.old) (H.write_faults shelf.new) }
     ensures lingers { result ≡ Err WriteError.Memory → Lingers to.now.text.now (option_map (λ name. name.now) to.now.report) translation.now (H.held shelf.old) (H.held shelf.new) }
+    ensures want { result ≡ Err WriteError.Memory → Rose (H.wants shelf.old) (H.wants shelf.new) }
     ensures reads { H.reads shelf.new ≡ H.reads shelf.old }
 {
     match to.report {

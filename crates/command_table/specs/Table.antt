@@ -4,10 +4,12 @@ use Rattle.rg_ports.specs.Files.{Files}
 use Rattle.rg_ports.specs.declared.reads.ReadCounts.{ReadCounts}
 use Rattle.rg_ports.specs.Written.{Written}
 use Rattle.cmd_words.specs.declared.status.Status.{Status}
+use Rattle.cmd_words.specs.declared.status.Status.TheVariants as status
 use Rattle.cmd_words.specs.Command.{Command, Restructure, Run, Demo, Help, Show, Moves, Replay, Tidy, Lower}
 use Rattle.cmd_words.specs.Help.{Helps}
 use Rattle.cmd_words.specs.Lines.{Tells, usage_line}
 use Rattle.cmd_files.specs.declared.translator.Part.TheVariants as part
+use Rattle.cmd_files.specs.Written.{Wanted}
 use Rattle.command_table.specs.Effects.{Effects}
 
 -- what the ports tell
@@ -16,6 +18,8 @@ pub record Ports : Type 0 where
   pub reads : ReadCounts
   -- how many writes to the shelf have failed
   pub writes : ℕ
+  -- and how many were refused memory
+  pub wants : ℕ
   -- what is left of the input, and how many of its reads have failed
   pub rest : Option (List ℕ)
   pub inputs : ℕ
@@ -44,6 +48,7 @@ Does works (Restructure from to report) untouched old new ended =
     untouched.out
     × works.restructures (says old new) from to report old.held new.held old.reads new.reads old.writes new.writes ended
     × works.completes from old.held old.reads new.reads old.writes new.writes ended
+    × (ended ≡ status.Memory → Wanted old.held new.held old.wants new.wants)
 Does works (Run from steps) untouched old new ended =
     KeepsFiles old new
     × works.runs (says old new) from steps old.held old.reads new.reads (untouched.input × untouched.out) old.rest new.rest old.inputs new.inputs old.out new.out old.faults new.faults ended

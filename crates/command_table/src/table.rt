@@ -3,8 +3,8 @@ ghost use Rattle.cmd_words.specs.Command.{Run, command_of, seen};
 ghost use Rattle.command_table.specs.Table.{Answers, Does};
 
 use crate::works::Works;
-use cmd_words::{Job, Status, command, tell, write_help};
 use cmd_files::{Part, Targets};
+use cmd_words::{Job, Status, command, tell, write_help};
 use rg_ports::{Shelf, Sink, Source};
 use std::alloc::Global;
 
@@ -25,6 +25,7 @@ pub fn carry_out<W: Works, H: Shelf, I: Source, O: Sink, E: Sink>(
           held = H.held shelf.old;
           reads = H.reads shelf.old;
           writes = H.write_faults shelf.old;
+          wants = H.wants shelf.old;
           rest = I.rest input.old;
           inputs = I.faults input.old;
           out = O.written out.old;
@@ -36,6 +37,7 @@ pub fn carry_out<W: Works, H: Shelf, I: Source, O: Sink, E: Sink>(
           held = H.held shelf.new;
           reads = H.reads shelf.new;
           writes = H.write_faults shelf.new;
+          wants = H.wants shelf.new;
           rest = I.rest input.new;
           inputs = I.faults input.new;
           out = O.written out.new;
@@ -72,6 +74,7 @@ fn work<W: Works, H: Shelf, I: Source, O: Sink, E: Sink>(
           held = H.held shelf.old;
           reads = H.reads shelf.old;
           writes = H.write_faults shelf.old;
+          wants = H.wants shelf.old;
           rest = I.rest input.old;
           inputs = I.faults input.old;
           out = O.written out.old;
@@ -83,6 +86,7 @@ fn work<W: Works, H: Shelf, I: Source, O: Sink, E: Sink>(
           held = H.held shelf.new;
           reads = H.reads shelf.new;
           writes = H.write_faults shelf.new;
+          wants = H.wants shelf.new;
           rest = I.rest input.new;
           inputs = I.faults input.new;
           out = O.written out.new;

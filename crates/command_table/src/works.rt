@@ -1,8 +1,9 @@
 ghost use Rattle.std.specs.Prelude.{◌≡◌, ◌≢◌, option_map};
 ghost use Rattle.cmd_words.specs.Lines.{Tells};
+ghost use Rattle.cmd_files.specs.Written.{Wanted};
 
-use cmd_words::Status;
 use cmd_files::{Part, Targets};
+use cmd_words::Status;
 use rg_ports::{Shelf, Sink, Source};
 use std::alloc::Global;
 
@@ -27,6 +28,7 @@ pub trait Works {
             (H.reads shelf.old) (H.reads shelf.new) (H.write_faults shelf.old) (H.write_faults shelf.new) result }
         ensures completes { effects.completes from.now (H.held shelf.old) (H.reads shelf.old) (H.reads shelf.new)
             (H.write_faults shelf.old) (H.write_faults shelf.new) result }
+        ensures wanted { result ≡ Status.Memory → Wanted (H.held shelf.old) (H.held shelf.new) (H.wants shelf.old) (H.wants shelf.new) }
         ensures usage { result ≢ Status.Usage };
 
     /// Restructures one file, and writes the text or the report to `out`.

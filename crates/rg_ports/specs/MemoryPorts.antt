@@ -29,6 +29,8 @@ pub record MemoryShelf : Type 0 where
   pub reads : ReadCounts
   -- the number of failed writes
   pub write_faults : ℕ
+  -- the number of writes that were refused memory
+  pub wants : ℕ
 
 abbrev pub source_code : Coded MemorySource
 source_code = code_by (List ℕ × (Calls × ℕ))
@@ -48,7 +50,7 @@ reads_code = code_by (ℕ × (ℕ × ℕ)) (coded× coded_ℕ (coded× coded_ℕ
     (λ p. record { made = p.0; faults = p.1.0; absences = p.1.1 }) (λ _. refl)
 
 abbrev pub shelf_code : Coded MemoryShelf
-shelf_code = code_by (Files × (Calls × (ReadCounts × ℕ)))
-    (coded× (map.code (coded_list coded_ℕ) (coded_list coded_ℕ)) (coded× calls_code (coded× reads_code coded_ℕ)))
-    (λ s. (s.files, (s.calls, (s.reads, s.write_faults))))
-    (λ p. record { files = p.0; calls = p.1.0; reads = p.1.1.0; write_faults = p.1.1.1 }) (λ _. refl)
+shelf_code = code_by (Files × (Calls × (ReadCounts × (ℕ × ℕ))))
+    (coded× (map.code (coded_list coded_ℕ) (coded_list coded_ℕ)) (coded× calls_code (coded× reads_code (coded× coded_ℕ coded_ℕ))))
+    (λ s. (s.files, (s.calls, (s.reads, (s.write_faults, s.wants)))))
+    (λ p. record { files = p.0; calls = p.1.0; reads = p.1.1.0; write_faults = p.1.1.1.0; wants = p.1.1.1.1 }) (λ _. refl)

@@ -22,6 +22,7 @@ pub struct MemShelf {
     calls: CallCounter,
     reads: ReadCounts,
     write_faults: u64,
+    wants: u64,
 }
 
 impl Model for MemShelf {
@@ -37,6 +38,7 @@ impl Model for MemShelf {
       calls = s.calls;
       reads = s.reads;
       write_faults = s.write_faults;
+      wants = s.wants;
     } };
 }
 
@@ -49,7 +51,7 @@ impl MemShelf {
         failing: List<u64>,
     ) -> Result<Self, Memory>
         ensures { IfOk result (λ shelf. shelf
-            ≡ record { files = map.from_entries start; calls = no_calls failing; reads = no_reads; write_faults = 0 }) }
+            ≡ record { files = map.from_entries start; calls = no_calls failing; reads = no_reads; write_faults = 0; wants = 0 }) }
     {
         Ok(MemShelf {
             alloc,
@@ -57,6 +59,7 @@ impl MemShelf {
             calls: CallCounter::new(failing),
             reads: NO_READS,
             write_faults: 0,
+            wants: 0,
         })
     }
 
@@ -110,6 +113,8 @@ impl Shelf for MemShelf {
 
     ghost write_faults = { λ s. s.write_faults };
 
+    ghost wants = { λ s. s.wants };
+
     /// Copies the bytes of the file. It fails exactly where the call's number is among those that
     /// fail.
     fn read(&mut self, alloc: Global, name: &str, most: usize) -> Result<Bytes, ReadError>
@@ -142,7 +147,9 @@ impl Shelf for MemShelf {
             → self.new
             ≡ record self.old { calls = after_call self.old.calls; write_faults = following self.old.write_faults } }
         ensures memory { result ≡ Err WriteError.Memory
-            → self.new ≡ record self.old { calls = after_call self.old.calls } }
+            → self.new
+            ≡ record self.old { calls = after_call self.old.calls; wants = following self.old.wants } }
+        ensures no_want { result ≢ Err WriteError.Memory → self.new.wants ≡ self.old.wants }
         ensures grows { self.old.write_faults ≤ self.new.write_faults }
     {
         if self.calls.fails() {
@@ -151,7 +158,10 @@ impl Shelf for MemShelf {
         }
         match put_bytes(self.alloc, &mut self.files, name, bytes) {
             Ok(()) => Ok(()),
-            Err(_) => Err(WriteError::Memory),
+            Err(_) => {
+                self.wants = next_count(self.wants);
+                Err(WriteError::Memory)
+            }
         }
     }
 }

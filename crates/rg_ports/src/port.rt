@@ -1,4 +1,4 @@
-ghost use Rattle.std.specs.Prelude.{◌≡◌, ℕ, ◌<◌, ◌≤◌, List, [], Option, None, Some, length, take, option_map, IfOk, OnOk, OnErr, IfSome, IsSomeAnd};
+ghost use Rattle.std.specs.Prelude.{◌≡◌, ◌≢◌, ℕ, ◌<◌, ◌≤◌, List, [], Option, None, Some, length, take, option_map, IfOk, OnOk, OnErr, IfSome, IsSomeAnd};
 ghost use Rattle.std.specs.FinMap as map;
 ghost use Rattle.rg_ports.specs.Count.{Rose};
 ghost use Rattle.rg_ports.specs.declared.reads.ReadCounts.{ReadCounts};
@@ -88,6 +88,9 @@ pub trait Shelf {
     /// How many writes have failed. The count stands still at 18,446,744,073,709,551,615.
     ghost write_faults: { Self → ℕ };
 
+    /// How many writes were refused memory. The count stands still at 18,446,744,073,709,551,615.
+    ghost wants: { Self → ℕ };
+
     /// The bytes of a file, if they are at most `most`. A read changes no file.
     fn read(&mut self, alloc: Global, name: &str, most: usize) -> Result<Bytes, ReadError>
         ensures ok { IfOk result (λ bytes.
@@ -105,7 +108,8 @@ pub trait Shelf {
         ensures kept { held self.new ≡ held self.old }
         ensures once { IsOneRead (reads self.old) (reads self.new) }
         ensures grows { NotFewer (reads self.old) (reads self.new) }
-        ensures other { write_faults self.new ≡ write_faults self.old };
+        ensures other { write_faults self.new ≡ write_faults self.old }
+        ensures no_write { wants self.new ≡ wants self.old };
 
     /// Puts the bytes in place of the file's, or makes the file. After `Failed` the file is as before
     /// or holds a prefix of the bytes. No other file changes.
@@ -117,6 +121,8 @@ pub trait Shelf {
         ensures failed { result ≡ Err WriteError.Failed
             → Rose (write_faults self.old) (write_faults self.new) }
         ensures memory { result ≡ Err WriteError.Memory → held self.new ≡ held self.old }
+        ensures want { result ≡ Err WriteError.Memory → Rose (wants self.old) (wants self.new) }
+        ensures no_want { result ≢ Err WriteError.Memory → wants self.new ≡ wants self.old }
         ensures grows { write_faults self.old ≤ write_faults self.new }
         ensures other { reads self.new ≡ reads self.old };
 }

@@ -1,8 +1,8 @@
 ghost use Rattle.std.specs.Prelude.{◌≡◌, ◌∷◌, []};
 ghost use Rattle.rg_ports.specs.Writing.{Progress, progress_of, Gives};
 
+use crate::{Failed, Sink, write_all};
 use arrayvec::ArrayVec;
-use rg_ports::{Failed, Sink, write_all};
 
 /// Where a text goes, and what has become of it.
 pub trait Output {
