@@ -6,7 +6,7 @@ use Rattle.c_kinds.specs.declared.typed.Fault.{Fault}
 use Rattle.c_kinds.specs.declared.typed.Typed.{Typed}
 use Rattle.c_kinds.specs.Constants.{constant_of, constant_fault}
 use Rattle.c_kinds.specs.Scopes.{Env, Scope, Faults, fault_if, is_bound, bind_fault}
-use Rattle.c_kinds.specs.Typing.{faults, constant_faults}
+use Rattle.c_kinds.specs.Typing.{typed, faults, constant_faults}
 use Rattle.c_kinds.specs.Values.{use_fault, drop_fault}
 use Rattle.c_statements.specs.declared.extents.Kinded.{Kinded}
 use Rattle.c_statements.specs.declared.extents.Length.{Length}
@@ -14,11 +14,13 @@ use Rattle.c_statements.specs.declared.extents.Length.TheVariants.{Constant}
 use Rattle.c_statements.specs.Context.{Walk, env_in}
 use Rattle.c_statements.specs.Declarations.{declared, is_bad_array, is_bad_shape, length_in, size_faults, each_faults, initial_faults, value_faults, local_faults, locals_faults}
 use Rattle.c_statements.specs.Violations.{dropped_faults}
+use Rattle.rule_defs.specs.Written as written
 use Rattle.rule_defs.specs.Violations.{broken}
 use Rattle.rule_defs.specs.Bindings.{IsDeclared}
-use Rattle.rule_defs.specs.Places.{Place, behind_name}
+use Rattle.rule_defs.specs.Behind.{SomeBehind}
+use Rattle.rule_defs.specs.Places.{Place, behind_name, behind_names}
 use Rattle.rule_defs.specs.Expressions.{Role, NeedsValue, NeedsConstant, MayBeVoid, MayBeAnything, Within}
-use Rattle.rule_defs.specs.Declared.{SizeBreaks, ValuesBreak, InitialiserBreaks, LocalBreaks, DeclaratorBreaks, DeclaratorsBreak}
+use Rattle.rule_defs.specs.Declared.{SizeBreaks, ValuesBreak, InitialiserBreaks, LocalBreaks, DeclaratorBreaks}
 use Rattle.rule_laws.specs.Finds.{Finds}
 use Rattle.rule_laws.proofs.Finding.{finds_none, finds_both, finds_same, finds_as, finds_if}
 use Rattle.rule_laws.proofs.Expressions.{value, dropped, constant, argument}
@@ -62,12 +64,12 @@ module _ (word : ℕ → List ℕ) (ms ss : List Scope) (m : AreMaps ms ss) wher
   initialisers k role h (OneValue t) = h t
   initialisers k role h (ValueList ts) = options k role h ts
 
-  length_alike : (size : Size) → length_in ours size ≡ length_in theirs size
+  length_alike : (size : Size) → length_in ours size ≡ written.length_in typed theirs size
   length_alike NoSize = refl
   length_alike Unsized = refl
   length_alike (Sized t) = λ i. length_of (typed_alike word ms ss m t i)
 
-  pub bad_alike : (local : Bool) (d : Declarator) → is_bad_array local ours d ≡ is_bad_array local theirs d
+  pub bad_alike : (local : Bool) (d : Declarator) → is_bad_array local ours d ≡ written.is_bad_array typed local theirs d
   bad_alike local d = ap (λ l. is_bad_shape local l d.value) (length_alike d.size)
 
   pub twice : (name : List ℕ) (at : ℕ) → Finds (fault_if (is_bound name ms) at 21) (λ v. IsDeclared name ss × (v ≡ broken at 21))
@@ -79,22 +81,22 @@ module _ (word : ℕ → List ℕ) (ms ss : List Scope) (m : AreMaps ms ss) wher
 module _ (word : ℕ → List ℕ) (k : Kinded) where
   -- of the name
   names : (w : Walk) (p : Place) → Stands w p → (d : Declarator)
-      → Finds (λ vs. bind_fault d.name (word d.name) w.scopes (fault_if (is_bad_array true (env_in word w) d) d.name 35 vs)) (λ v. LocalBreaks word p d v)
+      → Finds (λ vs. bind_fault d.name (word d.name) w.scopes (fault_if (is_bad_array true (env_in word w) d) d.name 35 vs)) (λ v. LocalBreaks typed word p d v)
   names w p s d =
-      finds_same (λ vs. bind_fault d.name (word d.name) w.scopes (fault_if (is_bad_array true (env_in word w) d) d.name 35 vs)) _ (λ v. LocalBreaks word p d v)
+      finds_same (λ vs. bind_fault d.name (word d.name) w.scopes (fault_if (is_bad_array true (env_in word w) d) d.name 35 vs)) _ (λ v. LocalBreaks typed word p d v)
       (finds_both (fault_if (is_bad_array true (env_in word w) d) d.name 35) (bind_fault d.name (word d.name) w.scopes) _ _
       (finds_if (is_bad_array true (env_in word w) d) d.name 35) (twice word w.scopes p.scopes s.maps (word d.name) d.name))
       to fro
     where
-      to : (v : Fault) → ((is_bad_array true (env_in word w) d ≡ true) × (v ≡ broken d.name 35)) ⊎ (IsDeclared (word d.name) p.scopes × (v ≡ broken d.name 21)) → LocalBreaks word p d v
-      to v (inl q) = subst (LocalBreaks word p d) (sym q.1) (LocalBreaks.bad_array (sym (bad_alike word w.scopes p.scopes s.maps true d) ∙ q.0))
-      to v (inr q) = subst (LocalBreaks word p d) (sym q.1) (LocalBreaks.declared_twice q.0)
+      to : (v : Fault) → ((is_bad_array true (env_in word w) d ≡ true) × (v ≡ broken d.name 35)) ⊎ (IsDeclared (word d.name) p.scopes × (v ≡ broken d.name 21)) → LocalBreaks typed word p d v
+      to v (inl q) = subst (LocalBreaks typed word p d) (sym q.1) (LocalBreaks.bad_array (sym (bad_alike word w.scopes p.scopes s.maps true d) ∙ q.0))
+      to v (inr q) = subst (LocalBreaks typed word p d) (sym q.1) (LocalBreaks.declared_twice q.0)
 
-      fro : (v : Fault) → LocalBreaks word p d v → ((is_bad_array true (env_in word w) d ≡ true) × (v ≡ broken d.name 35)) ⊎ (IsDeclared (word d.name) p.scopes × (v ≡ broken d.name 21))
+      fro : (v : Fault) → LocalBreaks typed word p d v → ((is_bad_array true (env_in word w) d ≡ true) × (v ≡ broken d.name 35)) ⊎ (IsDeclared (word d.name) p.scopes × (v ≡ broken d.name 21))
       fro v (LocalBreaks.declared_twice h) = inr (h, refl)
       fro v (LocalBreaks.bad_array e) = inl (bad_alike word w.scopes p.scopes s.maps true d ∙ e, refl)
 
-  declarator : (d : Declarator) (w : Walk) (p : Place) → Stands w p → Finds (local_faults word k d w) (λ v. DeclaratorBreaks word k p d v)
+  declarator : (d : Declarator) (w : Walk) (p : Place) → Stands w p → Finds (local_faults word k d w) (λ v. DeclaratorBreaks typed word k p d v)
   declarator d w p s =
       let q = stands_name word k d w p s in
       let inner = declared word k d w in
@@ -104,7 +106,7 @@ module _ (word : ℕ → List ℕ) (k : Kinded) where
       (names w p s d)
       (initialisers word inner.scopes (behind_name word k d p).scopes q.maps (value_faults (env_in word inner)) NeedsValue (value_at word inner.scopes (behind_name word k d p).scopes q.maps) d.value))
 
-  pub declarators : (ds : List Declarator) (w : Walk) (p : Place) → Stands w p → Finds (locals_faults word k ds w) (λ v. DeclaratorsBreak word k p ds v)
+  pub declarators : (ds : List Declarator) (w : Walk) (p : Place) → Stands w p → Finds (locals_faults word k ds w) (λ v. SomeBehind (λ before d. DeclaratorBreaks typed word k (behind_names word k before p) d v) ds)
   declarators [] w p s = finds_none
   declarators (d ∷ ds) w p s =
       finds_both (local_faults word k d w) (locals_faults word k ds (declared word k d w)) _ _ (declarator d w p s) (declarators ds (declared word k d w) (behind_name word k d p) (stands_name word k d w p s))

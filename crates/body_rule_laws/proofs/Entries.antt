@@ -20,8 +20,9 @@ use Rattle.c_statements.specs.Context.{Context, Walk, env_at, enter}
 use Rattle.c_statements.specs.Statements.{behind_start, behind_item, behind_body}
 use Rattle.c_statements.specs.Cases as walked
 use Rattle.c_statements.specs.Cases.{is_among, with_value, entry_faults, default_faults, switch_faults}
-use Rattle.rule_defs.specs.Behind.{SomeBehind}
-use Rattle.rule_defs.specs.Places.{Place, env_of, within, past, behind, variables_of_body}
+use Rattle.rule_laws.proofs.Behind.{Behind, finds_behind}
+use Rattle.rule_defs.specs.Places.{Place, env_of, within}
+use Rattle.rule_defs.specs.Slots.{past_body, behind}
 use Rattle.rule_defs.specs.Places as places
 use Rattle.rule_defs.specs.Switches.{case_entry, label_entries, item_entries, plain_entries, statement_entries, body_entries, list_entries, HasCase, HasDefault, EntryBreaks, EntriesBreak}
 use Rattle.rule_defs.specs.Violations.{broken}
@@ -37,36 +38,36 @@ append_none [] = refl
 append_none (e ∷ es) = ap (λ x. e ∷ x) (append_none es)
 
 module _ (ctx : Context) where
-  labelled : (w : Walk) (p : Place) → Stands w p → (ls : List Label) (found : List Entry) → walked.label_entries (env_at ctx w) ls found ≡ found ++ label_entries (env_of ctx.word p) ls
+  labelled : (w : Walk) (p : Place) → Stands w p → (ls : List Label) (found : List Entry) → walked.label_entries (env_at ctx w) ls found ≡ found ++ label_entries typed (env_of ctx.word p) ls
   labelled w p s [] found = append_none found
   labelled w p s (Named at after ∷ ls) found = labelled w p s ls found
-  labelled w p s (Default at after ∷ ls) found = labelled w p s ls (found ++ Other at ∷ []) ∙ append_assoc found (Other at ∷ []) (label_entries (env_of ctx.word p) ls)
+  labelled w p s (Default at after ∷ ls) found = labelled w p s ls (found ++ Other at ∷ []) ∙ append_assoc found (Other at ∷ []) (label_entries typed (env_of ctx.word p) ls)
   labelled w p s (Case at after t ∷ ls) found =
       ap (λ x. walked.label_entries (env_at ctx w) ls (walked.case_entry at (constant_of x) found)) (typed_alike ctx.word w.scopes p.scopes s.maps t)
       ∙ by (constant_of (typed (env_of ctx.word p) t)) (λ f. labelled w p s ls f)
     where
-      by : (o : Option (Expression × ℤ)) → ((f : List Entry) → walked.label_entries (env_at ctx w) ls f ≡ f ++ label_entries (env_of ctx.word p) ls)
-          → walked.label_entries (env_at ctx w) ls (walked.case_entry at o found) ≡ found ++ (case_entry at o ++ label_entries (env_of ctx.word p) ls)
-      by (Some c) f = f (found ++ Value at c.1 ∷ []) ∙ append_assoc found (Value at c.1 ∷ []) (label_entries (env_of ctx.word p) ls)
+      by : (o : Option (Expression × ℤ)) → ((f : List Entry) → walked.label_entries (env_at ctx w) ls f ≡ f ++ label_entries typed (env_of ctx.word p) ls)
+          → walked.label_entries (env_at ctx w) ls (walked.case_entry at o found) ≡ found ++ (case_entry at o ++ label_entries typed (env_of ctx.word p) ls)
+      by (Some c) f = f (found ++ Value at c.1 ∷ []) ∙ append_assoc found (Value at c.1 ∷ []) (label_entries typed (env_of ctx.word p) ls)
       by None f = f found
 
   mutual
-    item : (x : Item) (w : Walk) (p : Place) → Stands w p → (found : List Entry) → walked.item_entries ctx x w found ≡ found ++ item_entries ctx.word p x
+    item : (x : Item) (w : Walk) (p : Place) → Stands w p → (found : List Entry) → walked.item_entries ctx x w found ≡ found ++ item_entries typed ctx.word p x
     item (Declares first after d) w p s found = append_none found
     item (States ls x) w p s found =
         plain x w p s (walked.label_entries (env_at ctx w) ls found)
-        ∙ ap (λ f. f ++ plain_entries ctx.word p x) (labelled w p s ls found)
-        ∙ append_assoc found (label_entries (env_of ctx.word p) ls) (plain_entries ctx.word p x)
+        ∙ ap (λ f. f ++ plain_entries typed ctx.word p x) (labelled w p s ls found)
+        ∙ append_assoc found (label_entries typed (env_of ctx.word p) ls) (plain_entries typed ctx.word p x)
 
-    plain : (x : Plain) (w : Walk) (p : Place) → Stands w p → (found : List Entry) → walked.plain_entries ctx x w found ≡ found ++ plain_entries ctx.word p x
+    plain : (x : Plain) (w : Walk) (p : Place) → Stands w p → (found : List Entry) → walked.plain_entries ctx x w found ≡ found ++ plain_entries typed ctx.word p x
     plain (From first after x) w p s found = statement x w p s found
 
-    statement : (x : Statement) (w : Walk) (p : Place) → Stands w p → (found : List Entry) → walked.statement_entries ctx x w found ≡ found ++ statement_entries ctx.word p x
+    statement : (x : Statement) (w : Walk) (p : Place) → Stands w p → (found : List Entry) → walked.statement_entries ctx x w found ≡ found ++ statement_entries typed ctx.word p x
     statement (If t b) w p s found = body b w p s found
     statement (IfElse t b c) w p s found =
-        body c (behind_body ctx b w) (past (variables_of_body b) p) (stands_body ctx b w p s) (walked.body_entries ctx b w found)
-        ∙ ap (λ f. f ++ body_entries ctx.word (past (variables_of_body b) p) c) (body b w p s found)
-        ∙ append_assoc found (body_entries ctx.word p b) (body_entries ctx.word (past (variables_of_body b) p) c)
+        body c (behind_body ctx b w) (past_body typed ctx.word b p) (stands_body ctx b w p s) (walked.body_entries ctx b w found)
+        ∙ ap (λ f. f ++ body_entries typed ctx.word (past_body typed ctx.word b p) c) (body b w p s found)
+        ∙ append_assoc found (body_entries typed ctx.word p b) (body_entries typed ctx.word (past_body typed ctx.word b p) c)
     statement (While t b) w p s found = body b w p s found
     statement (DoWhile b t) w p s found = body b w p s found
     statement (For start t u b) w p s found =
@@ -81,16 +82,16 @@ module _ (ctx : Context) where
     statement (Return t) w p s found = append_none found
     statement Unread w p s found = append_none found
 
-    pub body : (b : Body) (w : Walk) (p : Place) → Stands w p → (found : List Entry) → walked.body_entries ctx b w found ≡ found ++ body_entries ctx.word p b
+    pub body : (b : Body) (w : Walk) (p : Place) → Stands w p → (found : List Entry) → walked.body_entries ctx b w found ≡ found ++ body_entries typed ctx.word p b
     body (Braces first after xs) w p s found = list xs (enter w) (within p) (stands_within w p s) found
     body (Lone first after x) w p s found = item x (enter w) (within p) (stands_within w p s) found
 
-    list : (xs : Items) (w : Walk) (p : Place) → Stands w p → (found : List Entry) → walked.list_entries ctx xs w found ≡ found ++ list_entries ctx.word p xs
+    list : (xs : Items) (w : Walk) (p : Place) → Stands w p → (found : List Entry) → walked.list_entries ctx xs w found ≡ found ++ list_entries typed ctx.word p xs
     list NoItem w p s found = append_none found
     list (Then x xs) w p s found =
-        list xs (behind_item ctx x w) (behind ctx.word x p) (stands_item ctx x w p s) (walked.item_entries ctx x w found)
-        ∙ ap (λ f. f ++ list_entries ctx.word (behind ctx.word x p) xs) (item x w p s found)
-        ∙ append_assoc found (item_entries ctx.word p x) (list_entries ctx.word (behind ctx.word x p) xs)
+        list xs (behind_item ctx x w) (behind typed ctx.word x p) (stands_item ctx x w p s) (walked.item_entries ctx x w found)
+        ∙ ap (λ f. f ++ list_entries typed ctx.word (behind typed ctx.word x p) xs) (item x w p s found)
+        ∙ append_assoc found (item_entries typed ctx.word p x) (list_entries typed ctx.word (behind typed ctx.word x p) xs)
 
 -- ---- numbers that were seen
 
@@ -212,7 +213,7 @@ module _ (kind : IntKind) where
   some_kind j e = cc
 
   entries : (es before : List Entry) (seen : List ℤ) (default : Bool) → Seen kind before seen default
-      → Finds (entry_faults (promoted kind) seen default es) (λ v. SomeBehind (λ b e. EntryBreaks (Some kind) b e v) before es)
+      → Finds (entry_faults (promoted kind) seen default es) (λ v. Behind (λ b e. EntryBreaks (Some kind) b e v) before es)
   entries [] before seen default s = finds_none
   entries (Value at n ∷ es) before seen default s =
       finds_both (fault_if (is_among (K kind n) seen) at 30) (entry_faults (promoted kind) (with_value (K kind n) seen) default es) _ _
@@ -236,7 +237,7 @@ module _ (kind : IntKind) where
 
 -- of a selector without a value, defaults alone
 defaults : (es before : List Entry) (default : Bool) → (default ≡ true → HasDefault before) → (HasDefault before → default ≡ true)
-    → Finds (default_faults default es) (λ v. SomeBehind (λ b e. EntryBreaks None b e v) before es)
+    → Finds (default_faults default es) (λ v. Behind (λ b e. EntryBreaks None b e v) before es)
 defaults [] before default f g = finds_none
 defaults (Value at n ∷ es) before default f g =
     finds_both (λ vs. vs) (default_faults default es) _ _ (finds_same (λ vs. vs) (λ v. ⊥) (λ v. EntryBreaks None before (Value at n) v) finds_none (λ v h. absurd h) fro)
@@ -257,5 +258,5 @@ defaults (Other at ∷ es) before default f g =
     fro v (EntryBreaks.second_default h) = (g h, refl)
 
 pub switch_entries : (selector : Option IntKind) (es : List Entry) → Finds (switch_faults selector es) (λ v. EntriesBreak selector es v)
-switch_entries (Some kind) es = entries kind es [] [] false (seen_none kind)
-switch_entries None es = defaults es [] false (λ e. absurd (true≢false (sym e))) (λ h. absurd h)
+switch_entries (Some kind) es = finds_behind (switch_faults (Some kind) es) (λ v b e. EntryBreaks (Some kind) b e v) es (entries kind es [] [] false (seen_none kind))
+switch_entries None es = finds_behind (switch_faults None es) (λ v b e. EntryBreaks None b e v) es (defaults es [] false (λ e. absurd (true≢false (sym e))) (λ h. absurd h))

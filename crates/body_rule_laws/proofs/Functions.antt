@@ -10,15 +10,18 @@ use Rattle.c_statements.specs.Context.{Walk, env_in, no_construct}
 use Rattle.c_statements.specs.Declarations.{size_faults}
 use Rattle.c_statements.specs.Functions.{FlatCounts, context, inside, bind_parameter, bind_parameters, parameter_fault, parameters_faults, body_items, body_faults, measures, tangle_fault, faults_within, function_faults, result_kind}
 use Rattle.c_statements.specs.Functions as walked
-use Rattle.c_statements.specs.Labels.{body_labels, twice_faults}
+use Rattle.c_statements.specs.Labels.{twice_faults, body_labels as walked_labels}
 use Rattle.c_statements.specs.Measures.{is_tangled}
+use Rattle.c_kinds.specs.Typing.{typed}
 use Rattle.rule_defs.specs.Bodies.{known}
 use Rattle.rule_defs.specs.Bodies as written
 use Rattle.program_laws.proofs.Functions.{body_same, stands_inside}
+use Rattle.program_laws.proofs.WalkedLabels.{labels_same}
+use Rattle.rule_defs.specs.Labels.{each_once, body_labels}
 use Rattle.rule_defs.specs.Behind.{SomeBehind}
 use Rattle.rule_defs.specs.Bindings.{IsDeclared}
 use Rattle.rule_defs.specs.Declared.{SizeBreaks}
-use Rattle.rule_defs.specs.Functions.{ParameterBreaks, ParametersBreak, LabelTwice, in_function, OutermostBreaks, Tangled, DefinitionBreaks, FunctionBreaks}
+use Rattle.rule_defs.specs.Functions.{ParameterBreaks, ParametersBreak, LabelTwice, OutermostBreaks, Tangled, DefinitionBreaks, FunctionBreaks}
 use Rattle.rule_defs.specs.Places.{Place, env_of, entered, behind_parameter, behind_parameters}
 use Rattle.rule_defs.specs.Violations.{broken}
 use Rattle.rule_laws.specs.Finds.{Finds}
@@ -80,7 +83,7 @@ module _ (word : ℕ → List ℕ) where
 
       -- those that are written there
       abbrev theirs : List tree.Item
-      theirs = written.body_items (known word notes f b) b (written.inside word f ss)
+      theirs = written.body_items typed (known word notes f b) b (written.inside word f ss)
 
       some_counts : (n k : ℕ × ℕ) → flat theirs ≡ Some n → flat theirs ≡ Some k → n ≡ k
       some_counts n k e g = cc
@@ -88,22 +91,22 @@ module _ (word : ℕ → List ℕ) where
       none_counts : (n : ℕ × ℕ) → flat theirs ≡ Some n → flat theirs ≡ None → ⊥
       none_counts n e g = cc
 
-      by_counts : (o : Option (ℕ × ℕ)) → flat theirs ≡ o → Finds (λ vs. elim o [ Some n ↦ fault_if (is_tangled (measures word f b n)) f.name 39 vs | None ↦ vs ]) (λ v. Tangled flat word notes f b ss v)
+      by_counts : (o : Option (ℕ × ℕ)) → flat theirs ≡ o → Finds (λ vs. elim o [ Some n ↦ fault_if (is_tangled (measures word f b n)) f.name 39 vs | None ↦ vs ]) (λ v. Tangled typed flat word notes f b ss v)
       by_counts (Some n) e =
-          finds_same (fault_if (is_tangled (measures word f b n)) f.name 39) _ (λ v. Tangled flat word notes f b ss v) (finds_if (is_tangled (measures word f b n)) f.name 39)
-          (λ v q. subst (Tangled flat word notes f b ss) (sym q.1) (Tangled.tangled n e q.0)) fro
+          finds_same (fault_if (is_tangled (measures word f b n)) f.name 39) _ (λ v. Tangled typed flat word notes f b ss v) (finds_if (is_tangled (measures word f b n)) f.name 39)
+          (λ v q. subst (Tangled typed flat word notes f b ss) (sym q.1) (Tangled.tangled n e q.0)) fro
         where
-          fro : (v : Fault) → Tangled flat word notes f b ss v → (is_tangled (measures word f b n) ≡ true) × (v ≡ broken f.name 39)
+          fro : (v : Fault) → Tangled typed flat word notes f b ss v → (is_tangled (measures word f b n) ≡ true) × (v ≡ broken f.name 39)
           fro v (Tangled.tangled k g t) = (subst (λ z. is_tangled (measures word f b z) ≡ true) (some_counts k n g e) t, refl)
-      by_counts None e = finds_nothing (λ v. Tangled flat word notes f b ss v) no
+      by_counts None e = finds_nothing (λ v. Tangled typed flat word notes f b ss v) no
         where
-          no : (v : Fault) → Tangled flat word notes f b ss v → ⊥
+          no : (v : Fault) → Tangled typed flat word notes f b ss v → ⊥
           no v (Tangled.tangled k g t) = none_counts k g e
 
       items_alike : ours ≡ theirs
       items_alike = body_same word notes f b (inside word f ms) (written.inside word f ss) (stands_inside word notes f ms ss m)
 
-      tangles : Finds (tangle_fault flat word f b ours) (λ v. Tangled flat word notes f b ss v)
+      tangles : Finds (tangle_fault flat word f b ours) (λ v. Tangled typed flat word notes f b ss v)
       tangles = by_counts (flat ours) (ap flat (sym items_alike))
 
       at_body : IsAt no_construct (inside word f ms) (behind_parameters word f.parameters (entered ss))
@@ -112,21 +115,33 @@ module _ (word : ℕ → List ℕ) where
         same = parameters_around f.parameters (entered ss);
       }
 
-    outermost : (b : Body) → Finds (body_faults (context word notes f b) b (inside word f ms)) (λ v. OutermostBreaks (in_function word f b) (behind_parameters word f.parameters (entered ss)) b v)
-    outermost (Braces first after xs) =
-        let b = Braces first after xs in
-        list word notes (map word (body_labels b [])) (result_kind word f) no_construct xs (inside word f ms) (behind_parameters word f.parameters (entered ss)) (at_body b)
-    outermost (Lone first after x) =
-        let b = Lone first after x in
-        item word notes (map word (body_labels b [])) (result_kind word f) no_construct x (inside word f ms) (behind_parameters word f.parameters (entered ss)) (at_body b)
+    -- in a function with these labels
+    abbrev Outermost : Body → List ℕ → Type 0
+    Outermost b ats =
+        Finds (body_faults (context word notes f b) b (inside word f ms))
+        (λ v. OutermostBreaks typed (record { word = word; notes = notes; labels = each_once (map word ats); result = result_kind word f }) (behind_parameters word f.parameters (entered ss)) b v)
 
-    definition : (o : Option Body) → Finds (faults_within flat word notes f o (inside word f ms)) (λ v. DefinitionBreaks flat word notes f ss o v)
+    by_walk : (b : Body) → Outermost b (walked_labels b [])
+    by_walk (Braces first after xs) =
+        let b = Braces first after xs in
+        list word notes (map word (walked_labels b [])) (result_kind word f) no_construct xs (inside word f ms) (behind_parameters word f.parameters (entered ss)) (at_body b)
+    by_walk (Lone first after x) =
+        let b = Lone first after x in
+        item word notes (map word (walked_labels b [])) (result_kind word f) no_construct x (inside word f ms) (behind_parameters word f.parameters (entered ss)) (at_body b)
+
+    outermost : (b : Body) → Outermost b (body_labels b)
+    outermost b = subst (Outermost b) (labels_same b) (by_walk b)
+
+    twice_labelled : (b : Body) → Finds (twice_faults word (walked_labels b [])) (λ v. SomeBehind (λ before at. LabelTwice word before at v) (body_labels b))
+    twice_labelled b = subst (λ ats. Finds (twice_faults word (walked_labels b [])) (λ v. SomeBehind (λ before at. LabelTwice word before at v) ats)) (labels_same b) (labels_twice word (walked_labels b []))
+
+    definition : (o : Option Body) → Finds (faults_within flat word notes f o (inside word f ms)) (λ v. DefinitionBreaks typed flat word notes f ss o v)
     definition None = finds_none
     definition (Some b) =
-        finds_both (twice_faults word (body_labels b [])) (λ vs. tangle_fault flat word f b (ours b) (body_faults (context word notes f b) b (inside word f ms) vs)) _ _ (labels_twice word (body_labels b []))
+        finds_both (twice_faults word (walked_labels b [])) (λ vs. tangle_fault flat word f b (ours b) (body_faults (context word notes f b) b (inside word f ms) vs)) _ _ (twice_labelled b)
         (finds_both (body_faults (context word notes f b) b (inside word f ms)) (tangle_fault flat word f b (ours b)) _ _ (outermost b) (tangles b))
 
-    pub function : Finds (function_faults flat word notes f ms) (λ v. FunctionBreaks flat word notes f ss v)
+    pub function : Finds (function_faults flat word notes f ms) (λ v. FunctionBreaks typed flat word notes f ss v)
     function =
         finds_both (parameters_faults word (is_some f.body) f.parameters (walked.entered ms)) (faults_within flat word notes f f.body (inside word f ms)) _ _
         (parameters (is_some f.body) f.parameters (walked.entered ms) (entered ss) (stands_entered ms ss m)) (definition f.body)

@@ -4,8 +4,9 @@ use Rattle.c_kinds.specs.declared.typed.Fault.{Fault}
 use Rattle.c_kinds.specs.Scopes.{Names, found, with_entry, fault_if}
 use Rattle.c_kinds.proofs.Entries.{same_names, names_same, found_entry}
 use Rattle.c_statements.specs.Context.{has_label}
-use Rattle.c_statements.specs.Labels.{with_number, numbers_from, numbers, twice_from, twice_faults}
+use Rattle.c_statements.specs.Labels.{with_number, twice_from, twice_faults}
 use Rattle.rule_defs.specs.Behind.{SomeBehind, IsOne}
+use Rattle.rule_laws.proofs.Behind.{Behind, finds_behind}
 use Rattle.rule_defs.specs.Functions.{LabelTwice}
 use Rattle.rule_defs.specs.Violations.{broken}
 use Rattle.rule_laws.specs.Finds.{Finds}
@@ -41,26 +42,6 @@ or_right : (a b : Bool) → b ≡ true → (a || b) ≡ true
 or_right true b e = refl
 or_right false b e = e
 
-known_one : (ns : List (List ℕ)) (known : Names ℕ) (q : List ℕ) → has_label (numbers_from known ns) q ≡ true → (has_label known q ≡ true) ⊎ IsOne q ns
-known_one [] known q e = inl e
-known_one (n ∷ ns) known q e = elim (known_one ns (with_number n known) q e) [
-  | inl g ↦ elim (or_parts (bytes_eq q n) (has_label known q) (sym (has_more q n known) ∙ g)) [ inl h ↦ inr (inl (same_names q n h)) | inr h ↦ inl h ]
-  | inr h ↦ inr (inr h)
-]
-
-one_known : (ns : List (List ℕ)) (known : Names ℕ) (q : List ℕ) → (has_label known q ≡ true) ⊎ IsOne q ns → has_label (numbers_from known ns) q ≡ true
-one_known [] known q (inl e) = e
-one_known [] known q (inr h) = absurd h
-one_known (n ∷ ns) known q (inl e) = one_known ns (with_number n known) q (inl (has_more q n known ∙ or_right (bytes_eq q n) (has_label known q) e))
-one_known (n ∷ ns) known q (inr (inl e)) = one_known ns (with_number n known) q (inl (has_more q n known ∙ or_left (bytes_eq q n) (has_label known q) (names_same q n e)))
-one_known (n ∷ ns) known q (inr (inr h)) = one_known ns (with_number n known) q (inr h)
-
-pub label_known : (ns : List (List ℕ)) (q : List ℕ) → has_label (numbers ns) q ≡ true → IsOne q ns
-label_known ns q e = elim (known_one ns [] q e) [ inl g ↦ absurd (true≢false (sym g)) | inr h ↦ h ]
-
-pub known_label : (ns : List (List ℕ)) (q : List ℕ) → IsOne q ns → has_label (numbers ns) q ≡ true
-known_label ns q h = one_known ns [] q (inr h)
-
 -- ---- labels that stand twice
 
 module _ (word : ℕ → List ℕ) where
@@ -89,7 +70,7 @@ module _ (word : ℕ → List ℕ) where
     ],
   )
 
-  twice : (ats before : List ℕ) (known : Names ℕ) → Knows before known → Finds (twice_from known word ats) (λ v. SomeBehind (λ b at. LabelTwice word b at v) before ats)
+  twice : (ats before : List ℕ) (known : Names ℕ) → Knows before known → Finds (twice_from known word ats) (λ v. Behind (λ b at. LabelTwice word b at v) before ats)
   twice [] before known k = finds_none
   twice (at ∷ ats) before known k =
       finds_both (fault_if (has_label known (word at)) at 32) (twice_from (with_number (word at) known) word ats) _ _
@@ -100,5 +81,5 @@ module _ (word : ℕ → List ℕ) where
       fro : (v : Fault) → LabelTwice word before at v → (has_label known (word at) ≡ true) × (v ≡ broken at 32)
       fro v (LabelTwice.label_twice h) = ((k (word at)).1 h, refl)
 
-  pub labels_twice : (ats : List ℕ) → Finds (twice_faults word ats) (λ v. SomeBehind (λ b at. LabelTwice word b at v) [] ats)
-  labels_twice ats = twice ats [] [] (λ q. (λ e. absurd (true≢false (sym e)), λ h. absurd h))
+  pub labels_twice : (ats : List ℕ) → Finds (twice_faults word ats) (λ v. SomeBehind (λ b at. LabelTwice word b at v) ats)
+  labels_twice ats = finds_behind (twice_faults word ats) (λ v b at. LabelTwice word b at v) ats (twice ats [] [] (λ q. (λ e. absurd (true≢false (sym e)), λ h. absurd h)))

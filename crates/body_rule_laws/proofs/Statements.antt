@@ -2,7 +2,7 @@
 use Rattle.std.proofs.Common.{◌≡◌, ◌⊎◌, inl, inr, ℕ, Bool, true, false, not, ◌||◌, List, [], ◌∷◌, Option, Some, None, option_map, refl, sym, ap, subst, ◌∙◌, true≢false}
 use Rattle.c_types.specs.declared.kinds.IntKind.{IntKind}
 use Rattle.c_layers.specs.Terms.{Term}
-use Rattle.c_layers.specs.Items.{Label, Named, Case, Default, Declarator, Declaration, Start, NoStart, StartValue, StartNames, Item, Declares, States, Plain, From, Statement, Null, Evaluate, If, IfElse, While, DoWhile, For, Switch, Block, Goto, Break, Continue, Return, Unread, Body, Braces, Lone, Items, NoItem, Then, items_in, stated_first}
+use Rattle.c_layers.specs.Items.{Label, Named, Case, Default, Declarator, Declaration, Start, NoStart, StartValue, StartNames, Item, Declares, States, Plain, From, Statement, Null, Evaluate, If, IfElse, While, DoWhile, For, Switch, Block, Goto, Break, Continue, Return, Unread, Body, Braces, Lone, Items, NoItem, Then, items_in, item_first, stated_first}
 use Rattle.c_kinds.specs.declared.typed.Fault.{Fault}
 use Rattle.c_kinds.specs.Scopes.{Env, Faults, fault, fault_if}
 use Rattle.c_kinds.specs.Typing.{typed, faults, constant_faults}
@@ -14,22 +14,24 @@ use Rattle.c_statements.specs.Declarations.{kinded, value_faults}
 use Rattle.c_statements.specs.Labels.{has_case, numbers, label_faults, labels_faults}
 use Rattle.c_statements.specs.Cases.{switch_faults}
 use Rattle.c_statements.specs.Cases as walked
-use Rattle.c_statements.specs.Statements.{behind_start, behind_item, behind_plain, behind_body, declared_by, is_null}
+use Rattle.c_statements.specs.Statements.{behind_start, behind_item, behind_plain, behind_body, declared_by, is_null, begins, is_element}
 use Rattle.c_statements.specs.Violations.{dropped_faults, optional_faults, declaration_faults, start_faults, return_faults, item_faults, plain_faults, statement_faults, body_faults, list_faults, switch_body_faults, outside_faults, outside_fault}
 use Rattle.rule_defs.specs.Declared.{DeclarationBreaks}
 use Rattle.rule_defs.specs.Expressions.{Role, NeedsValue, NeedsConstant, MayBeVoid, MayBeAnything, Within}
-use Rattle.rule_defs.specs.Places.{Place, env_of, within, within_loop, within_switch, past, behind, behind_name, behind_names, variables_of_plain, variables_of_body}
+use Rattle.rule_defs.specs.Places.{Place, env_of, within, within_loop, within_switch, behind_name, behind_names}
+use Rattle.rule_defs.specs.Slots.{past_body, behind}
 use Rattle.rule_defs.specs.Places as places
-use Rattle.rule_defs.specs.Statements.{InFunction, LabelBreaks, LabelsBreak, StatementBreaks, returned, WithinOption, StartBreaks, ItemBreaks, PlainBreaks, InStatement, BodyBreaks, ListBreaks}
+use Rattle.rule_defs.specs.Labels.{InFunction, each_once}
+use Rattle.rule_defs.specs.Statements.{LabelBreaks, LabelsBreak, StatementBreaks, returned, WithinOption, StartBreaks, ItemBreaks, PlainBreaks, InStatement, BodyBreaks, ListBreaks}
 use Rattle.rule_defs.specs.Switches.{body_entries, EntriesBreak, IsLost}
 use Rattle.rule_defs.specs.Violations.{broken}
 use Rattle.rule_laws.specs.Finds.{Finds}
 use Rattle.rule_laws.proofs.Finding.{Rule, finds_none, finds_both, finds_same, finds_as, finds_nothing, finds_fault, finds_if, finds_one}
-use Rattle.place_laws.proofs.Standing.{Stands, stands_item, stands_start, stands_plain, stands_body, stands_within}
+use Rattle.place_laws.proofs.Standing.{Stands, past_plain, stands_item, stands_start, stands_plain, stands_body, stands_within}
 use Rattle.place_laws.proofs.AlikeTerms.{typed_alike}
 use Rattle.body_rule_laws.proofs.Declared.{value_at, dropped_at, constant_at, any_at, declarators}
 use Rattle.body_rule_laws.proofs.Entries.{body as entries_alike, switch_entries}
-use Rattle.body_rule_laws.proofs.Labels.{label_known, known_label}
+use Rattle.program_laws.proofs.Labels.{label_known, known_label}
 
 not_true : (b : Bool) → not b ≡ true → b ≡ false
 not_true true e = absurd (true≢false (sym e))
@@ -67,7 +69,7 @@ start_around word NoStart p = refl
 start_around word (StartValue t) p = refl
 start_around word (StartNames d) p = names_around word (kinded word d) d.names p
 
-behind_around : (word : ℕ → List ℕ) (x : Item) (p : Place) → (behind word x p).around ≡ p.around
+behind_around : (word : ℕ → List ℕ) (x : Item) (p : Place) → (behind typed word x p).around ≡ p.around
 behind_around word (Declares first after d) p = names_around word (kinded word d) d.names p
 behind_around word (States ls s) p = refl
 
@@ -76,7 +78,7 @@ module _ (word : ℕ → List ℕ) (notes : Anchor → List (List ℕ)) (names :
   ctx = record { word = word; notes = notes; labels = numbers names; result = result }
 
   abbrev f : InFunction
-  f = record { word = word; labels = names; result = result }
+  f = record { word = word; notes = notes; labels = each_once names; result = result }
 
   at_within : (around : Around) (w : Walk) (p : Place) → IsAt around w p → IsAt around (enter w) (within p)
   at_within around w p s = record { stands = stands_within w p s.stands; same = s.same }
@@ -93,13 +95,13 @@ module _ (word : ℕ → List ℕ) (notes : Anchor → List (List ℕ)) (names :
   at_switch : (around : Around) (w : Walk) (p : Place) → IsAt around w p → IsAt (in_switch around) w (within_switch p)
   at_switch around w p s = record { stands = in_a_switch w p s.stands; same = ap in_switch s.same }
 
-  at_item : (around : Around) (x : Item) (w : Walk) (p : Place) → IsAt around w p → IsAt around (behind_item ctx x w) (behind word x p)
+  at_item : (around : Around) (x : Item) (w : Walk) (p : Place) → IsAt around w p → IsAt around (behind_item ctx x w) (behind typed word x p)
   at_item around x w p s = record { stands = stands_item ctx x w p s.stands; same = behind_around word x p ∙ s.same }
 
-  at_plain : (around : Around) (x : Plain) (w : Walk) (p : Place) → IsAt around w p → IsAt around (behind_plain ctx x w) (past (variables_of_plain x) p)
+  at_plain : (around : Around) (x : Plain) (w : Walk) (p : Place) → IsAt around w p → IsAt around (behind_plain ctx x w) (past_plain ctx.word x p)
   at_plain around x w p s = record { stands = stands_plain ctx x w p s.stands; same = s.same }
 
-  at_body : (around : Around) (b : Body) (w : Walk) (p : Place) → IsAt around w p → IsAt around (behind_body ctx b w) (past (variables_of_body b) p)
+  at_body : (around : Around) (b : Body) (w : Walk) (p : Place) → IsAt around w p → IsAt around (behind_body ctx b w) (past_body typed ctx.word b p)
   at_body around b w p s = record { stands = stands_body ctx b w p s.stands; same = s.same }
 
   at_start : (around : Around) (start : Start) (w : Walk) (p : Place) → IsAt around w p → IsAt around (behind_start ctx start w) (places.behind_start word start p)
@@ -117,10 +119,10 @@ module _ (word : ℕ → List ℕ) (notes : Anchor → List (List ℕ)) (names :
   optional k env role h None = finds_none
   optional k env role h (Some t) = h t
 
-  declaration : (d : Declaration) (w : Walk) (p : Place) → Stands w p → Finds (declaration_faults ctx d w) (λ v. DeclarationBreaks word p d v)
+  declaration : (d : Declaration) (w : Walk) (p : Place) → Stands w p → Finds (declaration_faults ctx d w) (λ v. DeclarationBreaks typed word p d v)
   declaration d w p s = declarators word (kinded word d) d.names w p s
 
-  starts : (start : Start) (w : Walk) (p : Place) → Stands w p → Finds (start_faults ctx start w) (λ v. StartBreaks word p start v)
+  starts : (start : Start) (w : Walk) (p : Place) → Stands w p → Finds (start_faults ctx start w) (λ v. StartBreaks typed word p start v)
   starts NoStart w p s = finds_none
   starts (StartValue t) w p s = effects w p s t
   starts (StartNames d) w p s = declaration d w p s
@@ -216,6 +218,20 @@ module _ (word : ℕ → List ℕ) (notes : Anchor → List (List ℕ)) (names :
 
   -- ---- what stands in a switch before its first section
 
+  abbrev Lost : Item → Items → Rule
+  Lost x xs v = ((is_element x ≡ true) × (v ≡ broken (item_first x) 29)) ⊎ IsLost xs v
+
+  lost : (x : Item) (xs : Items) → begins x ≡ false → (v : Fault) → Lost x xs v → IsLost (Then x xs) v
+  lost x xs e v (inl q) = subst (IsLost (Then x xs)) (sym q.1) (IsLost.lost e q.0)
+  lost x xs e v (inr k) = IsLost.lost_behind e k
+
+  lost_back : (x : Item) (xs : Items) (v : Fault) → IsLost (Then x xs) v → (begins x ≡ false) × Lost x xs v
+  lost_back x xs v (IsLost.lost e g) = (e, inl (g, refl))
+  lost_back x xs v (IsLost.lost_behind e k) = (e, inr k)
+
+  none_lost : (v : Fault) → IsLost NoItem v → ⊥
+  none_lost v h = elim h [ ]
+
   lost_declaration : (g h : Faults → Faults) (first after : ℕ) (d : Declaration) (xs : Items) (D L : Rule) → Finds g D → Finds h (λ v. L v ⊎ IsLost xs v)
       → Finds (λ vs. h (fault first 29 (g vs))) (λ v. (D v ⊎ L v) ⊎ IsLost (Then (Declares first after d) xs) v)
   lost_declaration g h first after d xs D L a b =
@@ -225,20 +241,19 @@ module _ (word : ℕ → List ℕ) (notes : Anchor → List (List ℕ)) (names :
     where
       to : (v : Fault) → D v ⊎ ((v ≡ broken first 29) ⊎ (L v ⊎ IsLost xs v)) → (D v ⊎ L v) ⊎ IsLost (Then (Declares first after d) xs) v
       to v (inl x) = inl (inl x)
-      to v (inr (inl e)) = inr (refl, inl (refl, e))
+      to v (inr (inl e)) = inr (lost (Declares first after d) xs refl v (inl (refl, e)))
       to v (inr (inr (inl l))) = inl (inr l)
-      to v (inr (inr (inr k))) = inr (refl, inr k)
+      to v (inr (inr (inr k))) = inr (lost (Declares first after d) xs refl v (inr k))
 
       fro : (v : Fault) → (D v ⊎ L v) ⊎ IsLost (Then (Declares first after d) xs) v → D v ⊎ ((v ≡ broken first 29) ⊎ (L v ⊎ IsLost xs v))
       fro v (inl (inl x)) = inl x
       fro v (inl (inr l)) = inr (inr (inl l))
-      fro v (inr (e, inl q)) = inr (inl q.1)
-      fro v (inr (e, inr k)) = inr (inr (inr k))
+      fro v (inr h) = elim (lost_back (Declares first after d) xs v h).1 [ inl q ↦ inr (inl q.1) | inr k ↦ inr (inr (inr k)) ]
 
   lost_statement : (b : Bool) (g h l : Faults → Faults) (ls : List Label) (x : Plain) (xs : Items) (I L : Rule) → has_case ls ≡ b → Finds g I → Finds h (λ v. L v ⊎ IsLost xs v) → Finds l L
       → Finds (λ vs. elim b [ true ↦ l (g vs) | false ↦ h (fault_if (not (is_null ls x)) (stated_first ls x) 29 (g vs)) ]) (λ v. (I v ⊎ L v) ⊎ IsLost (Then (States ls x) xs) v)
   lost_statement true g h l ls x xs I L e a b c =
-      finds_same (λ vs. l (g vs)) _ _ (finds_both g l I L a c) (λ v k. inl k) (λ v k. elim k [ inl q ↦ q | inr q ↦ absurd (true≢false (sym e ∙ q.0)) ])
+      finds_same (λ vs. l (g vs)) _ _ (finds_both g l I L a c) (λ v k. inl k) (λ v k. elim k [ inl q ↦ q | inr q ↦ absurd (true≢false (sym e ∙ (lost_back (States ls x) xs v q).0)) ])
   lost_statement false g h l ls x xs I L e a b c =
       finds_same (λ vs. h (fault_if (not (is_null ls x)) (stated_first ls x) 29 (g vs))) _ _
       (finds_both g (λ vs. h (fault_if (not (is_null ls x)) (stated_first ls x) 29 vs)) I _ a
@@ -247,39 +262,36 @@ module _ (word : ℕ → List ℕ) (notes : Anchor → List (List ℕ)) (names :
     where
       to : (v : Fault) → I v ⊎ (((not (is_null ls x) ≡ true) × (v ≡ broken (stated_first ls x) 29)) ⊎ (L v ⊎ IsLost xs v)) → (I v ⊎ L v) ⊎ IsLost (Then (States ls x) xs) v
       to v (inl y) = inl (inl y)
-      to v (inr (inl q)) = inr (e, inl q)
+      to v (inr (inl q)) = inr (lost (States ls x) xs e v (inl q))
       to v (inr (inr (inl k))) = inl (inr k)
-      to v (inr (inr (inr k))) = inr (e, inr k)
+      to v (inr (inr (inr k))) = inr (lost (States ls x) xs e v (inr k))
 
       fro : (v : Fault) → (I v ⊎ L v) ⊎ IsLost (Then (States ls x) xs) v → I v ⊎ (((not (is_null ls x) ≡ true) × (v ≡ broken (stated_first ls x) 29)) ⊎ (L v ⊎ IsLost xs v))
       fro v (inl (inl y)) = inl y
       fro v (inl (inr k)) = inr (inr (inl k))
-      fro v (inr (i, inl q)) = inr (inl q)
-      fro v (inr (i, inr k)) = inr (inr (inr k))
+      fro v (inr h) = elim (lost_back (States ls x) xs v h).1 [ inl q ↦ inr (inl q) | inr k ↦ inr (inr (inr k)) ]
 
   -- the one statement of a switch
   lost_alone : (b : Bool) (g : Faults → Faults) (ls : List Label) (x : Plain) (I : Rule) → has_case ls ≡ b → Finds g I
       → Finds (λ vs. fault_if (not (b || is_null ls x)) (stated_first ls x) 29 (g vs)) (λ v. I v ⊎ IsLost (Then (States ls x) NoItem) v)
-  lost_alone true g ls x I e a = finds_same g I _ a (λ v i. inl i) (λ v k. elim k [ inl i ↦ i | inr q ↦ absurd (true≢false (sym e ∙ q.0)) ])
+  lost_alone true g ls x I e a = finds_same g I _ a (λ v i. inl i) (λ v k. elim k [ inl i ↦ i | inr q ↦ absurd (true≢false (sym e ∙ (lost_back (States ls x) NoItem v q).0)) ])
   lost_alone false g ls x I e a =
       finds_same (λ vs. fault_if (not (is_null ls x)) (stated_first ls x) 29 (g vs)) _ _
       (finds_both g (fault_if (not (is_null ls x)) (stated_first ls x) 29) I _ a (finds_if (not (is_null ls x)) (stated_first ls x) 29))
-      (λ v k. elim k [ inl i ↦ inl i | inr q ↦ inr (e, inl q) ]) fro
+      (λ v k. elim k [ inl i ↦ inl i | inr q ↦ inr (lost (States ls x) NoItem e v (inl q)) ]) fro
     where
       fro : (v : Fault) → I v ⊎ IsLost (Then (States ls x) NoItem) v → I v ⊎ ((not (is_null ls x) ≡ true) × (v ≡ broken (stated_first ls x) 29))
       fro v (inl i) = inl i
-      fro v (inr (i, inl q)) = inr q
-      fro v (inr (i, inr k)) = absurd k
+      fro v (inr h) = elim (lost_back (States ls x) NoItem v h).1 [ inl q ↦ inr q | inr k ↦ absurd (none_lost v k) ]
 
   lost_one_declaration : (g : Faults → Faults) (first after : ℕ) (d : Declaration) (D : Rule) → Finds g D → Finds (λ vs. fault first 29 (g vs)) (λ v. D v ⊎ IsLost (Then (Declares first after d) NoItem) v)
   lost_one_declaration g first after d D a =
       finds_same (λ vs. fault first 29 (g vs)) _ _ (finds_both g (fault first 29) D _ a (finds_fault first 29))
-      (λ v k. elim k [ inl x ↦ inl x | inr e ↦ inr (refl, inl (refl, e)) ]) fro
+      (λ v k. elim k [ inl x ↦ inl x | inr e ↦ inr (lost (Declares first after d) NoItem refl v (inl (refl, e))) ]) fro
     where
       fro : (v : Fault) → D v ⊎ IsLost (Then (Declares first after d) NoItem) v → D v ⊎ (v ≡ broken first 29)
       fro v (inl x) = inl x
-      fro v (inr (i, inl q)) = inr q.1
-      fro v (inr (i, inr k)) = absurd k
+      fro v (inr h) = elim (lost_back (Declares first after d) NoItem v h).1 [ inl q ↦ inr q.1 | inr k ↦ absurd (none_lost v k) ]
 
   -- the parts of a switch
   parted : (A B C D : Rule) (g : Faults → Faults) → Finds g (λ v. A v ⊎ ((B v ⊎ C v) ⊎ D v)) → Finds g (λ v. A v ⊎ (B v ⊎ (C v ⊎ D v)))
@@ -299,23 +311,23 @@ module _ (word : ℕ → List ℕ) (notes : Anchor → List (List ℕ)) (names :
 
   switch_labels : (t : Term) (b : Body) (w : Walk) (p : Place) → Stands w p
       → Finds (switch_faults (option_map (λ x. x.kind) (value_of (typed (env_at ctx w) t))) (walked.body_entries ctx b w []))
-      (λ v. EntriesBreak (option_map (λ x. x.kind) (value_of (typed (env_of word p) t))) (body_entries word p b) v)
+      (λ v. EntriesBreak (option_map (λ x. x.kind) (value_of (typed (env_of word p) t))) (body_entries typed word p b) v)
   switch_labels t b w p s =
       finds_as (switch_faults (option_map (λ x. x.kind) (value_of (typed (env_at ctx w) t))) (walked.body_entries ctx b w [])) _ _
       (λ vs i. switch_faults (option_map (λ x. x.kind) (value_of (typed_alike word w.scopes p.scopes s.maps t i))) (entries_alike ctx b w p s [] i) vs)
-      (switch_entries (option_map (λ x. x.kind) (value_of (typed (env_of word p) t))) (body_entries word p b))
+      (switch_entries (option_map (λ x. x.kind) (value_of (typed (env_of word p) t))) (body_entries typed word p b))
 
   -- ---- statements
 
   mutual
-    pub item : (around : Around) (x : Item) (w : Walk) (p : Place) → IsAt around w p → Finds (item_faults ctx around x w) (λ v. ItemBreaks f p x v)
+    pub item : (around : Around) (x : Item) (w : Walk) (p : Place) → IsAt around w p → Finds (item_faults ctx around x w) (λ v. ItemBreaks typed f p x v)
     item around (Declares first after d) w p s = declaration d w p s.stands
     item around (States ls x) w p s = finds_both (labels_faults (env_at ctx w) around.switch ls) (plain_faults ctx around x w) _ _ (labels around w p s ls) (plain around x w p s)
 
-    plain : (around : Around) (x : Plain) (w : Walk) (p : Place) → IsAt around w p → Finds (plain_faults ctx around x w) (λ v. PlainBreaks f p x v)
+    plain : (around : Around) (x : Plain) (w : Walk) (p : Place) → IsAt around w p → Finds (plain_faults ctx around x w) (λ v. PlainBreaks typed f p x v)
     plain around (From first after x) w p s = statement around first x w p s
 
-    statement : (around : Around) (first : ℕ) (x : Statement) (w : Walk) (p : Place) → IsAt around w p → Finds (statement_faults ctx around first x w) (λ v. StatementBreaks f p.around first x v ⊎ InStatement f p x v)
+    statement : (around : Around) (first : ℕ) (x : Statement) (w : Walk) (p : Place) → IsAt around w p → Finds (statement_faults ctx around first x w) (λ v. StatementBreaks f p.around first x v ⊎ InStatement typed f p x v)
     statement around first Null w p s = in_front (λ vs. vs) (λ v. Own p first Null v) (λ v. ⊥) (λ v h. elim h [ ]) finds_none
     statement around first (Evaluate t) w p s = in_front (dropped_faults (env_at ctx w) t) (λ v. Own p first (Evaluate t) v) _ (λ v h. elim h [ ]) (effects w p s.stands t)
     statement around first (If t b) w p s =
@@ -324,7 +336,7 @@ module _ (word : ℕ → List ℕ) (notes : Anchor → List (List ℕ)) (names :
     statement around first (IfElse t b c) w p s =
         in_front (λ vs. body_faults ctx around c (behind_body ctx b w) (body_faults ctx around b w (value_faults (env_at ctx w) t vs))) (λ v. Own p first (IfElse t b c) v) _ (λ v h. elim h [ ])
         (finds_both (value_faults (env_at ctx w) t) (λ vs. body_faults ctx around c (behind_body ctx b w) (body_faults ctx around b w vs)) _ _ (values w p s.stands t)
-        (finds_both (body_faults ctx around b w) (body_faults ctx around c (behind_body ctx b w)) _ _ (body around b w p s) (body around c (behind_body ctx b w) (past (variables_of_body b) p) (at_body around b w p s))))
+        (finds_both (body_faults ctx around b w) (body_faults ctx around c (behind_body ctx b w)) _ _ (body around b w p s) (body around c (behind_body ctx b w) (past_body typed ctx.word b p) (at_body around b w p s))))
     statement around first (While t b) w p s =
         in_front (λ vs. body_faults ctx (in_loop around) b w (value_faults (env_at ctx w) t vs)) (λ v. Own p first (While t b) v) _ (λ v h. elim h [ ])
         (finds_both (value_faults (env_at ctx w) t) (body_faults ctx (in_loop around) b w) _ _ (values w p s.stands t) (body (in_loop around) b w (within_loop p) (at_loop around w p s)))
@@ -346,8 +358,8 @@ module _ (word : ℕ → List ℕ) (notes : Anchor → List (List ℕ)) (names :
         (body (in_loop around) b inner (within_loop q) (at_loop around inner q k)))))
     statement around first (Switch t b) w p s =
         in_front (statement_faults ctx around first (Switch t b) w) (λ v. Own p first (Switch t b) v) _ (λ v h. elim h [ ])
-        (parted (λ v. Within (env_of word p) NeedsValue t v) (λ v. BodyBreaks f (within_switch p) b v) (λ v. IsLost (items_in b) v)
-        (λ v. EntriesBreak (option_map (λ x. x.kind) (value_of (typed (env_of word p) t))) (body_entries word p b) v) (statement_faults ctx around first (Switch t b) w)
+        (parted (λ v. Within (env_of word p) NeedsValue t v) (λ v. BodyBreaks typed f (within_switch p) b v) (λ v. IsLost (items_in b) v)
+        (λ v. EntriesBreak (option_map (λ x. x.kind) (value_of (typed (env_of word p) t))) (body_entries typed word p b) v) (statement_faults ctx around first (Switch t b) w)
         (finds_both (value_faults (env_at ctx w) t)
         (λ vs. switch_faults (option_map (λ x. x.kind) (value_of (typed (env_at ctx w) t))) (walked.body_entries ctx b w []) (switch_body_faults ctx (in_switch around) b w vs)) _ _ (values w p s.stands t)
         (finds_both (switch_body_faults ctx (in_switch around) b w) (switch_faults (option_map (λ x. x.kind) (value_of (typed (env_at ctx w) t))) (walked.body_entries ctx b w [])) _ _
@@ -359,33 +371,33 @@ module _ (word : ℕ → List ℕ) (notes : Anchor → List (List ℕ)) (names :
     statement around first (Return o) w p s = returns first w p s.stands o
     statement around first Unread w p s = in_front (λ vs. vs) (λ v. Own p first Unread v) (λ v. ⊥) (λ v h. elim h [ ]) finds_none
 
-    body : (around : Around) (b : Body) (w : Walk) (p : Place) → IsAt around w p → Finds (body_faults ctx around b w) (λ v. BodyBreaks f p b v)
+    body : (around : Around) (b : Body) (w : Walk) (p : Place) → IsAt around w p → Finds (body_faults ctx around b w) (λ v. BodyBreaks typed f p b v)
     body around (Braces first after xs) w p s = list around xs (enter w) (within p) (at_within around w p s)
     body around (Lone first after x) w p s = item around x (enter w) (within p) (at_within around w p s)
 
-    pub list : (around : Around) (xs : Items) (w : Walk) (p : Place) → IsAt around w p → Finds (list_faults ctx around xs w) (λ v. ListBreaks f p xs v)
+    pub list : (around : Around) (xs : Items) (w : Walk) (p : Place) → IsAt around w p → Finds (list_faults ctx around xs w) (λ v. ListBreaks typed f p xs v)
     list around NoItem w p s = finds_none
     list around (Then x xs) w p s =
-        finds_both (item_faults ctx around x w) (list_faults ctx around xs (behind_item ctx x w)) _ _ (item around x w p s) (list around xs (behind_item ctx x w) (behind word x p) (at_item around x w p s))
+        finds_both (item_faults ctx around x w) (list_faults ctx around xs (behind_item ctx x w)) _ _ (item around x w p s) (list around xs (behind_item ctx x w) (behind typed word x p) (at_item around x w p s))
 
-    switch_body : (around : Around) (b : Body) (w : Walk) (p : Place) → IsAt around w p → Finds (switch_body_faults ctx around b w) (λ v. BodyBreaks f p b v ⊎ IsLost (items_in b) v)
+    switch_body : (around : Around) (b : Body) (w : Walk) (p : Place) → IsAt around w p → Finds (switch_body_faults ctx around b w) (λ v. BodyBreaks typed f p b v ⊎ IsLost (items_in b) v)
     switch_body around (Braces first after xs) w p s = outside around xs (enter w) (within p) (at_within around w p s)
     switch_body around (Lone first after x) w p s = outside_one around x (enter w) (within p) (at_within around w p s)
 
-    outside : (around : Around) (xs : Items) (w : Walk) (p : Place) → IsAt around w p → Finds (outside_faults ctx around xs w) (λ v. ListBreaks f p xs v ⊎ IsLost xs v)
-    outside around NoItem w p s = finds_nothing _ (λ v h. elim h [ inl a ↦ a | inr b ↦ b ])
+    outside : (around : Around) (xs : Items) (w : Walk) (p : Place) → IsAt around w p → Finds (outside_faults ctx around xs w) (λ v. ListBreaks typed f p xs v ⊎ IsLost xs v)
+    outside around NoItem w p s = finds_nothing _ (λ v h. elim h [ inl a ↦ a | inr b ↦ none_lost v b ])
     outside around (Then (Declares first after d) xs) w p s =
-        lost_declaration (declaration_faults ctx d w) (outside_faults ctx around xs (declared_by ctx d w)) first after d xs (λ v. DeclarationBreaks word p d v) (λ v. ListBreaks f (behind word (Declares first after d) p) xs v)
-        (declaration d w p s.stands) (outside around xs (declared_by ctx d w) (behind word (Declares first after d) p) (at_item around (Declares first after d) w p s))
+        lost_declaration (declaration_faults ctx d w) (outside_faults ctx around xs (declared_by ctx d w)) first after d xs (λ v. DeclarationBreaks typed word p d v) (λ v. ListBreaks typed f (behind typed word (Declares first after d) p) xs v)
+        (declaration d w p s.stands) (outside around xs (declared_by ctx d w) (behind typed word (Declares first after d) p) (at_item around (Declares first after d) w p s))
     outside around (Then (States ls x) xs) w p s =
         lost_statement (has_case ls) (λ vs. plain_faults ctx around x w (labels_faults (env_at ctx w) around.switch ls vs)) (outside_faults ctx around xs (behind_plain ctx x w)) (list_faults ctx around xs (behind_plain ctx x w))
-        ls x xs (λ v. ItemBreaks f p (States ls x) v) (λ v. ListBreaks f (behind word (States ls x) p) xs v) refl
+        ls x xs (λ v. ItemBreaks typed f p (States ls x) v) (λ v. ListBreaks typed f (behind typed word (States ls x) p) xs v) refl
         (finds_both (labels_faults (env_at ctx w) around.switch ls) (plain_faults ctx around x w) _ _ (labels around w p s ls) (plain around x w p s))
-        (outside around xs (behind_plain ctx x w) (behind word (States ls x) p) (at_plain around x w p s))
-        (list around xs (behind_plain ctx x w) (behind word (States ls x) p) (at_plain around x w p s))
+        (outside around xs (behind_plain ctx x w) (behind typed word (States ls x) p) (at_plain around x w p s))
+        (list around xs (behind_plain ctx x w) (behind typed word (States ls x) p) (at_plain around x w p s))
 
-    outside_one : (around : Around) (x : Item) (w : Walk) (p : Place) → IsAt around w p → Finds (outside_fault ctx around x w) (λ v. ItemBreaks f p x v ⊎ IsLost (Then x NoItem) v)
-    outside_one around (Declares first after d) w p s = lost_one_declaration (declaration_faults ctx d w) first after d (λ v. DeclarationBreaks word p d v) (declaration d w p s.stands)
+    outside_one : (around : Around) (x : Item) (w : Walk) (p : Place) → IsAt around w p → Finds (outside_fault ctx around x w) (λ v. ItemBreaks typed f p x v ⊎ IsLost (Then x NoItem) v)
+    outside_one around (Declares first after d) w p s = lost_one_declaration (declaration_faults ctx d w) first after d (λ v. DeclarationBreaks typed word p d v) (declaration d w p s.stands)
     outside_one around (States ls x) w p s =
-        lost_alone (has_case ls) (λ vs. plain_faults ctx around x w (labels_faults (env_at ctx w) around.switch ls vs)) ls x (λ v. ItemBreaks f p (States ls x) v) refl
+        lost_alone (has_case ls) (λ vs. plain_faults ctx around x w (labels_faults (env_at ctx w) around.switch ls vs)) ls x (λ v. ItemBreaks typed f p (States ls x) v) refl
         (finds_both (labels_faults (env_at ctx w) around.switch ls) (plain_faults ctx around x w) _ _ (labels around w p s ls) (plain around x w p s))

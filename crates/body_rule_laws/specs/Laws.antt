@@ -4,8 +4,9 @@ use Rattle.c_layers.specs.Tops.{Function}
 use Rattle.c_kinds.specs.Scopes.{Scope}
 use Rattle.c_statements.specs.declared.anchors.Anchor.{Anchor}
 use Rattle.c_statements.specs.Functions.{FlatCounts, function_faults}
+use Rattle.c_kinds.specs.Typing.{typed}
 use Rattle.rule_defs.specs.Functions.{FunctionBreaks}
 use Rattle.rule_laws.specs.Finds.{Finds}
 
 abbrev pub FunctionLaws : Type 0
-FunctionLaws = (flat : FlatCounts) (word : ℕ → List ℕ) (notes : Anchor → List (List ℕ)) (f : Function) (ss : List Scope) → Finds (function_faults flat word notes f ss) (λ v. FunctionBreaks flat word notes f ss v)
+FunctionLaws = (flat : FlatCounts) (word : ℕ → List ℕ) (notes : Anchor → List (List ℕ)) (f : Function) (ss : List Scope) → Finds (function_faults flat word notes f ss) (λ v. FunctionBreaks typed flat word notes f ss v)

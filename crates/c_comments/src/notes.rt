@@ -11,8 +11,8 @@ ghost use Rattle.c_comments.specs.Notes as spec;
 
 use crate::frames::{Walk, place};
 use c_grammar::Syntax;
-use c_lexer::{Span, Token};
 use c_layers::Words;
+use c_lexer::{Span, Token};
 use c_statements::Notes;
 use c_types::Memory;
 use std::alloc::Global;

@@ -23,7 +23,12 @@ use Rattle.c_layers.specs.Parts.{file_of}
 use Rattle.c_kinds.specs.declared.typed.Fault.{Fault}
 use Rattle.c_layers.specs.Tops.{Top}
 use Rattle.c_scopes.specs.Files.{File}
+use Rattle.c_kinds.specs.Typing.{typed}
+use Rattle.rule_defs.specs.Violations.{IsLeast, IsFaultless}
+use Rattle.rule_defs.specs.Typings.{Typing}
+use Rattle.rule_defs.specs.Files.{IsViolation}
 use Rattle.rule_defs.specs.Programs.{program, file_written}
+use Rattle.meaning_laws.proofs.Typings.{typed_typing, sole_typing}
 use Rattle.program_laws.proofs.TheLaws.{program_laws}
 use Rattle.file_rule_laws.proofs.TheLaws.{file_laws}
 use Rattle.c_scopes.specs.Resolving.{resolved, answer, program_of, violation_of, file_at, refused}
@@ -86,7 +91,7 @@ written t pieces xs = file_written counts_of t (tokens_of pieces) (comments_of p
 same_violation : (t : List ℕ) (pieces : List Piece) (xs : List Top) → violation_of (file_at counts_of t (tokens_of pieces) (comments_of pieces) xs) xs ≡ violation_of (written t pieces xs) xs
 same_violation t pieces xs = program_laws.violation counts_of t (tokens_of pieces) (comments_of pieces) xs
 
-pub same_program : (t : List ℕ) (pieces : List Piece) (xs : List Top) → program_of (file_at counts_of t (tokens_of pieces) (comments_of pieces) xs) xs ≡ program (written t pieces xs) xs
+pub same_program : (t : List ℕ) (pieces : List Piece) (xs : List Top) → program_of (file_at counts_of t (tokens_of pieces) (comments_of pieces) xs) xs ≡ program typed (written t pieces xs) xs
 same_program t pieces xs = program_laws.written counts_of t (tokens_of pieces) (comments_of pieces) xs
 
 violated : (t : List ℕ) (tokens : List Token) (p : Program) (v : Option Fault) (refusal : Refusal) → answer t tokens p v ≡ Err refusal
@@ -100,7 +105,7 @@ violation t refusal pieces x spells derives e =
     let xs = file_of (word_of t (tokens_of pieces)) x in
     let file = file_at counts_of t (tokens_of pieces) (comments_of pieces) xs in
     let v = violated t (tokens_of pieces) (program_of file xs) (violation_of file xs) refusal e in
-    record { pieces = pieces; spells = spells; syntax_of = x; derives = derives; violation = v.0; least = (file_laws.least (written t pieces xs) xs v.0).0 (sym (same_violation t pieces xs) ∙ v.1); place = v.2 }
+    record { pieces = pieces; spells = spells; syntax_of = x; derives = derives; typing = typed; types = typed_typing; violation = v.0; least = (file_laws.least (written t pieces xs) xs v.0).0 (sym (same_violation t pieces xs) ∙ v.1); place = v.2 }
 
 -- ---- the whole
 
@@ -151,7 +156,7 @@ program_as t p e =
     let xs = file_of (word_of t (tokens_of a.pieces)) a.syntax_of in
     let file = file_at counts_of t (tokens_of a.pieces) (comments_of a.pieces) xs in
     let g = answered t (tokens_of a.pieces) (program_of file xs) p (violation_of file xs) a.resolves in
-    record { pieces = a.pieces; spells = a.spells; syntax_of = a.syntax_of; derives = a.derives; faultless = (file_laws.faultless (written t a.pieces xs) xs).0 (sym (same_violation t a.pieces xs) ∙ g.0); is = g.1 ∙ same_program t a.pieces xs }
+    record { pieces = a.pieces; spells = a.spells; syntax_of = a.syntax_of; derives = a.derives; typing = typed; types = typed_typing; faultless = (file_laws.faultless (written t a.pieces xs) xs).0 (sym (same_violation t a.pieces xs) ∙ g.0); is = g.1 ∙ same_program t a.pieces xs }
 
 -- ---- and back: with such a fault, and with no other, it is refused
 
@@ -174,7 +179,7 @@ refused_back t refusal (inr (inr rule)) =
     let file = file_at counts_of t tokens (comments_of rule.pieces) xs in
     scanned_back t rule.pieces rule.spells
     ∙ ap (of_syntax counts_of t (scanned_of rule.pieces)) (parses t tokens rule.syntax_of rule.derives)
-    ∙ ap (answer t tokens (program_of file xs)) (same_violation t rule.pieces xs ∙ (file_laws.least (written t rule.pieces xs) xs rule.violation).1 rule.least)
+    ∙ ap (answer t tokens (program_of file xs)) (same_violation t rule.pieces xs ∙ (file_laws.least (written t rule.pieces xs) xs rule.violation).1 (subst (λ (typing : Typing). IsLeast (IsViolation typing (written t rule.pieces xs) xs) rule.violation) (sole_typing rule.typing rule.types) rule.least))
     ∙ ap Err (sym rule.place)
 
 -- and the program of a text is what it reads as
@@ -185,8 +190,8 @@ program_back t p h =
     let file = file_at counts_of t tokens (comments_of h.pieces) xs in
     scanned_back t h.pieces h.spells
     ∙ ap (of_syntax counts_of t (scanned_of h.pieces)) (parses t tokens h.syntax_of h.derives)
-    ∙ ap (answer t tokens (program_of file xs)) (same_violation t h.pieces xs ∙ (file_laws.faultless (written t h.pieces xs) xs).1 h.faultless)
-    ∙ ap Ok (same_program t h.pieces xs ∙ sym h.is)
+    ∙ ap (answer t tokens (program_of file xs)) (same_violation t h.pieces xs ∙ (file_laws.faultless (written t h.pieces xs) xs).1 (subst (λ (typing : Typing). IsFaultless (IsViolation typing (written t h.pieces xs) xs)) (sole_typing h.typing h.types) h.faultless))
+    ∙ ap Ok (same_program t h.pieces xs ∙ ap (λ (typing : Typing). program typing (written t h.pieces xs) xs) (sym (sole_typing h.typing h.types)) ∙ sym h.is)
 
 not_both : {A : Type 0} (o : Result A Refusal) (x : A) (r : Refusal) → o ≡ Ok x → o ≡ Err r → ⊥
 not_both o x r e g = cc

@@ -14,6 +14,7 @@ use Rattle.c_statements.specs.Functions.{FlatCounts}
 use Rattle.c_reading.specs.Reading.{reading as reading_with}
 use Rattle.c_scopes.specs.Resolving.{refused}
 use Rattle.rule_defs.specs.Violations.{IsLeast, IsFaultless}
+use Rattle.rule_defs.specs.Typings.{Typing, IsTyping}
 use Rattle.rule_defs.specs.Files.{IsViolation}
 use Rattle.rule_defs.specs.Programs.{program, file_written}
 use Rattle.c_tree.specs.declared.tree.Program.{Program}
@@ -43,25 +44,30 @@ pub record HasViolation (t : List ℕ) (refusal : Refusal) : Type 0 where
   pub spells : Spells pieces t
   pub syntax_of : Syntax
   pub derives : Derives (classes_of t (tokens_of pieces)) syntax_of
+  pub typing : Typing
+  pub types : IsTyping typing
   pub violation : Fault
-  pub least : IsLeast (IsViolation (file_written counts_of t (tokens_of pieces) (comments_of pieces) (file_of (word_of t (tokens_of pieces)) syntax_of)) (file_of (word_of t (tokens_of pieces)) syntax_of)) violation
+  pub least : IsLeast (IsViolation typing (file_written counts_of t (tokens_of pieces) (comments_of pieces) (file_of (word_of t (tokens_of pieces)) syntax_of)) (file_of (word_of t (tokens_of pieces)) syntax_of)) violation
   pub place : refusal ≡ refused t (tokens_of pieces) violation
 
--- the first fault of a text: of its bytes, else of its tokens, else of the rules for names, kinds and statements
+-- the first fault of a text: of its bytes, else of its tokens, else of the rules for names, kinds and statements; a text that is
+-- too long (reason 1) is refused before it is read
 abbrev pub IsRefusedFor : List ℕ → Refusal → Type 0
 IsRefusedFor t refusal = IsFirstFault t refusal ⊎ (HasFaultyToken t refusal ⊎ HasViolation t refusal)
 
 -- ---- what a text means
 
--- The text is spelled by good pieces, its tokens derive a file, no rule for names, kinds and statements is broken in that
--- one, and the program is the one that it writes, with the comments as Notes.
+-- The text is spelled by good pieces, its tokens derive a file, each expression is what it means, no rule for names, kinds
+-- and statements is broken in that file, and the program is the one that it writes, with the comments as Notes.
 pub record IsProgramOf (t : List ℕ) (p : Program) : Type 0 where
   pub pieces : List Piece
   pub spells : Spells pieces t
   pub syntax_of : Syntax
   pub derives : Derives (classes_of t (tokens_of pieces)) syntax_of
-  pub faultless : IsFaultless (IsViolation (file_written counts_of t (tokens_of pieces) (comments_of pieces) (file_of (word_of t (tokens_of pieces)) syntax_of)) (file_of (word_of t (tokens_of pieces)) syntax_of))
-  pub is : p ≡ program (file_written counts_of t (tokens_of pieces) (comments_of pieces) (file_of (word_of t (tokens_of pieces)) syntax_of)) (file_of (word_of t (tokens_of pieces)) syntax_of)
+  pub typing : Typing
+  pub types : IsTyping typing
+  pub faultless : IsFaultless (IsViolation typing (file_written counts_of t (tokens_of pieces) (comments_of pieces) (file_of (word_of t (tokens_of pieces)) syntax_of)) (file_of (word_of t (tokens_of pieces)) syntax_of))
+  pub is : p ≡ program typing (file_written counts_of t (tokens_of pieces) (comments_of pieces) (file_of (word_of t (tokens_of pieces)) syntax_of)) (file_of (word_of t (tokens_of pieces)) syntax_of)
 
 -- a text without fault
 abbrev pub IsInSubset : List ℕ → Type 0

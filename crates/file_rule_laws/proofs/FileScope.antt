@@ -19,11 +19,13 @@ use Rattle.c_statements.specs.Declarations.{shape_of, is_bad_array, size_faults,
 use Rattle.c_scopes.specs.Enums.{number_of, value_of, or_zero, enumerated, int_fault, number_first, given_faults, value_faults, enum_faults, an_int}
 use Rattle.c_scopes.specs.FileNames.{file_name_faults}
 use Rattle.c_scopes.specs.Globals.{global_declared, slot_faults, global_faults, globals_faults}
+use Rattle.rule_defs.specs.Written as written
 use Rattle.rule_defs.specs.Bindings.{IsDeclared, with_declaration}
 use Rattle.rule_defs.specs.Declared.{SizeBreaks, InitialiserBreaks}
 use Rattle.rule_defs.specs.Expressions.{NeedsConstant, Within}
-use Rattle.rule_defs.specs.FilePlaces.{names_at, enum_named, global_named}
-use Rattle.rule_defs.specs.Files.{NameBreaks, EnumeratorBreaks, GivenBreaks, EnumeratorsBreak, GlobalBreaks, GlobalsBreak}
+use Rattle.rule_defs.specs.FilePlaces.{names_at, InEnum, value_in, behind_enumerator, behind_enumerators, global_named, behind_variables}
+use Rattle.rule_defs.specs.Behind.{SomeBehind}
+use Rattle.rule_defs.specs.Files.{NameBreaks, EnumeratorBreaks, GivenBreaks, ConstantBreaks, GlobalBreaks, VariableBreaks}
 use Rattle.rule_defs.specs.Violations.{broken}
 use Rattle.rule_laws.specs.Finds.{Finds}
 use Rattle.rule_laws.proofs.Finding.{Rule, finds_none, finds_both, finds_same, finds_nothing, finds_if}
@@ -72,10 +74,10 @@ module _ (word : ℕ → List ℕ) where
       at = number_first e.name e.value
 
       abbrev number : Option ℤ
-      number = number_of (names_at word ss) e.value before
+      number = written.number_of typed (names_at word ss) e.value before
 
       abbrev Breaks : Rule
-      Breaks v = EnumeratorBreaks (names_at word ss) before e v
+      Breaks v = EnumeratorBreaks typed (names_at word ss) before e v
 
       some_same : (a b : ℤ) → number ≡ Some a → number ≡ Some b → a ≡ b
       some_same a b i j = cc
@@ -92,40 +94,45 @@ module _ (word : ℕ → List ℕ) where
           finds_same (fault_if (not (is_in_range Int n)) at 34) _ Breaks (finds_if (not (is_in_range Int n)) at 34)
           (λ v q. subst Breaks (sym q.1) (EnumeratorBreaks.no_int n i (untrue (is_in_range Int n) q.0))) fro
         where
-          fro : (v : Fault) → EnumeratorBreaks (names_at word ss) before e v → (not (is_in_range Int n) ≡ true) × (v ≡ broken at 34)
+          fro : (v : Fault) → EnumeratorBreaks typed (names_at word ss) before e v → (not (is_in_range Int n) ≡ true) × (v ≡ broken at 34)
           fro v (EnumeratorBreaks.no_int k j r) = (ap not (subst (λ z. is_in_range Int z ≡ false) (some_same k n j i) r), refl)
       by_number None i = finds_nothing Breaks no
         where
-          no : (v : Fault) → EnumeratorBreaks (names_at word ss) before e v → ⊥
+          no : (v : Fault) → EnumeratorBreaks typed (names_at word ss) before e v → ⊥
           no v (EnumeratorBreaks.no_int k j r) = some_none k j i
 
       int : Finds (int_fault at (number_of (names_at word ms) e.value before)) Breaks
       int = by_number (number_of (names_at word ms) e.value before) (sym (number_alike word ms ss m e.value before))
 
-  pub enumerators : (es : List Enumerator) (before : Option ℤ) (ms ss : List Scope) → AreMaps ms ss → Finds (enum_faults es before (names_at word ms)) (λ v. EnumeratorsBreak word ss before es v)
-  enumerators [] before ms ss m = finds_none
-  enumerators (e ∷ es) before ms ss m =
+  -- at one of these constants
+  abbrev EnumeratorsBreak : InEnum → List Enumerator → Rule
+  EnumeratorsBreak p es v = SomeBehind (λ front e. ConstantBreaks typed word (behind_enumerators typed word front p) e v) es
+
+  pub enumerators : (es : List Enumerator) (p : InEnum) (ms : List Scope) → AreMaps ms p.scopes → Finds (enum_faults es p.value (names_at word ms)) (EnumeratorsBreak p es)
+  enumerators [] p ms m = finds_none
+  enumerators (e ∷ es) p ms m =
       let env = names_at word ms in
-      let ours = value_of env e.value before in
-      let theirs = value_of (names_at word ss) e.value before in
-      finds_both (λ vs. file_name_faults e.name env (value_faults env e.name e.value before vs)) (enum_faults es ours (enumerated e ours env)) _ _
-      (finds_both (given_faults env e.value) (λ vs. file_name_faults e.name env (int_fault (number_first e.name e.value) (number_of env e.value before) vs)) _ _ (given ms ss m e.value)
-      (finds_both (int_fault (number_first e.name e.value) (number_of env e.value before)) (file_name_faults e.name env) _ _ (int ms ss m e before) (name ms ss m e.name)))
-      (subst (λ z. Finds (enum_faults es z (enumerated e z env)) (λ v. EnumeratorsBreak word (enum_named word e theirs ss) theirs es v)) (sym (value_alike word ms ss m e.value before))
-      (enumerators es theirs (bind (word e.name) (Constant (or_zero theirs)) ms) (enum_named word e theirs ss) (maps_bind (word e.name) (Constant (or_zero theirs)) (Constant (or_zero theirs)) ms ss refl m)))
+      let ours = value_of env e.value p.value in
+      let theirs = value_in typed word e p in
+      let q = behind_enumerator typed word e p in
+      finds_both (λ vs. file_name_faults e.name env (value_faults env e.name e.value p.value vs)) (enum_faults es ours (enumerated e ours env)) _ _
+      (finds_both (given_faults env e.value) (λ vs. file_name_faults e.name env (int_fault (number_first e.name e.value) (number_of env e.value p.value) vs)) _ _ (given ms p.scopes m e.value)
+      (finds_both (int_fault (number_first e.name e.value) (number_of env e.value p.value)) (file_name_faults e.name env) _ _ (int ms p.scopes m e p.value) (name ms p.scopes m e.name)))
+      (subst (λ z. Finds (enum_faults es z (enumerated e z env)) (EnumeratorsBreak q es)) (sym (value_alike word ms p.scopes m e.value p.value))
+      (enumerators es q (bind (word e.name) (Constant (or_zero theirs)) ms) (maps_bind (word e.name) (Constant (or_zero theirs)) (Constant (or_zero theirs)) ms p.scopes refl m)))
 
   -- ---- variables
 
   module _ (k : Kinded) where
-    bad : (ms ss : List Scope) → AreMaps ms ss → (d : Declarator) → Finds (fault_if (is_bad_array false (names_at word ms) d) d.name 35) (λ v. GlobalBreaks (names_at word ss) d v)
+    bad : (ms ss : List Scope) → AreMaps ms ss → (d : Declarator) → Finds (fault_if (is_bad_array false (names_at word ms) d) d.name 35) (λ v. GlobalBreaks typed (names_at word ss) d v)
     bad ms ss m d =
-        finds_same (fault_if (is_bad_array false (names_at word ms) d) d.name 35) _ (λ v. GlobalBreaks (names_at word ss) d v) (finds_if (is_bad_array false (names_at word ms) d) d.name 35)
-        (λ v q. subst (GlobalBreaks (names_at word ss) d) (sym q.1) (GlobalBreaks.bad_array (sym (bad_alike word ms ss m false d) ∙ q.0))) fro
+        finds_same (fault_if (is_bad_array false (names_at word ms) d) d.name 35) _ (λ v. GlobalBreaks typed (names_at word ss) d v) (finds_if (is_bad_array false (names_at word ms) d) d.name 35)
+        (λ v q. subst (GlobalBreaks typed (names_at word ss) d) (sym q.1) (GlobalBreaks.bad_array (sym (bad_alike word ms ss m false d) ∙ q.0))) fro
       where
-        fro : (v : Fault) → GlobalBreaks (names_at word ss) d v → (is_bad_array false (names_at word ms) d ≡ true) × (v ≡ broken d.name 35)
+        fro : (v : Fault) → GlobalBreaks typed (names_at word ss) d v → (is_bad_array false (names_at word ms) d ≡ true) × (v ≡ broken d.name 35)
         fro v (GlobalBreaks.bad_array e) = (bad_alike word ms ss m false d ∙ e, refl)
 
-    pub variables : (ds : List Declarator) (ms ss : List Scope) → AreMaps ms ss → Finds (globals_faults k ds (names_at word ms)) (λ v. GlobalsBreak word k ss ds v)
+    pub variables : (ds : List Declarator) (ms ss : List Scope) → AreMaps ms ss → Finds (globals_faults k ds (names_at word ms)) (λ v. SomeBehind (λ front d. VariableBreaks typed word k (behind_variables word k front ss) d v) ds)
     variables [] ms ss m = finds_none
     variables (d ∷ ds) ms ss m =
         let env = names_at word ms in

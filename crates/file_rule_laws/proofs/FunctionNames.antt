@@ -1,5 +1,5 @@
 -- What a walk finds at the name of a function.
-use Rattle.std.proofs.Common.{◌≡◌, ◌⊎◌, inl, inr, ℕ, Bool, true, false, cond, not, ◌&&◌, ◌||◌, List, [], ◌∷◌, ◌++◌, codes, Option, Some, None, refl, sym, ap, subst, ◌∙◌, bytes_eq, true≢false}
+use Rattle.std.proofs.Common.{◌≡◌, ◌⊎◌, inl, inr, ℕ, Bool, true, false, cond, not, ◌&&◌, ◌||◌, List, [], ◌∷◌, ◌++◌, codes, Option, Some, None, is_some, refl, sym, ap, subst, ◌∙◌, bytes_eq, true≢false}
 use Rattle.std.specs.declared.cmp.Ordering.{Ordering}
 use Rattle.std.specs.declared.cmp.Ordering.TheVariants.{Less, Equal, Greater}
 use Rattle.std.specs.Ordering.{match_ordering, is_eq}
@@ -14,15 +14,15 @@ use Rattle.c_kinds.specs.Scopes.{Env, Scope, Faults, fault, fault_if, bound, fou
 use Rattle.c_kinds.proofs.Entries.{same_names, names_same}
 use Rattle.c_scopes.specs.Files.{File}
 use Rattle.c_scopes.specs.FunctionNames.{has_function, with_function, has_body, with_body, again_faults, is_main_form, same_signature, signature_in, name_faults, function_name_faults}
-use Rattle.rule_defs.specs.Bindings.{IsDeclaredAs}
+use Rattle.rule_defs.specs.Bindings.{IsDeclared, IsDeclaredAs}
 use Rattle.rule_defs.specs.FilePlaces.{names_at}
-use Rattle.rule_defs.specs.Files.{IsDefinedIn, IsFunction, FunctionNameBreaks}
+use Rattle.rule_defs.specs.Files.{IsDefinedIn, FunctionNameBreaks}
 use Rattle.rule_defs.specs.Violations.{broken}
 use Rattle.rule_laws.specs.Finds.{Finds}
 use Rattle.rule_laws.proofs.Bound.{there, there_back}
 use Rattle.rule_laws.proofs.Finding.{Rule, finds_none, finds_both, finds_same, finds_fault, finds_if}
 use Rattle.place_laws.proofs.Standing.{AreMaps}
-use Rattle.place_laws.proofs.Scopes.{found_alike}
+use Rattle.place_laws.proofs.Scopes.{found_alike, is_declared, declared_is}
 
 -- ---- functions that have a body so far
 
@@ -165,8 +165,10 @@ module _ (file : File) (before : List Top) (bodies : List (List ℕ)) (defined :
   abbrev Parts : Rule
   Parts v = ((is_known name ≡ true) × (v ≡ broken f.name 21)) ⊎ (((main ≡ true) × (v ≡ broken f.name 36)) ⊎ again_rule f.name again own (bound name ss) v)
 
-  other : (b : Binding) → bound name ss ≡ Some b → (IsFunction b → ⊥) → (v : Fault) → v ≡ broken f.name 21 → Breaks v
-  other b e i v g = subst Breaks (sym g) (FunctionNameBreaks.other_kind b (declared_as name b ss e) i)
+  other : (b : Binding) → bound name ss ≡ Some b → ((s : Signature) → b ≡ binding.Function s → ⊥) → (v : Fault) → v ≡ broken f.name 21 → Breaks v
+  other b e i v g =
+      subst Breaks (sym g)
+      (FunctionNameBreaks.other_kind (is_declared name ss (ap is_some e)) (λ s h. let q : Some b ≡ Some (binding.Function s) = sym e ∙ as_declared name (binding.Function s) ss h in i s (cc)))
 
   declared_before : (o : Option Binding) → bound name ss ≡ o → (v : Fault) → again_rule f.name again own o v → Breaks v
   declared_before None e v h = absurd h
@@ -174,10 +176,10 @@ module _ (file : File) (before : List Top) (bodies : List (List ℕ)) (defined :
   declared_before (Some (binding.Function g)) e v (inr q) =
       let p = and_parts (has_body f) (has_function bodies name) q.0 in
       subst Breaks (sym q.1) (FunctionNameBreaks.second_body g (declared_as name (binding.Function g) ss e) p.0 ((defined name).0 p.1))
-  declared_before (Some (binding.Constant n)) e v h = other (binding.Constant n) e (λ i. i) v h
-  declared_before (Some (binding.Global shape)) e v h = other (binding.Global shape) e (λ i. i) v h
-  declared_before (Some (binding.Local slot shape)) e v h = other (binding.Local slot shape) e (λ i. i) v h
-  declared_before (Some binding.Printf) e v h = other binding.Printf e (λ i. i) v h
+  declared_before (Some (binding.Constant n)) e v h = other (binding.Constant n) e (λ s q. cc) v h
+  declared_before (Some (binding.Global shape)) e v h = other (binding.Global shape) e (λ s q. cc) v h
+  declared_before (Some (binding.Local slot shape)) e v h = other (binding.Local slot shape) e (λ s q. cc) v h
+  declared_before (Some binding.Printf) e v h = other binding.Printf e (λ s q. cc) v h
 
   to : (v : Fault) → Parts v → Breaks v
   to v (inl q) = subst Breaks (sym q.1) (FunctionNameBreaks.known_function q.0)
@@ -186,19 +188,20 @@ module _ (file : File) (before : List Top) (bodies : List (List ℕ)) (defined :
       subst Breaks (sym q.1) (FunctionNameBreaks.other_main (same_names name (codes "main") p.0) (untrue (is_main_form file.word f) p.1))
   to v (inr (inr h)) = declared_before (bound name ss) refl v h
 
-  other_rule : (b : Binding) → (IsFunction b → ⊥) → again_rule f.name again own (Some b) (broken f.name 21)
-  other_rule (binding.Function g) i = absurd (i tt)
-  other_rule (binding.Constant n) i = refl
-  other_rule (binding.Global shape) i = refl
-  other_rule (binding.Local slot shape) i = refl
-  other_rule binding.Printf i = refl
+  other_rule : (o : Option Binding) → bound name ss ≡ o → IsDeclared name ss → ((s : Signature) → IsDeclaredAs name (binding.Function s) ss → ⊥) → again_rule f.name again own o (broken f.name 21)
+  other_rule None e d i = absurd (true≢false (sym (declared_is name ss d) ∙ ap is_some e))
+  other_rule (Some (binding.Function g)) e d i = absurd (i g (declared_as name (binding.Function g) ss e))
+  other_rule (Some (binding.Constant n)) e d i = refl
+  other_rule (Some (binding.Global shape)) e d i = refl
+  other_rule (Some (binding.Local slot shape)) e d i = refl
+  other_rule (Some binding.Printf) e d i = refl
 
   known : (b : Binding) (v : Fault) → IsDeclaredAs name b ss → again_rule f.name again own (Some b) v → again_rule f.name again own (bound name ss) v
   known b v h r = subst (λ o. again_rule f.name again own o v) (sym (as_declared name b ss h)) r
 
   fro : (v : Fault) → FunctionNameBreaks file before ss f v → Parts v
   fro v (FunctionNameBreaks.known_function e) = inl (e, refl)
-  fro v (FunctionNameBreaks.other_kind b h i) = inr (inr (known b (broken f.name 21) h (other_rule b i)))
+  fro v (FunctionNameBreaks.other_kind d i) = inr (inr (other_rule (bound name ss) refl d i))
   fro v (FunctionNameBreaks.second_body g h e d) = inr (inr (known (binding.Function g) (broken f.name 21) h (inr (and_both (has_body f) (has_function bodies name) e ((defined name).1 d), refl))))
   fro v (FunctionNameBreaks.other_main e g) = inr (inl (and_both (bytes_eq name (codes "main")) (not (is_main_form file.word f)) (names_same name (codes "main") e) (ap not g), refl))
   fro v (FunctionNameBreaks.disagrees g h e) = inr (inr (known (binding.Function g) (broken f.name 37) h (inl (ap not e, refl))))

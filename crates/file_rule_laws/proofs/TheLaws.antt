@@ -1,6 +1,5 @@
 -- What a walk finds in a file, and what of that is reported.
-use Rattle.std.proofs.Common.{◌≡◌, ◌⊎◌, inl, inr, ℕ, List, [], ◌∷◌, ◌++◌, Option, Some, None, refl, true≢false, sym}
-use Rattle.std.specs.Prelude.{negsuc}
+use Rattle.std.proofs.Common.{◌≡◌, ◌⊎◌, inl, inr, ℕ, List, [], ◌∷◌, ◌++◌, Option, Some, None, refl, subst, true≢false, sym}
 use Rattle.c_layers.specs.Tops.{Function, Form, Line, Enum, Globals, Defines, Unread, Top, From}
 use Rattle.c_kinds.specs.declared.typed.Fault.{Fault}
 use Rattle.c_kinds.specs.Scopes.{Scope, Faults, known_scope}
@@ -10,23 +9,25 @@ use Rattle.c_scopes.specs.Files.{File, State, start, env_of, function_declared, 
 use Rattle.c_scopes.specs.Files as walked
 use Rattle.c_scopes.specs.FunctionNames.{with_body, function_name_faults}
 use Rattle.c_scopes.specs.Resolving.{violation_of}
-use Rattle.rule_defs.specs.FilePlaces.{names_at, file_start, function_named, behind_top}
-use Rattle.rule_defs.specs.Files.{IsDefinedIn, FormBreaks, TopBreaks, TopsBreak, IsViolation}
+use Rattle.c_kinds.specs.Typing.{typed}
+use Rattle.rule_defs.specs.FilePlaces.{names_at, file_start, enum_start, function_named, scopes_behind}
+use Rattle.rule_defs.specs.Files.{IsDefinedIn, FormBreaks, TopBreaks, IsViolation}
 use Rattle.rule_defs.specs.Violations.{IsLeast, IsFaultless}
 use Rattle.rule_laws.specs.Finds.{Finds}
 use Rattle.rule_laws.proofs.Finding.{finds_none, finds_both}
+use Rattle.rule_laws.proofs.Behind.{Behind, finds_behind}
 use Rattle.rule_laws.proofs.Least.{the_least, least_back, the_faultless, faultless_back}
 use Rattle.place_laws.proofs.Standing.{AreMaps}
-use Rattle.place_laws.proofs.FileStanding.{function_maps, top_maps}
+use Rattle.place_laws.proofs.FileStanding.{function_maps, top_maps, tops_more}
 use Rattle.body_rule_laws.proofs.Functions.{function}
 use Rattle.file_rule_laws.proofs.FileScope.{enumerators, variables}
 use Rattle.file_rule_laws.proofs.FunctionNames.{AreBodies, bodies_same, bodies_more, function_name}
 use Rattle.file_rule_laws.specs.Laws.{FileLaws}
 
 module _ (file : File) where
-  form : (x : Form) (before : List Top) (s : State) (ss : List Scope) → AreMaps s.scopes ss → AreBodies file.word before s.bodies → Finds (form_faults file x s) (λ v. FormBreaks file before ss x v)
+  form : (x : Form) (before : List Top) (s : State) (ss : List Scope) → AreMaps s.scopes ss → AreBodies file.word before s.bodies → Finds (form_faults file x s) (λ v. FormBreaks typed file before ss x v)
   form Line before s ss m b = finds_none
-  form (Enum es) before s ss m b = enumerators file.word es (Some (negsuc 0)) s.scopes ss m
+  form (Enum es) before s ss m b = enumerators file.word es (enum_start ss) s.scopes m
   form (Globals static d) before s ss m b = variables file.word (kinded file.word d) d.names s.scopes ss m
   form (Defines f) before s ss m b =
       finds_both (function_name_faults file.bodies s.bodies f (env_of file s)) (function_faults file.flat file.word file.notes f (function_declared file f s).scopes) _ _
@@ -41,20 +42,21 @@ module _ (file : File) where
   bodies (From first after (Defines f)) before s b = bodies_more file.word before first after f s.bodies b
   bodies (From first after Unread) before s b = bodies_same file.word before (From first after Unread) s.bodies (λ q h. h) b
 
-  top : (x : Top) (before : List Top) (s : State) (ss : List Scope) → AreMaps s.scopes ss → AreBodies file.word before s.bodies → Finds (top_faults file x s) (λ v. TopBreaks file before ss x v)
-  top (From first after x) before s ss m b = form x before s ss m b
+  top : (x : Top) (before : List Top) (s : State) → AreMaps s.scopes (scopes_behind typed file before) → AreBodies file.word before s.bodies → Finds (top_faults file x s) (λ v. TopBreaks typed file before x v)
+  top (From first after x) before s m b = form x before s (scopes_behind typed file before) m b
 
-  tops : (xs before : List Top) (s : State) (ss : List Scope) → AreMaps s.scopes ss → AreBodies file.word before s.bodies → Finds (file_faults file xs s) (λ v. TopsBreak file before ss xs v)
-  tops [] before s ss m b = finds_none
-  tops (x ∷ xs) before s ss m b =
-      finds_both (top_faults file x s) (file_faults file xs (walked.behind_top file x s)) _ _ (top x before s ss m b)
-      (tops xs (before ++ x ∷ []) (walked.behind_top file x s) (behind_top file x ss) (top_maps file x s ss m) (bodies x before s b))
+  tops : (xs before : List Top) (s : State) → AreMaps s.scopes (scopes_behind typed file before) → AreBodies file.word before s.bodies → Finds (file_faults file xs s) (λ v. Behind (λ b x. TopBreaks typed file b x v) before xs)
+  tops [] before s m b = finds_none
+  tops (x ∷ xs) before s m b =
+      finds_both (top_faults file x s) (file_faults file xs (walked.behind_top file x s)) _ _ (top x before s m b)
+      (tops xs (before ++ x ∷ []) (walked.behind_top file x s)
+      (subst (AreMaps (walked.behind_top file x s).scopes) (sym (tops_more file before x file_start)) (top_maps file x s (scopes_behind typed file before) m)) (bodies x before s b))
 
-  violations : (xs : List Top) → Finds (file_faults file xs start) (IsViolation file xs)
-  violations xs = tops xs [] start file_start (λ q. refl, (λ q. refl, tt)) (λ q. (λ e. absurd (true≢false (sym e)), λ h. absurd h))
+  violations : (xs : List Top) → Finds (file_faults file xs start) (IsViolation typed file xs)
+  violations xs = finds_behind (file_faults file xs start) (λ v b x. TopBreaks typed file b x v) xs (tops xs [] start (λ q. refl, (λ q. refl, tt)) (λ q. (λ e. absurd (true≢false (sym e)), λ h. absurd h)))
 
 pub file_laws : FileLaws
 file_laws = record {
-  least = λ file xs v. (the_least (file_faults file xs start) (IsViolation file xs) (violations file xs) v, least_back (file_faults file xs start) (IsViolation file xs) (violations file xs) v);
-  faultless = λ file xs. (the_faultless (file_faults file xs start) (IsViolation file xs) (violations file xs), faultless_back (file_faults file xs start) (IsViolation file xs) (violations file xs));
+  least = λ file xs v. (the_least (file_faults file xs start) (IsViolation typed file xs) (violations file xs) v, least_back (file_faults file xs start) (IsViolation typed file xs) (violations file xs) v);
+  faultless = λ file xs. (the_faultless (file_faults file xs start) (IsViolation typed file xs) (violations file xs), faultless_back (file_faults file xs start) (IsViolation typed file xs) (violations file xs));
 }

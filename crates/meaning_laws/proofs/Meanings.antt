@@ -123,7 +123,7 @@ is_writable y false e f = ap (λ b. cond b None (Some y)) e
 
 -- ---- operands
 
-value_right : (v : Valued) → Value v ≢ Wrong
+pub value_right : (v : Valued) → Value v ≢ Wrong
 value_right v e = cc
 
 value_is : (x : Typed) (v : Valued) → value_of x ≡ Some v → x ≡ Value v

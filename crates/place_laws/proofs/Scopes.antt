@@ -1,9 +1,9 @@
 -- The maps of a walk and the scopes of a place: a map of each scope finds what its declarations say.
-use Rattle.std.proofs.Common.{◌≡◌, ℕ, Bool, true, false, cond, List, [], ◌∷◌, ◌++◌, Option, Some, None, is_some, refl, ap, sym, ◌∙◌, bytes_eq, true≢false}
+use Rattle.std.proofs.Common.{◌≡◌, inl, inr, ℕ, Bool, true, false, cond, List, [], ◌∷◌, ◌++◌, Option, Some, None, is_some, refl, ap, sym, ◌∙◌, bytes_eq, true≢false}
 use Rattle.c_kinds.specs.declared.binding.Binding.{Binding}
 use Rattle.c_kinds.specs.Scopes.{Scope, found, look_up, or_else, with_name, with_entry, bind, bound, is_bound}
 use Rattle.c_kinds.proofs.Entries.{same_names, names_same, by_bool, found_new}
-use Rattle.rule_defs.specs.Bindings.{DeclaresNot, IsDeclared, with_declaration}
+use Rattle.rule_defs.specs.Bindings.{DeclaresAs, IsDeclared, with_declaration}
 
 -- each map finds in its scope the first declaration of a name
 abbrev pub AreMaps : List Scope → List Scope → Type 0
@@ -71,26 +71,25 @@ found_alike name (m ∷ ms) [] h = absurd h
 pub bound_alike : (name : List ℕ) (ms ss : List Scope) → AreMaps ms ss → is_bound name ms ≡ is_bound name ss
 bound_alike name ms ss h = ap is_some (found_alike name ms ss h)
 
-not_found : (name : List ℕ) (s : Scope) → DeclaresNot name s → found name s ≡ None
-not_found name [] h = refl
-not_found name (d ∷ ds) h = by_bool (bytes_eq name d.0)
-    (λ y. absurd (h.0 (sym (same_names name d.0 y))))
-    (λ n. ap (λ t. cond t (Some d.1) (found name ds)) n ∙ not_found name ds h.1)
+some_declared : (name : List ℕ) (s : Scope) → is_some (found name s) ≡ true → (b : Binding) × DeclaresAs name b s
+some_declared name [] e = absurd (true≢false (sym e))
+some_declared name (d ∷ ds) e = by_bool (bytes_eq name d.0)
+    (λ y. (d.1, inl (sym (same_names name d.0 y), refl)))
+    (λ n.
+    let h = some_declared name ds (ap (λ t. is_some (cond t (Some d.1) (found name ds))) (sym n) ∙ e) in
+    (h.0, inr (λ f. true≢false (sym (names_same name d.0 (sym f)) ∙ n), h.1)))
 
-found_not : (name : List ℕ) (s : Scope) → found name s ≡ None → DeclaresNot name s
-found_not name [] e = tt
-found_not name (d ∷ ds) e = by_bool (bytes_eq name d.0)
-    (λ y. let k : Some d.1 ≡ None = ap (λ t. cond t (Some d.1) (found name ds)) (sym y) ∙ e in cc)
-    (λ n. (λ f. true≢false (sym (names_same name d.0 (sym f)) ∙ n), found_not name ds (ap (λ t. cond t (Some d.1) (found name ds)) (sym n) ∙ e)))
+declared_some : (name : List ℕ) (b : Binding) (s : Scope) → DeclaresAs name b s → is_some (found name s) ≡ true
+declared_some name b [] h = absurd h
+declared_some name b (d ∷ ds) (inl p) = ap (λ t. is_some (cond t (Some d.1) (found name ds))) (names_same name d.0 (sym p.0))
+declared_some name b (d ∷ ds) (inr p) = by_bool (bytes_eq name d.0)
+    (λ y. ap (λ t. is_some (cond t (Some d.1) (found name ds))) y)
+    (λ n. ap (λ t. is_some (cond t (Some d.1) (found name ds))) n ∙ declared_some name b ds p.1)
 
 pub is_declared : (name : List ℕ) (ss : List Scope) → is_bound name ss ≡ true → IsDeclared name ss
-is_declared name [] e = true≢false (sym e)
-is_declared name (s ∷ ss) e = λ n. true≢false (sym e ∙ ap is_some (not_found name s n))
+is_declared name [] e = absurd (true≢false (sym e))
+is_declared name (s ∷ ss) e = some_declared name s e
 
 pub declared_is : (name : List ℕ) (ss : List Scope) → IsDeclared name ss → is_bound name ss ≡ true
-declared_is name [] h = absurd h
-declared_is name (s ∷ ss) h = by_found (found name s) refl
-  where
-    by_found : (o : Option Binding) → found name s ≡ o → is_some o ≡ true
-    by_found (Some b) e = refl
-    by_found None e = absurd (h (found_not name s e))
+declared_is name [] h = absurd h.1
+declared_is name (s ∷ ss) h = declared_some name h.0 s h.1

@@ -11,8 +11,10 @@ use Rattle.c_statements.specs.Declarations.{kinded, shape_of, slot_of, declared,
 use Rattle.c_statements.specs.Functions.{parameter_shape, parameter_slot, bind_parameter, bind_parameters}
 use Rattle.c_statements.specs.Functions as functions
 use Rattle.c_statements.specs.Statements.{behind_start as start_walked, behind_item, behind_plain, behind_statement, behind_body, behind_items}
+use Rattle.c_kinds.specs.Typing.{typed}
 use Rattle.rule_defs.specs.Bindings.{with_declaration}
-use Rattle.rule_defs.specs.Places.{Place, within, within_loop, within_switch, past, entered, behind, behind_name, behind_names, behind_start, behind_parameter, behind_parameters, variables_of_start, variables_in, variables_of_plain, variables_of_statement, variables_of_body, variables_of_list}
+use Rattle.rule_defs.specs.Places.{Place, within, within_loop, within_switch, past, entered, behind_name, behind_names, behind_start, behind_parameter, behind_parameters}
+use Rattle.rule_defs.specs.Slots.{slots_of_names, slots_of_start, slots_in, slots_of_plain, slots_of_statement, slots_of_body, slots_of_list, past_body, behind}
 pub use Rattle.place_laws.proofs.Scopes.{AreMaps}
 use Rattle.place_laws.proofs.Scopes.{maps_bind}
 
@@ -53,54 +55,61 @@ stands_start ctx (StartNames d) w p h = stands_names ctx.word (kinded ctx.word d
 
 -- ---- how many slots are more behind a statement
 
--- so many more, and then so many more
-in_turn : (a b m n : ℕ) {c : ℕ} → b ≡ a + m → c ≡ b + n → c ≡ a + (m + n)
-in_turn a b m n e f = f ∙ ap (λ z. z + n) e ∙ add_assoc a m n
+-- some more, and then some more
+in_turn : (a b : ℕ) (xs ys : List Slot) {c : ℕ} → b ≡ a + length xs → c ≡ b + length ys → c ≡ a + length (xs ++ ys)
+in_turn a b xs ys e f = f ∙ ap (λ z. z + length ys) e ∙ add_assoc a (length xs) (length ys) ∙ ap (λ z. a + z) (sym (length-append xs ys))
 
-names_count : (word : ℕ → List ℕ) (k : Kinded) (ds : List Declarator) (w : Walk) → length (all_declared word k ds w).slots ≡ length w.slots + length ds
-names_count word k [] w = sym (add-zero (length w.slots))
-names_count word k (d ∷ ds) w =
-    let e = names_count word k ds (declared word k d w) in
-    let f = one_more w.slots (slot_of (record { word = word; scopes = w.scopes }) k d) in
-    omega arith
+module _ (ctx : Context) where
+  names_count : (k : Kinded) (ds : List Declarator) (w : Walk) (p : Place) → length (all_declared ctx.word k ds w).slots ≡ length w.slots + length (slots_of_names typed ctx.word k ds p)
+  names_count k [] w p = sym (add-zero (length w.slots))
+  names_count k (d ∷ ds) w p =
+      let e = names_count k ds (declared ctx.word k d w) (behind_name ctx.word k d p) in
+      let f = one_more w.slots (slot_of (record { word = ctx.word; scopes = w.scopes }) k d) in
+      omega arith
 
-start_count : (ctx : Context) (s : Start) (w : Walk) → length (start_walked ctx s w).slots ≡ length w.slots + variables_of_start s
-start_count ctx NoStart w = sym (add-zero (length w.slots))
-start_count ctx (StartValue t) w = sym (add-zero (length w.slots))
-start_count ctx (StartNames d) w = names_count ctx.word (kinded ctx.word d) d.names w
+  start_count : (s : Start) (w : Walk) (p : Place) → length (start_walked ctx s w).slots ≡ length w.slots + length (slots_of_start typed ctx.word s p)
+  start_count NoStart w p = sym (add-zero (length w.slots))
+  start_count (StartValue t) w p = sym (add-zero (length w.slots))
+  start_count (StartNames d) w p = names_count (kinded ctx.word d) d.names w p
 
-mutual
-  item_count : (ctx : Context) (x : Item) (w : Walk) → length (behind_item ctx x w).slots ≡ length w.slots + variables_in x
-  item_count ctx (Declares first after d) w = names_count ctx.word (kinded ctx.word d) d.names w
-  item_count ctx (States ls p) w = plain_count ctx p w
+  mutual
+    item_count : (x : Item) (w : Walk) (p : Place) → length (behind_item ctx x w).slots ≡ length w.slots + length (slots_in typed ctx.word x p)
+    item_count (Declares first after d) w p = names_count (kinded ctx.word d) d.names w p
+    item_count (States ls s) w p = plain_count s w p
 
-  plain_count : (ctx : Context) (p : Plain) (w : Walk) → length (behind_plain ctx p w).slots ≡ length w.slots + variables_of_plain p
-  plain_count ctx (From first after s) w = statement_count ctx s w
+    plain_count : (s : Plain) (w : Walk) (p : Place) → length (behind_plain ctx s w).slots ≡ length w.slots + length (slots_of_plain typed ctx.word s p)
+    plain_count (From first after s) w p = statement_count s w p
 
-  statement_count : (ctx : Context) (s : Statement) (w : Walk) → length (behind_statement ctx s w).slots ≡ length w.slots + variables_of_statement s
-  statement_count ctx (If t b) w = body_count ctx b w
-  statement_count ctx (IfElse t b c) w = in_turn (length w.slots) (length (behind_body ctx b w).slots) (variables_of_body b) (variables_of_body c) (body_count ctx b w) (body_count ctx c (behind_body ctx b w))
-  statement_count ctx (While t b) w = body_count ctx b w
-  statement_count ctx (DoWhile b t) w = body_count ctx b w
-  statement_count ctx (For start t u b) w =
-      in_turn (length w.slots) (length (start_walked ctx start (enter w)).slots) (variables_of_start start) (variables_of_body b) (start_count ctx start (enter w)) (body_count ctx b (start_walked ctx start (enter w)))
-  statement_count ctx (Switch t b) w = body_count ctx b w
-  statement_count ctx (Block b) w = body_count ctx b w
-  statement_count ctx Null w = sym (add-zero (length w.slots))
-  statement_count ctx (Evaluate t) w = sym (add-zero (length w.slots))
-  statement_count ctx (Goto t) w = sym (add-zero (length w.slots))
-  statement_count ctx Break w = sym (add-zero (length w.slots))
-  statement_count ctx Continue w = sym (add-zero (length w.slots))
-  statement_count ctx (Return t) w = sym (add-zero (length w.slots))
-  statement_count ctx Unread w = sym (add-zero (length w.slots))
+    statement_count : (s : Statement) (w : Walk) (p : Place) → length (behind_statement ctx s w).slots ≡ length w.slots + length (slots_of_statement typed ctx.word s p)
+    statement_count (If t b) w p = body_count b w p
+    statement_count (IfElse t b c) w p =
+        let q = past_body typed ctx.word b p in
+        in_turn (length w.slots) (length (behind_body ctx b w).slots) (slots_of_body typed ctx.word b p) (slots_of_body typed ctx.word c q) (body_count b w p) (body_count c (behind_body ctx b w) q)
+    statement_count (While t b) w p = body_count b w p
+    statement_count (DoWhile b t) w p = body_count b w p
+    statement_count (For start t u b) w p =
+        let v = start_walked ctx start (enter w) in
+        let q = behind_start ctx.word start (within p) in
+        in_turn (length w.slots) (length v.slots) (slots_of_start typed ctx.word start (within p)) (slots_of_body typed ctx.word b q) (start_count start (enter w) (within p)) (body_count b v q)
+    statement_count (Switch t b) w p = body_count b w p
+    statement_count (Block b) w p = body_count b w p
+    statement_count Null w p = sym (add-zero (length w.slots))
+    statement_count (Evaluate t) w p = sym (add-zero (length w.slots))
+    statement_count (Goto t) w p = sym (add-zero (length w.slots))
+    statement_count Break w p = sym (add-zero (length w.slots))
+    statement_count Continue w p = sym (add-zero (length w.slots))
+    statement_count (Return t) w p = sym (add-zero (length w.slots))
+    statement_count Unread w p = sym (add-zero (length w.slots))
 
-  body_count : (ctx : Context) (b : Body) (w : Walk) → length (behind_body ctx b w).slots ≡ length w.slots + variables_of_body b
-  body_count ctx (Braces first after xs) w = list_count ctx xs (enter w)
-  body_count ctx (Lone first after x) w = item_count ctx x (enter w)
+    body_count : (b : Body) (w : Walk) (p : Place) → length (behind_body ctx b w).slots ≡ length w.slots + length (slots_of_body typed ctx.word b p)
+    body_count (Braces first after xs) w p = list_count xs (enter w) (within p)
+    body_count (Lone first after x) w p = item_count x (enter w) (within p)
 
-  list_count : (ctx : Context) (xs : Items) (w : Walk) → length (behind_items ctx xs w).slots ≡ length w.slots + variables_of_list xs
-  list_count ctx NoItem w = sym (add-zero (length w.slots))
-  list_count ctx (Then x xs) w = in_turn (length w.slots) (length (behind_item ctx x w).slots) (variables_in x) (variables_of_list xs) (item_count ctx x w) (list_count ctx xs (behind_item ctx x w))
+    list_count : (xs : Items) (w : Walk) (p : Place) → length (behind_items ctx xs w).slots ≡ length w.slots + length (slots_of_list typed ctx.word xs p)
+    list_count NoItem w p = sym (add-zero (length w.slots))
+    list_count (Then x xs) w p =
+        let q = behind typed ctx.word x p in
+        in_turn (length w.slots) (length (behind_item ctx x w).slots) (slots_in typed ctx.word x p) (slots_of_list typed ctx.word xs q) (item_count x w p) (list_count xs (behind_item ctx x w) q)
 
 -- the scopes are what they were
 body_scopes : (ctx : Context) (b : Body) (w : Walk) → (behind_body ctx b w).scopes ≡ w.scopes
@@ -128,16 +137,19 @@ stands_past w v p n h e f = record { maps = subst (λ ss. AreMaps ss p.scopes) (
 
 -- ---- behind items
 
-pub stands_body : (ctx : Context) (b : Body) (w : Walk) (p : Place) → Stands w p → Stands (behind_body ctx b w) (past (variables_of_body b) p)
-stands_body ctx b w p h = stands_past w (behind_body ctx b w) p (variables_of_body b) h (body_scopes ctx b w) (body_count ctx b w)
+pub stands_body : (ctx : Context) (b : Body) (w : Walk) (p : Place) → Stands w p → Stands (behind_body ctx b w) (past_body typed ctx.word b p)
+stands_body ctx b w p h = stands_past w (behind_body ctx b w) p (length (slots_of_body typed ctx.word b p)) h (body_scopes ctx b w) (body_count ctx b w p)
+
+abbrev pub past_plain : (ℕ → List ℕ) → Plain → Place → Place
+past_plain word s p = past (length (slots_of_plain typed word s p)) p
 
 plain_scopes : (ctx : Context) (s : Plain) (w : Walk) → (behind_plain ctx s w).scopes ≡ w.scopes
 plain_scopes ctx (From first after s) w = statement_scopes ctx s w
 
-pub stands_plain : (ctx : Context) (s : Plain) (w : Walk) (p : Place) → Stands w p → Stands (behind_plain ctx s w) (past (variables_of_plain s) p)
-stands_plain ctx s w p h = stands_past w (behind_plain ctx s w) p (variables_of_plain s) h (plain_scopes ctx s w) (plain_count ctx s w)
+pub stands_plain : (ctx : Context) (s : Plain) (w : Walk) (p : Place) → Stands w p → Stands (behind_plain ctx s w) (past_plain ctx.word s p)
+stands_plain ctx s w p h = stands_past w (behind_plain ctx s w) p (length (slots_of_plain typed ctx.word s p)) h (plain_scopes ctx s w) (plain_count ctx s w p)
 
-pub stands_item : (ctx : Context) (x : Item) (w : Walk) (p : Place) → Stands w p → Stands (behind_item ctx x w) (behind ctx.word x p)
+pub stands_item : (ctx : Context) (x : Item) (w : Walk) (p : Place) → Stands w p → Stands (behind_item ctx x w) (behind typed ctx.word x p)
 stands_item ctx (Declares first after d) w p h = stands_names ctx.word (kinded ctx.word d) d.names w p h
 stands_item ctx (States ls s) w p h = stands_plain ctx s w p h
 

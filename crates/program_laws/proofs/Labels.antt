@@ -1,5 +1,5 @@
 -- The labels of a function: the names that differ, and their places.
-use Rattle.std.proofs.Common.{◌≡◌, ℕ, suc, ◌+◌, Bool, true, false, not, ◌&&◌, cond, List, [], ◌∷◌, length, Option, Some, None, is_some, refl, ap, sym, ◌∙◌, arith, true≢false, bytes_eq}
+use Rattle.std.proofs.Common.{◌≡◌, ◌⊎◌, inl, inr, ℕ, suc, ◌+◌, Bool, true, false, not, ◌&&◌, cond, List, [], ◌∷◌, length, Option, Some, None, is_some, refl, ap, sym, ◌∙◌, arith, true≢false, bytes_eq}
 use Rattle.std.specs.List.{filter}
 use Rattle.std.specs.declared.cmp.Ordering.{Ordering}
 use Rattle.std.specs.declared.cmp.Ordering.TheVariants.{Less, Equal, Greater}
@@ -7,10 +7,11 @@ use Rattle.std.specs.Ordering.{match_ordering, is_eq}
 use Rattle.std.proofs.lemmas.Map.Text.{is_eq-slice_cmp}
 use Rattle.c_types.specs.Words.{name_cmp}
 use Rattle.c_kinds.specs.Scopes.{Names, found, with_entry, or_else}
-use Rattle.c_kinds.proofs.Entries.{same_names, by_bool, found_new}
+use Rattle.c_kinds.proofs.Entries.{same_names, names_same, by_bool, found_new}
 use Rattle.c_statements.specs.Context.{has_label, number_in}
 use Rattle.c_statements.specs.Labels.{numbers_from, numbers, new_name, distinct_from, distinct}
-use Rattle.rule_defs.specs.Labels.{each_once, placed}
+use Rattle.rule_defs.specs.Behind.{IsOne}
+use Rattle.rule_defs.specs.Labels.{each_once, label_number}
 
 -- ---- a name that is known, or not
 
@@ -108,6 +109,11 @@ names_once ns = distinct_is ns [] ∙ filter_all (each_once ns)
 
 -- ---- their places
 
+-- each with its place, counted from this number on
+abbrev placed : ℕ → List (List ℕ) → Names ℕ
+placed at [] = []
+placed at (n ∷ ns) = (n, at) ∷ placed (suc at) ns
+
 -- what a name has among those that are known and those that are placed behind them
 abbrev at_last : List ℕ → Names ℕ → List (List ℕ) → Option ℕ
 at_last q known ns = or_else (found q known) (found q (placed (length known) ns))
@@ -149,15 +155,54 @@ counts : (ns : List (List ℕ)) (known : Names ℕ) → length (numbers_from kno
 counts [] known = omega arith
 counts (n ∷ ns) known = count_by n ns known (has_label known n) (known_if n known) (λ m. counts ns m)
 
-placed_length : (at : ℕ) (ns : List (List ℕ)) → length (placed at ns) ≡ length ns
-placed_length at [] = refl
-placed_length at (n ∷ ns) = ap suc (placed_length (suc at) ns)
+found_placed : (ns : List (List ℕ)) (q : List ℕ) → found q (numbers ns) ≡ found q (placed 0 (each_once ns))
+found_placed ns q = places q ns [] ∙ ap (λ l. found q (placed 0 l)) (filter_all (each_once ns))
 
-pub number_same : (ns : List (List ℕ)) (q : List ℕ) → number_in (numbers ns) q ≡ number_in (placed 0 (each_once ns)) q
+-- the number that is found, or this one
+abbrev or_this : Option ℕ → ℕ → ℕ
+or_this o other = elim o [ Some n ↦ n | None ↦ other ]
+
+or_next : (t : Bool) (at l k : ℕ) (o : Option ℕ) → or_this o (suc at + l) ≡ suc at + k → or_this (cond t (Some at) o) (at + suc l) ≡ at + cond t 0 (suc k)
+or_next true at l k o h = let r : at ≡ at + 0 = omega arith in r
+or_next false at l k (Some n) h = let g : n ≡ suc at + k = h in let r : n ≡ at + suc k = omega arith in r
+or_next false at l k None h = let g : suc at + l ≡ suc at + k = h in let r : at + suc l ≡ at + suc k = omega arith in r
+
+place_counted : (q : List ℕ) (ns : List (List ℕ)) (at : ℕ) → or_this (found q (placed at ns)) (at + length ns) ≡ at + label_number ns q
+place_counted q [] at = let r : at + 0 ≡ at + 0 = refl in r
+place_counted q (n ∷ ns) at = or_next (bytes_eq q n) at (length ns) (label_number ns q) (found q (placed (suc at) ns)) (place_counted q ns (suc at))
+
+pub number_same : (ns : List (List ℕ)) (q : List ℕ) → number_in (numbers ns) q ≡ label_number (each_once ns) q
 number_same ns q =
-    let e : found q (numbers ns) ≡ found q (placed 0 (each_once ns)) = places q ns [] ∙ ap (λ l. found q (placed 0 l)) (filter_all (each_once ns)) in
+    let e = found_placed ns q in
     let k = counts ns [] in
     let a = ap length (filter_all (each_once ns)) in
-    let b = placed_length 0 (each_once ns) in
-    let f : length (numbers ns) ≡ length (placed 0 (each_once ns)) = omega arith in
-    λ i. elim (e i) [ Some k ↦ k | None ↦ f i ]
+    let f : length (numbers ns) ≡ 0 + length (each_once ns) = omega arith in
+    let g : or_this (found q (numbers ns)) (length (numbers ns)) ≡ or_this (found q (placed 0 (each_once ns))) (0 + length (each_once ns)) = λ i. or_this (e i) (f i) in
+    let h = place_counted q (each_once ns) 0 in
+    let j : number_in (numbers ns) q ≡ or_this (found q (numbers ns)) (length (numbers ns)) = refl in
+    let z : 0 + label_number (each_once ns) q ≡ label_number (each_once ns) q = omega arith in
+    j ∙ g ∙ h ∙ z
+
+-- ---- one of them
+
+one_placed : (q : List ℕ) (ns : List (List ℕ)) (at : ℕ) → is_some (found q (placed at ns)) ≡ true → IsOne q ns
+one_placed q [] at e = true≢false (sym e)
+one_placed q (n ∷ ns) at e = by_bool (bytes_eq q n)
+    (λ y. inl (same_names q n y))
+    (λ f. inr (one_placed q ns (suc at) (ap (λ t. is_some (cond t (Some at) (found q (placed (suc at) ns)))) (sym f) ∙ e)))
+
+behind_one : (q n : List ℕ) (ns : List (List ℕ)) (at : ℕ) → bytes_eq q n ≡ false → (q ≡ n) ⊎ IsOne q ns → (IsOne q ns → is_some (found q (placed at ns)) ≡ true) → is_some (found q (placed at ns)) ≡ true
+behind_one q n ns at f (inl e) g = absurd (true≢false (sym (names_same q n e) ∙ f))
+behind_one q n ns at f (inr k) g = g k
+
+placed_one : (q : List ℕ) (ns : List (List ℕ)) (at : ℕ) → IsOne q ns → is_some (found q (placed at ns)) ≡ true
+placed_one q [] at h = absurd h
+placed_one q (n ∷ ns) at h = by_bool (bytes_eq q n)
+    (λ y. ap (λ t. is_some (cond t (Some at) (found q (placed (suc at) ns)))) y)
+    (λ f. ap (λ t. is_some (cond t (Some at) (found q (placed (suc at) ns)))) f ∙ behind_one q n ns (suc at) f h (λ k. placed_one q ns (suc at) k))
+
+pub label_known : (ns : List (List ℕ)) (q : List ℕ) → has_label (numbers ns) q ≡ true → IsOne q (each_once ns)
+label_known ns q e = one_placed q (each_once ns) 0 (ap is_some (sym (found_placed ns q)) ∙ e)
+
+pub known_label : (ns : List (List ℕ)) (q : List ℕ) → IsOne q (each_once ns) → has_label (numbers ns) q ≡ true
+known_label ns q h = ap is_some (found_placed ns q) ∙ placed_one q (each_once ns) 0 h

@@ -1,7 +1,10 @@
+pub mod Sections
 pub mod Items
 pub mod Slots
 pub mod Labels
+pub mod WalkedLabels
 pub mod Functions
 pub mod Programs
+pub mod Comments
 pub mod SameFunctions
 pub mod TheLaws

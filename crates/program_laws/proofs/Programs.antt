@@ -1,12 +1,13 @@
 -- What stands at file scope, and the whole.
-use Rattle.std.proofs.Common.{◌≡◌, ℕ, ℤ, negsuc, Bool, true, false, ◌||◌, cond, List, [], ◌∷◌, ◌++◌, Option, Some, is_some, refl, ap, sym, subst, ◌∙◌, bytes_eq}
-use Rattle.std.specs.Prelude.{option_map}
+use Rattle.std.proofs.Common.{◌≡◌, ℕ, Bool, true, false, ◌||◌, cond, List, [], ◌∷◌, ◌++◌, is_some, refl, ap, sym, subst, ◌∙◌, append_assoc, bytes_eq}
+use Rattle.std.specs.Prelude.{option_map, flat_map}
 use Rattle.std.specs.BTreeSet.{insert_key}
 use Rattle.std.specs.declared.cmp.Ordering.{Ordering}
 use Rattle.std.specs.declared.cmp.Ordering.TheVariants.{Less, Equal, Greater}
 use Rattle.std.specs.Ordering.{match_ordering, is_eq}
 use Rattle.std.proofs.lemmas.Map.Text.{is_eq-slice_cmp}
 use Rattle.c_types.specs.Words.{name_cmp}
+use Rattle.c_tree.specs.declared.tree.Top as tree_top
 use Rattle.c_tree.specs.declared.tree.Top.TheVariants as top
 use Rattle.c_layers.specs.Items.{Declarator}
 use Rattle.c_layers.specs.Tops.{Enumerator, Function, Form, Line, Enum, Globals, Defines, Unread, Top, From}
@@ -14,7 +15,7 @@ use Rattle.c_kinds.specs.declared.binding.Binding.TheVariants.{Constant, Global}
 use Rattle.c_kinds.specs.Scopes.{Scope, bind}
 use Rattle.c_kinds.proofs.Entries.{same_names}
 use Rattle.c_statements.specs.declared.extents.Kinded.{Kinded}
-use Rattle.c_statements.specs.declared.anchors.Anchor.TheVariants.{Before}
+use Rattle.c_statements.specs.declared.anchors.Anchor.TheVariants.{Before, Last}
 use Rattle.c_statements.specs.Context.{Walk, no_construct}
 use Rattle.c_statements.specs.Declarations.{kinded, shape_of, initial}
 use Rattle.c_scopes.specs.Enums.{value_of, or_zero}
@@ -24,9 +25,11 @@ use Rattle.c_scopes.specs.FunctionNames.{has_function, bodies_of}
 use Rattle.c_scopes.specs.Files.{File, State, start}
 use Rattle.c_scopes.specs.Files as walked
 use Rattle.c_scopes.specs.Resolving.{program_of}
+use Rattle.c_kinds.specs.Typing.{typed}
 use Rattle.rule_defs.specs.Places.{Place}
-use Rattle.rule_defs.specs.FilePlaces.{names_at, file_start, enum_named, global_named, function_named, behind_form}
-use Rattle.rule_defs.specs.Programs.{enum_items, globals, form_tops, tops_of, program, defined}
+use Rattle.rule_defs.specs.FilePlaces.{names_at, file_start, InEnum, enum_start, behind_enumerator, global_named, function_named, behind_form, behind_tops}
+use Rattle.rule_defs.specs.Behind.{each_behind}
+use Rattle.rule_defs.specs.Programs.{enum_items, globals, form_tops, top_tops, program, defined}
 use Rattle.place_laws.proofs.FileStanding.{start_maps, value_alike, enum_maps, global_maps, function_maps, form_maps}
 use Rattle.place_laws.proofs.Standing.{AreMaps, Stands}
 use Rattle.program_laws.proofs.Items.{constant_same, slot_same}
@@ -82,16 +85,16 @@ stands_file : (ms ss : List Scope) → AreMaps ms ss → Stands (file_walk ms) (
 stands_file ms ss h = record { maps = h; count = refl }
 
 module _ (word : ℕ → List ℕ) where
-  enums_same : (es : List Enumerator) (before : Option ℤ) (ms ss : List Scope) → AreMaps ms ss → enums.enum_items es before (names_at word ms) ≡ enum_items word es before ss
-  enums_same [] before ms ss h = refl
-  enums_same (e ∷ es) before ms ss h =
-      let v = value_of (names_at word ms) e.value before in
-      let same = value_alike word ms ss h e.value before in
-      let later = enum_named word e (value_of (names_at word ss) e.value before) ss in
-      let rest = enums_same es v (bind (word e.name) (Constant (or_zero v)) ms) later (enum_maps word e before ms ss h) ∙ ap (λ z. enum_items word es z later) same in
-      λ i. record { name = word e.name; given = option_map (λ t. constant_same word (file_walk ms) (file_place ss) (stands_file ms ss h) t i) e.value; value = or_zero (same i) } ∷ rest i
+  enums_same : (es : List Enumerator) (p : InEnum) (ms : List Scope) → AreMaps ms p.scopes → enums.enum_items es p.value (names_at word ms) ≡ enum_items typed word es p
+  enums_same [] p ms h = refl
+  enums_same (e ∷ es) p ms h =
+      let v = value_of (names_at word ms) e.value p.value in
+      let same = value_alike word ms p.scopes h e.value p.value in
+      let ns = bind (word e.name) (Constant (or_zero v)) ms in
+      let rest = ap (λ z. enums.enum_items es z (names_at word ns)) same ∙ enums_same es (behind_enumerator typed word e p) ns (enum_maps word e p ms h) in
+      λ i. record { name = word e.name; given = option_map (λ t. constant_same word (file_walk ms) (file_place p.scopes) (stands_file ms p.scopes h) t i) e.value; value = or_zero (same i) } ∷ rest i
 
-  globals_same : (static : Bool) (k : Kinded) (ds : List Declarator) (ms ss : List Scope) → AreMaps ms ss → walked_globals.globals static k ds (names_at word ms) ≡ globals word static k ds ss
+  globals_same : (static : Bool) (k : Kinded) (ds : List Declarator) (ms ss : List Scope) → AreMaps ms ss → walked_globals.globals static k ds (names_at word ms) ≡ globals typed word static k ds ss
   globals_same static k [] ms ss h = refl
   globals_same static k (d ∷ ds) ms ss h =
       let ns = bind (word d.name) (Global (shape_of k d)) ms in
@@ -107,17 +110,23 @@ module _ (word : ℕ → List ℕ) where
 -- ---- the whole
 
 module _ (file : File) where
-  form_same : (first : ℕ) (form : Form) (s : State) (ss : List Scope) → AreMaps s.scopes ss → walked.form_tops file first form s ≡ form_tops file first form ss
+  form_same : (first : ℕ) (form : Form) (s : State) (ss : List Scope) → AreMaps s.scopes ss → walked.form_tops file first form s ≡ form_tops typed file first form ss
   form_same first Line s ss h = refl
-  form_same first (Enum es) s ss h = λ i. top.Enum (enums_same file.word es (Some (negsuc 0)) s.scopes ss h i) ∷ []
+  form_same first (Enum es) s ss h = λ i. top.Enum (enums_same file.word es (enum_start ss) s.scopes h i) ∷ []
   form_same first (Globals static d) s ss h = globals_same file.word static (kinded file.word d) d.names s.scopes ss h
   form_same first (Defines f) s ss h = λ i. top.Function (function_same file.word file.notes f (walked.function_declared file f s).scopes (function_named file f ss) (function_maps file f s ss h) i) ∷ []
   form_same first Unread s ss h = refl
 
-  tops_same : (xs : List Top) (s : State) (ss : List Scope) → AreMaps s.scopes ss → walked.tops_of file xs s ≡ tops_of file xs ss
+  -- those of these, behind what is in the scopes, without the Notes at the end
+  abbrev tops_of : List Top → List Scope → List tree_top.Top
+  tops_of xs ss = flat_map (λ ts. ts) (each_behind (λ before x. top_tops typed file x (behind_tops typed file before ss)) xs)
+
+  tops_same : (xs : List Top) (s : State) (ss : List Scope) → AreMaps s.scopes ss → walked.tops_of file xs s ≡ tops_of xs ss ++ walked.notes_tops file Last
   tops_same [] s ss h = refl
   tops_same (From first after form ∷ xs) s ss h =
-      λ i. (walked.notes_tops file (Before first) ++ form_same first form s ss h i) ++ tops_same xs (walked.behind_form file form s) (behind_form file form ss) (form_maps file form s ss h) i
+      let rest = behind_form typed file form ss in
+      (λ i. (walked.notes_tops file (Before first) ++ form_same first form s ss h i) ++ tops_same xs (walked.behind_form file form s) rest (form_maps file form s ss h) i)
+      ∙ sym (append_assoc (top_tops typed file (From first after form) ss) (tops_of xs rest) (walked.notes_tops file Last))
 
-  pub program_same : (xs : List Top) → program_of file xs ≡ program file xs
+  pub program_same : (xs : List Top) → program_of file xs ≡ program typed file xs
   program_same xs = λ i. record { tops = tops_same xs start file_start start_maps i }

@@ -13,7 +13,9 @@ use Rattle.c_scopes.specs.FileNames.{bound_in}
 use Rattle.c_scopes.specs.FunctionNames.{has_function, with_body, signature_in, name_faults}
 use Rattle.c_scopes.specs.Files.{File, State, env_of, start, notes_tops, function_declared, behind_form, form_tops, form_faults, tops_of, file_faults}
 use Rattle.c_scopes.specs.Resolving.{file_at, program_of, violation_of, least}
+use Rattle.c_kinds.specs.Typing.{typed}
 use Rattle.rule_defs.specs.Programs.{program, defined, file_written}
+use Rattle.program_laws.proofs.Comments.{notes_same}
 use Rattle.program_laws.proofs.Programs.{program_same, defined_same}
 
 module _ (file : File) (bodies : List (List ℕ)) (same : (name : List ℕ) → has_function file.bodies name ≡ has_function bodies name) where
@@ -57,12 +59,19 @@ module _ (file : File) (bodies : List (List ℕ)) (same : (name : List ℕ) → 
   faults_same (From first after form ∷ xs) s vs = λ i. faults_same xs (form_behind form s i) (faults_of_form form s vs i) i
 
 module _ (flat : FlatCounts) (text : List ℕ) (tokens : List Token) (comments : List Span) (xs : List Top) where
+  -- with the comments at their places
+  noted : again (file_at flat text tokens comments xs) (defined (word_of text tokens) xs) (defined_same (word_of text tokens) xs) ≡ file_written flat text tokens comments xs
+  noted = λ i. record { word = word_of text tokens; notes = notes_same text tokens comments xs i; bodies = defined (word_of text tokens) xs; flat = flat }
+
   -- the file of a text breaks the same rules
   pub violation_written : violation_of (file_at flat text tokens comments xs) xs ≡ violation_of (file_written flat text tokens comments xs) xs
-  violation_written = ap least (faults_same (file_at flat text tokens comments xs) (defined (word_of text tokens) xs) (defined_same (word_of text tokens) xs) xs start [])
+  violation_written =
+      ap least (faults_same (file_at flat text tokens comments xs) (defined (word_of text tokens) xs) (defined_same (word_of text tokens) xs) xs start [])
+      ∙ (λ i. violation_of (noted i) xs)
 
   -- and is the same program
-  pub program_written : program_of (file_at flat text tokens comments xs) xs ≡ program (file_written flat text tokens comments xs) xs
+  pub program_written : program_of (file_at flat text tokens comments xs) xs ≡ program typed (file_written flat text tokens comments xs) xs
   program_written =
       (λ i. record { tops = tops_same (file_at flat text tokens comments xs) (defined (word_of text tokens) xs) (defined_same (word_of text tokens) xs) xs start i })
+      ∙ (λ i. program_of (noted i) xs)
       ∙ program_same (file_written flat text tokens comments xs) xs

@@ -8,7 +8,7 @@ abbrev pub DeclaresNot : List ℕ → Scope → Type 0
 DeclaresNot name [] = Unit {0}
 DeclaresNot name (d ∷ ds) = (d.0 ≢ name) × DeclaresNot name ds
 
--- the first declaration of the name in the scope binds it to b
+-- the first declaration of the name in the scope binds it to b; a later one is a violation, unless both declare one function
 abbrev pub DeclaresAs : List ℕ → Binding → Scope → Type 0
 DeclaresAs name b [] = ⊥
 DeclaresAs name b (d ∷ ds) = ((d.0 ≡ name) × (d.1 ≡ b)) ⊎ ((d.0 ≢ name) × DeclaresAs name b ds)
@@ -28,12 +28,11 @@ abbrev pub with_declaration : List ℕ → Binding → List Scope → List Scope
 with_declaration name b [] = []
 with_declaration name b (s ∷ ss) = (s ++ (name, b) ∷ []) ∷ ss
 
--- the nearest scope declares the name already
-abbrev pub IsDeclared : List ℕ → List Scope → Type 0
-IsDeclared name [] = ⊥
-IsDeclared name (s ∷ ss) = DeclaresNot name s → ⊥
-
 -- the nearest scope declares the name, first so
 abbrev pub IsDeclaredAs : List ℕ → Binding → List Scope → Type 0
 IsDeclaredAs name b [] = ⊥
 IsDeclaredAs name b (s ∷ ss) = DeclaresAs name b s
+
+-- the nearest scope declares the name already
+abbrev pub IsDeclared : List ℕ → List Scope → Type 0
+IsDeclared name ss = (b : Binding) × IsDeclaredAs name b ss

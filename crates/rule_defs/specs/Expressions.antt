@@ -1,5 +1,6 @@
 -- The rules for expressions (ISO/IEC 9899:2011, 6.5 and 6.6).
-use Rattle.std.specs.Prelude.{◌≡◌, ◌⊎◌, ℕ, Bool, true, false, not, List, Some, None}
+use Rattle.std.specs.Prelude.{◌≡◌, ◌⊎◌, ℕ, ℤ, Bool, true, false, not, List, Some, None}
+use Rattle.c_tree.specs.declared.tree.Expression.{Expression}
 use Rattle.c_tree.specs.declared.tree.Node.{Node}
 use Rattle.c_lexer.specs.Marks.{mark_of}
 use Rattle.c_layers.specs.Terms.{Term, Form, Terms, At, Variable, Cell, Prefix, Suffix, CastTo, CastVoid, Binary, Choice, Assign, Commas, Call, NoTerm, Then, first_of}
@@ -8,16 +9,16 @@ use Rattle.c_kinds.specs.declared.binding.Binding.TheVariants.{Global, Local, Fu
 use Rattle.c_kinds.specs.declared.typed.Fault.{Fault}
 use Rattle.c_kinds.specs.declared.typed.ArrayName.{ArrayName}
 use Rattle.c_kinds.specs.declared.typed.Typed.TheVariants.{Void, Text, Array}
-use Rattle.c_kinds.specs.Constants.{constant_of}
 use Rattle.c_kinds.specs.Marks.{step_of}
 use Rattle.c_kinds.specs.Scopes.{Env}
-use Rattle.c_kinds.specs.Typing.{typed}
 use Rattle.rule_defs.specs.Bindings.{IsBoundTo, IsUnbound}
 use Rattle.rule_defs.specs.Calls.{CallBreaks}
+use Rattle.rule_defs.specs.Meanings.{Means, IsConstant}
 use Rattle.rule_defs.specs.Violations.{broken}
 
 -- ---- names
 
+-- a function, `printf` among them
 abbrev pub IsFunction : Binding → Type 0
 IsFunction (Function s) = Unit {0}
 IsFunction Printf = Unit {0}
@@ -62,26 +63,30 @@ pub data Role : Type 0 where
   NeedsValue : Role
   -- its value has to be constant
   NeedsConstant : Role
-  -- it may be void: a whole statement, an operand of a comma, or one of a cast to void
+  -- it may be void: a whole statement, the first or third part of a `for`, an operand of a comma, or one of a cast to void
   MayBeVoid : Role
   -- an argument, of which the call says what it has to be, or what a void function returns, which is wrong in any case
   MayBeAnything : Role
 
+-- a text or the name of an array is wrong there
 abbrev pub IsOperand : Role → Type 0
 IsOperand MayBeAnything = ⊥
 IsOperand _ = Unit {0}
 
+-- a void expression is wrong there
 abbrev pub IsNeeded : Role → Type 0
 IsNeeded NeedsValue = Unit {0}
 IsNeeded NeedsConstant = Unit {0}
 IsNeeded _ = ⊥
 
+-- an expression that can't be used so
 pub data UseBreaks (env : Env) (t : Term) : Role → Fault → Type 0 where
-  void : {role : Role} (n : Node) → IsNeeded role → typed env t ≡ Void n → UseBreaks env t role (broken (first_of t) 24)
-  text : {role : Role} (bytes : List ℕ) → IsOperand role → typed env t ≡ Text bytes → UseBreaks env t role (broken (first_of t) 40)
+  void : {role : Role} (n : Node) → IsNeeded role → Means env t (Void n) → UseBreaks env t role (broken (first_of t) 24)
+  -- no file breaks this: the grammar has texts as arguments alone
+  text : {role : Role} (bytes : List ℕ) → IsOperand role → Means env t (Text bytes) → UseBreaks env t role (broken (first_of t) 40)
   -- the name of an array
-  array : {role : Role} (a : ArrayName) → IsOperand role → typed env t ≡ Array a → UseBreaks env t role (broken a.token 22)
-  not_constant : constant_of (typed env t) ≡ None → UseBreaks env t NeedsConstant (broken (first_of t) 34)
+  array : {role : Role} (a : ArrayName) → IsOperand role → Means env t (Array a) → UseBreaks env t role (broken a.token 22)
+  not_constant : ((e : Expression) (n : ℤ) → IsConstant env t e n → ⊥) → UseBreaks env t NeedsConstant (broken (first_of t) 34)
 
 -- ---- in an expression
 

@@ -7,9 +7,11 @@ use Rattle.c_kinds.specs.declared.binding.Binding.TheVariants.{Constant, Global}
 use Rattle.c_kinds.specs.Scopes.{Env, Scope, known_scope}
 use Rattle.c_statements.specs.declared.extents.Kinded.{Kinded}
 use Rattle.c_statements.specs.Declarations.{kinded, shape_of}
-use Rattle.c_scopes.specs.Enums.{value_of, or_zero}
+use Rattle.c_scopes.specs.Enums.{or_zero}
 use Rattle.c_scopes.specs.Files.{File}
 use Rattle.c_scopes.specs.FunctionNames.{signature_in}
+use Rattle.rule_defs.specs.Typings.{Typing}
+use Rattle.rule_defs.specs.Written.{value_of}
 use Rattle.rule_defs.specs.Bindings.{with_declaration}
 
 -- the names at a place
@@ -20,15 +22,31 @@ names_at word ss = record { word = word; scopes = ss }
 abbrev pub file_start : List Scope
 file_start = [] ∷ known_scope ∷ []
 
--- behind an enum constant of this value
-abbrev pub enum_named : (ℕ → List ℕ) → Enumerator → Option ℤ → List Scope → List Scope
-enum_named word e value ss = with_declaration (word e.name) (Constant (or_zero value)) ss
+-- ---- enums
 
--- behind constants of an enum, the first of which follows one of the value `before`
-abbrev pub behind_enumerators : (ℕ → List ℕ) → List Enumerator → Option ℤ → List Scope → List Scope
-behind_enumerators word [] before ss = ss
-behind_enumerators word (e ∷ es) before ss =
-    let value = value_of (names_at word ss) e.value before in behind_enumerators word es value (enum_named word e value ss)
+-- a place in an enum
+pub record InEnum : Type 0 where
+  pub scopes : List Scope
+  -- the value of the constant in front, None where it has none
+  pub value : Option ℤ
+
+-- the first constant is 0, so what is in front of it counts as -1
+abbrev pub enum_start : List Scope → InEnum
+enum_start ss = record { scopes = ss; value = Some (negsuc 0) }
+
+-- the value of a constant at a place
+abbrev pub value_in : Typing → (ℕ → List ℕ) → Enumerator → InEnum → Option ℤ
+value_in typing word e p = value_of typing (names_at word p.scopes) e.value p.value
+
+abbrev pub behind_enumerator : Typing → (ℕ → List ℕ) → Enumerator → InEnum → InEnum
+behind_enumerator typing word e p =
+    let value = value_in typing word e p in record { scopes = with_declaration (word e.name) (Constant (or_zero value)) p.scopes; value = value }
+
+abbrev pub behind_enumerators : Typing → (ℕ → List ℕ) → List Enumerator → InEnum → InEnum
+behind_enumerators typing word [] p = p
+behind_enumerators typing word (e ∷ es) p = behind_enumerators typing word es (behind_enumerator typing word e p)
+
+-- ---- variables, functions and files
 
 -- behind a declarator, and before its initialiser
 abbrev pub global_named : (ℕ → List ℕ) → Kinded → Declarator → List Scope → List Scope
@@ -38,15 +56,23 @@ abbrev pub behind_variables : (ℕ → List ℕ) → Kinded → List Declarator 
 behind_variables word k [] ss = ss
 behind_variables word k (d ∷ ds) ss = behind_variables word k ds (global_named word k d ss)
 
--- in its own body a function is declared already
+-- behind the name of a function: it is declared already in its own parameters and its own body
 abbrev pub function_named : File → Function → List Scope → List Scope
 function_named file f ss = with_declaration (file.word f.name) (binding.Function (signature_in file.bodies file.word f)) ss
 
-abbrev pub behind_form : File → Form → List Scope → List Scope
-behind_form file (Enum es) ss = behind_enumerators file.word es (Some (negsuc 0)) ss
-behind_form file (Globals static d) ss = behind_variables file.word (kinded file.word d) d.names ss
-behind_form file (Defines f) ss = function_named file f ss
-behind_form file _ ss = ss
+abbrev pub behind_form : Typing → File → Form → List Scope → List Scope
+behind_form typing file (Enum es) ss = (behind_enumerators typing file.word es (enum_start ss)).scopes
+behind_form typing file (Globals static d) ss = behind_variables file.word (kinded file.word d) d.names ss
+behind_form typing file (Defines f) ss = function_named file f ss
+behind_form typing file _ ss = ss
 
-abbrev pub behind_top : File → Top → List Scope → List Scope
-behind_top file (From first after form) ss = behind_form file form ss
+abbrev pub behind_top : Typing → File → Top → List Scope → List Scope
+behind_top typing file (From first after form) ss = behind_form typing file form ss
+
+abbrev pub behind_tops : Typing → File → List Top → List Scope → List Scope
+behind_tops typing file [] ss = ss
+behind_tops typing file (x ∷ xs) ss = behind_tops typing file xs (behind_top typing file x ss)
+
+-- behind the first of a file
+abbrev pub scopes_behind : Typing → File → List Top → List Scope
+scopes_behind typing file before = behind_tops typing file before file_start

@@ -3,11 +3,11 @@ use Rattle.std.specs.Prelude.{◌≢◌, ◌⊎◌, ◌≡◌, ℕ, true, false,
 use Rattle.c_kinds.specs.declared.binding.Want.{Want}
 use Rattle.c_kinds.specs.declared.binding.Want.TheVariants.{Sized}
 
--- `d`, `u`, `x` and `c`
+-- behind `%`, for a number of `int` size: `d`, `u`, `x` and `c`
 abbrev pub IsShort : ℕ → Type 0
 IsShort b = (b ≡ 100) ⊎ (b ≡ 117) ⊎ (b ≡ 120) ⊎ (b ≡ 99)
 
--- `d` and `u`
+-- behind `%l`, for one of `long` size: `d` and `u`
 abbrev pub IsLong : ℕ → Type 0
 IsLong b = (b ≡ 100) ⊎ (b ≡ 117)
 

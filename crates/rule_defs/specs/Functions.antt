@@ -1,30 +1,32 @@
 -- The rules for functions (ISO/IEC 9899:2011, 6.9.1), and which ones are too tangled.
-use Rattle.std.specs.Prelude.{◌≡◌, ◌⊎◌, ℕ, Bool, true, List, [], ◌∷◌, map, Option, Some, None, is_some}
+use Rattle.std.specs.Prelude.{◌≡◌, ◌⊎◌, ℕ, Bool, true, List, map, Option, Some, None, is_some}
 use Rattle.c_layers.specs.Items.{Body, Braces, Lone}
 use Rattle.c_layers.specs.Tops.{Parameter, Function}
 use Rattle.c_kinds.specs.declared.typed.Fault.{Fault}
 use Rattle.c_kinds.specs.Scopes.{Scope}
 use Rattle.c_statements.specs.declared.anchors.Anchor.{Anchor}
-use Rattle.c_statements.specs.Functions.{FlatCounts, measures, result_kind}
-use Rattle.c_statements.specs.Labels.{body_labels}
+use Rattle.c_statements.specs.Functions.{FlatCounts, measures}
 use Rattle.c_statements.specs.Measures.{is_tangled}
+use Rattle.rule_defs.specs.Typings.{Typing}
 use Rattle.rule_defs.specs.Bodies.{known, inside, body_items}
 use Rattle.rule_defs.specs.Behind.{SomeBehind, IsOne}
 use Rattle.rule_defs.specs.Bindings.{IsDeclared}
 use Rattle.rule_defs.specs.Declared.{SizeBreaks}
-use Rattle.rule_defs.specs.Places.{Place, env_of, entered, behind_parameter, behind_parameters}
-use Rattle.rule_defs.specs.Statements.{InFunction, ItemBreaks, ListBreaks}
+use Rattle.rule_defs.specs.Places.{Place, env_of, entered, behind_parameters}
+use Rattle.rule_defs.specs.Labels.{InFunction, body_labels}
+use Rattle.rule_defs.specs.Statements.{ItemBreaks, ListBreaks}
 use Rattle.rule_defs.specs.Violations.{broken}
 
 -- ---- parameters
 
+-- a parameter at its place; a function with a body `defines`
 pub data ParameterBreaks (word : ℕ → List ℕ) (p : Place) (defines : Bool) (x : Parameter) : Fault → Type 0 where
   declared_twice : (at : ℕ) → x.name ≡ Some at → IsDeclared (word at) p.scopes → ParameterBreaks word p defines x (broken at 21)
   no_name : defines ≡ true → x.name ≡ None → ParameterBreaks word p defines x (broken x.first 43)
 
+-- one of these parameters, behind those in front of it
 abbrev pub ParametersBreak : (ℕ → List ℕ) → Place → Bool → List Parameter → Fault → Type 0
-ParametersBreak word p defines [] v = ⊥
-ParametersBreak word p defines (x ∷ xs) v = (SizeBreaks (env_of word p) x.size v ⊎ ParameterBreaks word p defines x v) ⊎ ParametersBreak word (behind_parameter word x p) defines xs v
+ParametersBreak word p defines xs v = SomeBehind (λ before x. let q = behind_parameters word before p in SizeBreaks (env_of word q) x.size v ⊎ ParameterBreaks word q defines x v) xs
 
 -- ---- labels, behind these of the same function
 
@@ -33,25 +35,22 @@ pub data LabelTwice (word : ℕ → List ℕ) (before : List ℕ) : ℕ → Faul
 
 -- ---- bodies
 
-abbrev pub in_function : (ℕ → List ℕ) → Function → Body → InFunction
-in_function word f b = record { word = word; labels = map word (body_labels b []); result = result_kind word f }
-
 -- the parameters and the outermost list are one scope
-abbrev pub OutermostBreaks : InFunction → Place → Body → Fault → Type 0
-OutermostBreaks f p (Braces first after xs) v = ListBreaks f p xs v
-OutermostBreaks f p (Lone first after x) v = ItemBreaks f p x v
+abbrev pub OutermostBreaks : Typing → InFunction → Place → Body → Fault → Type 0
+OutermostBreaks typing f p (Braces first after xs) v = ListBreaks typing f p xs v
+OutermostBreaks typing f p (Lone first after x) v = ItemBreaks typing f p x v
 
--- a function with jumps that is too tangled
-pub data Tangled (flat : FlatCounts) (word : ℕ → List ℕ) (notes : Anchor → List (List ℕ)) (f : Function) (b : Body) (scopes : List Scope) : Fault → Type 0 where
-  tangled : (counts : ℕ × ℕ) → flat (body_items (known word notes f b) b (inside word f scopes)) ≡ Some counts → is_tangled (measures word f b counts) ≡ true → Tangled flat word notes f b scopes (broken f.name 39)
+-- a function with jumps that is too tangled; `flat` has counts of no other body
+pub data Tangled (typing : Typing) (flat : FlatCounts) (word : ℕ → List ℕ) (notes : Anchor → List (List ℕ)) (f : Function) (b : Body) (scopes : List Scope) : Fault → Type 0 where
+  tangled : (counts : ℕ × ℕ) → flat (body_items typing (known word notes f b) b (inside word f scopes)) ≡ Some counts → is_tangled (measures word f b counts) ≡ true → Tangled typing flat word notes f b scopes (broken f.name 39)
 
-abbrev pub DefinitionBreaks : FlatCounts → (ℕ → List ℕ) → (Anchor → List (List ℕ)) → Function → List Scope → Option Body → Fault → Type 0
-DefinitionBreaks flat word notes f scopes None v = ⊥
-DefinitionBreaks flat word notes f scopes (Some b) v =
-    SomeBehind (λ before at. LabelTwice word before at v) [] (body_labels b [])
-    ⊎ (OutermostBreaks (in_function word f b) (behind_parameters word f.parameters (entered scopes)) b v
-    ⊎ Tangled flat word notes f b scopes v)
+abbrev pub DefinitionBreaks : Typing → FlatCounts → (ℕ → List ℕ) → (Anchor → List (List ℕ)) → Function → List Scope → Option Body → Fault → Type 0
+DefinitionBreaks typing flat word notes f scopes None v = ⊥
+DefinitionBreaks typing flat word notes f scopes (Some b) v =
+    SomeBehind (λ before at. LabelTwice word before at v) (body_labels b)
+    ⊎ (OutermostBreaks typing (known word notes f b) (behind_parameters word f.parameters (entered scopes)) b v
+    ⊎ Tangled typing flat word notes f b scopes v)
 
 -- in a function, which these scopes are round
-abbrev pub FunctionBreaks : FlatCounts → (ℕ → List ℕ) → (Anchor → List (List ℕ)) → Function → List Scope → Fault → Type 0
-FunctionBreaks flat word notes f scopes v = ParametersBreak word (entered scopes) (is_some f.body) f.parameters v ⊎ DefinitionBreaks flat word notes f scopes f.body v
+abbrev pub FunctionBreaks : Typing → FlatCounts → (ℕ → List ℕ) → (Anchor → List (List ℕ)) → Function → List Scope → Fault → Type 0
+FunctionBreaks typing flat word notes f scopes v = ParametersBreak word (entered scopes) (is_some f.body) f.parameters v ⊎ DefinitionBreaks typing flat word notes f scopes f.body v

@@ -4,6 +4,7 @@ pub mod Places
 pub mod FilePlaces
 pub mod Violations
 pub mod Calls
+pub mod Comments
 pub mod Expressions
 pub mod Declared
 pub mod Switches
@@ -12,6 +13,8 @@ pub mod Functions
 pub mod Files
 pub mod Formats
 pub mod Meanings
+pub mod Typings
+pub mod Written
 pub mod Labels
 pub mod Slots
 pub mod Items

@@ -21,6 +21,7 @@ use Rattle.c_kinds.specs.declared.typed.ArrayName.{ArrayName}
 use Rattle.c_kinds.specs.declared.typed.Valued.{Valued}
 use Rattle.c_kinds.specs.declared.typed.Variable as of
 use Rattle.c_kinds.specs.declared.typed.Target.{Target}
+use Rattle.c_kinds.specs.Constants.{with_value}
 use Rattle.c_kinds.specs.Marks.{step_of, counts_up, unary_op, unary_kind, binary_op, binary_kind, update_op, is_wide}
 use Rattle.c_kinds.specs.Scopes.{Env}
 use Rattle.c_kinds.specs.Typing.{constant, joined_texts}
@@ -126,3 +127,7 @@ abbrev mutual
   pub AreMeant : Env → Terms → List Typed → Type 0
   AreMeant env NoTerm xs = xs ≡ []
   AreMeant env (Then t ts) xs = (y : Typed) × (ys : List Typed) × Means env t y × AreMeant env ts ys × (xs ≡ y ∷ ys)
+
+-- a constant expression (6.6) without a trap, and its value
+abbrev pub IsConstant : Env → Term → Expression → ℤ → Type 0
+IsConstant env t e n = (v : Valued) × Means env t (Value v) × (with_value (expression v) ≡ Some (e, n))

@@ -1,6 +1,6 @@
 -- The places of a function. What is known at one is told by what stands above it, and in front of it in its own list.
-use Rattle.std.specs.Prelude.{ℕ, ◌+◌, List, [], ◌∷◌, length, Some, None}
-use Rattle.c_layers.specs.Items.{Declarator, Declaration, Start, StartNames, Item, Declares, States, Plain, From, Statement, If, IfElse, While, DoWhile, For, Switch, Block, Body, Braces, Lone, Items, NoItem, Then}
+use Rattle.std.specs.Prelude.{ℕ, ◌+◌, List, [], ◌∷◌, Some, None}
+use Rattle.c_layers.specs.Items.{Declarator, Declaration, Start, StartNames}
 use Rattle.c_layers.specs.Tops.{Parameter}
 use Rattle.c_kinds.specs.declared.binding.Binding.TheVariants.{Local}
 use Rattle.c_kinds.specs.Scopes.{Env, Scope}
@@ -33,38 +33,6 @@ within_loop p = record { scopes = p.scopes; variables = p.variables; around = in
 abbrev pub within_switch : Place → Place
 within_switch p = record { scopes = p.scopes; variables = p.variables; around = in_switch p.around }
 
--- ---- how many variables are declared in a statement, at any depth
-
-abbrev pub variables_of_start : Start → ℕ
-variables_of_start (StartNames d) = length d.names
-variables_of_start _ = 0
-
-abbrev mutual
-  pub variables_in : Item → ℕ
-  variables_in (Declares first after d) = length d.names
-  variables_in (States ls p) = variables_of_plain p
-
-  pub variables_of_plain : Plain → ℕ
-  variables_of_plain (From first after s) = variables_of_statement s
-
-  pub variables_of_statement : Statement → ℕ
-  variables_of_statement (If t b) = variables_of_body b
-  variables_of_statement (IfElse t b c) = variables_of_body b + variables_of_body c
-  variables_of_statement (While t b) = variables_of_body b
-  variables_of_statement (DoWhile b t) = variables_of_body b
-  variables_of_statement (For start t u b) = variables_of_start start + variables_of_body b
-  variables_of_statement (Switch t b) = variables_of_body b
-  variables_of_statement (Block b) = variables_of_body b
-  variables_of_statement _ = 0
-
-  pub variables_of_body : Body → ℕ
-  variables_of_body (Braces first after xs) = variables_of_list xs
-  variables_of_body (Lone first after x) = variables_in x
-
-  pub variables_of_list : Items → ℕ
-  variables_of_list NoItem = 0
-  variables_of_list (Then x xs) = variables_in x + variables_of_list xs
-
 -- ---- behind what stands in front
 
 -- behind a declarator, and before its initialiser
@@ -78,13 +46,9 @@ behind_names word k (d ∷ ds) p = behind_names word k ds (behind_name word k d 
 abbrev pub behind_declaration : (ℕ → List ℕ) → Declaration → Place → Place
 behind_declaration word d p = behind_names word (kinded word d) d.names p
 
--- behind a nested list, whose names are out of scope
+-- behind nested lists with so many variables, whose names are out of scope
 abbrev pub past : ℕ → Place → Place
 past variables p = record { scopes = p.scopes; variables = p.variables + variables; around = p.around }
-
-abbrev pub behind : (ℕ → List ℕ) → Item → Place → Place
-behind word (Declares first after d) p = behind_declaration word d p
-behind word (States ls s) p = past (variables_of_plain s) p
 
 -- behind the first part of a `for`, which has a scope of its own
 abbrev pub behind_start : (ℕ → List ℕ) → Start → Place → Place

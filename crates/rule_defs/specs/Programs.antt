@@ -1,5 +1,5 @@
 -- The program that a file writes (ISO/IEC 9899:2011, 6.9).
-use Rattle.std.specs.Prelude.{ℕ, ℤ, negsuc, Bool, cond, is_some, List, [], ◌∷◌, ◌++◌, Option, Some, option_map}
+use Rattle.std.specs.Prelude.{ℕ, Bool, cond, is_some, List, [], ◌∷◌, ◌++◌, flat_map, option_map}
 use Rattle.c_tree.specs.declared.tree.EnumItem.{EnumItem}
 use Rattle.c_tree.specs.declared.tree.Program.{Program}
 use Rattle.c_tree.specs.declared.tree.Top as tree_top
@@ -12,46 +12,45 @@ use Rattle.c_layers.specs.Tops.{Enumerator, Function, Form, Line, Enum, Globals,
 use Rattle.c_kinds.specs.Scopes.{Scope}
 use Rattle.c_statements.specs.declared.extents.Kinded.{Kinded}
 use Rattle.c_statements.specs.declared.anchors.Anchor.TheVariants.{Before, Last}
-use Rattle.c_statements.specs.Declarations.{kinded, slot_of, initial, constant_at}
+use Rattle.c_statements.specs.Declarations.{kinded, initial}
 use Rattle.c_statements.specs.Functions.{FlatCounts}
-use Rattle.c_comments.specs.Notes.{notes_of}
-use Rattle.c_scopes.specs.Enums.{value_of, or_zero}
+use Rattle.c_scopes.specs.Enums.{or_zero}
 use Rattle.c_scopes.specs.Files.{File, notes_tops}
-use Rattle.rule_defs.specs.FilePlaces.{names_at, file_start, enum_named, global_named, function_named, behind_top}
+use Rattle.rule_defs.specs.Comments.{notes_of}
+use Rattle.rule_defs.specs.Typings.{Typing}
+use Rattle.rule_defs.specs.Written.{constant_at, slot_of}
+use Rattle.rule_defs.specs.FilePlaces.{names_at, InEnum, enum_start, value_in, behind_enumerators, global_named, behind_variables, function_named, scopes_behind}
+use Rattle.rule_defs.specs.Behind.{each_behind}
 use Rattle.rule_defs.specs.Bodies.{function_of}
 
 -- ---- what stands at file scope
 
-abbrev pub enum_item : (ℕ → List ℕ) → Enumerator → Option ℤ → List Scope → EnumItem
-enum_item word e value ss = record { name = word e.name; given = option_map (constant_at (names_at word ss)) e.value; value = or_zero value }
+abbrev pub enum_item : Typing → (ℕ → List ℕ) → Enumerator → InEnum → EnumItem
+enum_item typing word e p = record { name = word e.name; given = option_map (constant_at typing (names_at word p.scopes)) e.value; value = or_zero (value_in typing word e p) }
 
--- the value of an enumerator, behind one of the value `before`
-abbrev pub value_in : (ℕ → List ℕ) → Enumerator → Option ℤ → List Scope → Option ℤ
-value_in word e before ss = value_of (names_at word ss) e.value before
+abbrev pub enum_items : Typing → (ℕ → List ℕ) → List Enumerator → InEnum → List EnumItem
+enum_items typing word es p = each_behind (λ before e. enum_item typing word e (behind_enumerators typing word before p)) es
 
-abbrev pub enum_items : (ℕ → List ℕ) → List Enumerator → Option ℤ → List Scope → List EnumItem
-enum_items word [] before ss = []
-enum_items word (e ∷ es) before ss = enum_item word e (value_in word e before ss) ss ∷ enum_items word es (value_in word e before ss) (enum_named word e (value_in word e before ss) ss)
+abbrev pub global : Typing → (ℕ → List ℕ) → Bool → Kinded → Declarator → List Scope → tree_top.Top
+global typing word static k d ss =
+    top.Global (record { slot = slot_of typing (names_at word ss) k d; init = initial (constant_at typing (names_at word (global_named word k d ss))) d.value; file_only = static })
 
-abbrev pub globals : (ℕ → List ℕ) → Bool → Kinded → List Declarator → List Scope → List tree_top.Top
-globals word static k [] ss = []
-globals word static k (d ∷ ds) ss =
-    top.Global (record { slot = slot_of (names_at word ss) k d; init = initial (constant_at (names_at word (global_named word k d ss))) d.value; file_only = static })
-    ∷ globals word static k ds (global_named word k d ss)
+abbrev pub globals : Typing → (ℕ → List ℕ) → Bool → Kinded → List Declarator → List Scope → List tree_top.Top
+globals typing word static k ds ss = each_behind (λ before d. global typing word static k d (behind_variables word k before ss)) ds
 
-abbrev pub form_tops : File → ℕ → Form → List Scope → List tree_top.Top
-form_tops file first Line ss = top.Include (file.word first) ∷ []
-form_tops file first (Enum es) ss = top.Enum (enum_items file.word es (Some (negsuc 0)) ss) ∷ []
-form_tops file first (Globals static d) ss = globals file.word static (kinded file.word d) d.names ss
-form_tops file first (Defines f) ss = top.Function (function_of file.word file.notes f (function_named file f ss)) ∷ []
-form_tops file first Unread ss = []
+abbrev pub form_tops : Typing → File → ℕ → Form → List Scope → List tree_top.Top
+form_tops typing file first Line ss = top.Include (file.word first) ∷ []
+form_tops typing file first (Enum es) ss = top.Enum (enum_items typing file.word es (enum_start ss)) ∷ []
+form_tops typing file first (Globals static d) ss = globals typing file.word static (kinded file.word d) d.names ss
+form_tops typing file first (Defines f) ss = top.Function (function_of typing file.word file.notes f (function_named file f ss)) ∷ []
+form_tops typing file first Unread ss = []
 
-abbrev pub tops_of : File → List Top → List Scope → List tree_top.Top
-tops_of file [] ss = notes_tops file Last
-tops_of file (From first after form ∷ xs) ss = (notes_tops file (Before first) ++ form_tops file first form ss) ++ tops_of file xs (behind_top file (From first after form) ss)
+-- with the Notes in front of it
+abbrev pub top_tops : Typing → File → Top → List Scope → List tree_top.Top
+top_tops typing file (From first after form) ss = notes_tops file (Before first) ++ form_tops typing file first form ss
 
-abbrev pub program : File → List Top → Program
-program file xs = record { tops = tops_of file xs file_start }
+abbrev pub program : Typing → File → List Top → Program
+program typing file xs = record { tops = flat_map (λ ts. ts) (each_behind (λ before x. top_tops typing file x (scopes_behind typing file before)) xs) ++ notes_tops file Last }
 
 -- ---- the file
 

@@ -5,24 +5,17 @@ use Rattle.c_layers.specs.Terms.{Term}
 use Rattle.c_layers.specs.Items.{Label, Case, Default, Start, NoStart, StartValue, StartNames, Item, Declares, States, Plain, From, Statement, Evaluate, If, IfElse, While, DoWhile, For, Switch, Block, Goto, Break, Continue, Return, Body, Braces, Lone, Items, NoItem, Then, items_in}
 use Rattle.c_kinds.specs.declared.typed.Fault.{Fault}
 use Rattle.c_kinds.specs.Scopes.{Env}
-use Rattle.c_kinds.specs.Typing.{typed}
 use Rattle.c_kinds.specs.Values.{value_of}
 use Rattle.c_statements.specs.Context.{Around}
+use Rattle.rule_defs.specs.Typings.{Typing}
+use Rattle.rule_defs.specs.Labels.{InFunction}
 use Rattle.rule_defs.specs.Behind.{IsOne}
 use Rattle.rule_defs.specs.Declared.{DeclarationBreaks}
 use Rattle.rule_defs.specs.Expressions.{Role, NeedsValue, NeedsConstant, MayBeVoid, MayBeAnything, Within}
-use Rattle.rule_defs.specs.Places.{Place, env_of, within, within_loop, within_switch, past, behind, behind_start, variables_of_body}
+use Rattle.rule_defs.specs.Places.{Place, env_of, within, within_loop, within_switch, behind_start}
+use Rattle.rule_defs.specs.Slots.{past_body, behind}
 use Rattle.rule_defs.specs.Switches.{body_entries, EntriesBreak, IsLost}
 use Rattle.rule_defs.specs.Violations.{broken}
-
--- what is known in a whole function
-pub record InFunction : Type 0 where
-  -- the words of the tokens
-  pub word : ℕ → List ℕ
-  -- the names of its labels
-  pub labels : List (List ℕ)
-  -- the kind of its result, None for `void`
-  pub result : Option IntKind
 
 -- ---- one statement
 
@@ -52,43 +45,43 @@ abbrev pub WithinOption : Env → Role → Option Term → Fault → Type 0
 WithinOption env role (Some t) v = Within env role t v
 WithinOption env role None v = ⊥
 
-abbrev pub StartBreaks : (ℕ → List ℕ) → Place → Start → Fault → Type 0
-StartBreaks word p NoStart v = ⊥
-StartBreaks word p (StartValue t) v = Within (env_of word p) MayBeVoid t v
-StartBreaks word p (StartNames d) v = DeclarationBreaks word p d v
+abbrev pub StartBreaks : Typing → (ℕ → List ℕ) → Place → Start → Fault → Type 0
+StartBreaks typing word p NoStart v = ⊥
+StartBreaks typing word p (StartValue t) v = Within (env_of word p) MayBeVoid t v
+StartBreaks typing word p (StartNames d) v = DeclarationBreaks typing word p d v
 
 -- ---- a rule is broken by a statement at this place, or within it
 
 abbrev mutual
-  pub ItemBreaks : InFunction → Place → Item → Fault → Type 0
-  ItemBreaks f p (Declares first after d) v = DeclarationBreaks f.word p d v
-  ItemBreaks f p (States ls s) v = LabelsBreak (env_of f.word p) p.around ls v ⊎ PlainBreaks f p s v
+  pub ItemBreaks : Typing → InFunction → Place → Item → Fault → Type 0
+  ItemBreaks typing f p (Declares first after d) v = DeclarationBreaks typing f.word p d v
+  ItemBreaks typing f p (States ls s) v = LabelsBreak (env_of f.word p) p.around ls v ⊎ PlainBreaks typing f p s v
 
-  pub PlainBreaks : InFunction → Place → Plain → Fault → Type 0
-  PlainBreaks f p (From first after s) v = StatementBreaks f p.around first s v ⊎ InStatement f p s v
+  pub PlainBreaks : Typing → InFunction → Place → Plain → Fault → Type 0
+  PlainBreaks typing f p (From first after s) v = StatementBreaks f p.around first s v ⊎ InStatement typing f p s v
 
-  pub InStatement : InFunction → Place → Statement → Fault → Type 0
-  InStatement f p (Evaluate t) v = Within (env_of f.word p) MayBeVoid t v
-  InStatement f p (If t b) v = Within (env_of f.word p) NeedsValue t v ⊎ BodyBreaks f p b v
-  InStatement f p (IfElse t b c) v = Within (env_of f.word p) NeedsValue t v ⊎ (BodyBreaks f p b v ⊎ BodyBreaks f (past (variables_of_body b) p) c v)
-  InStatement f p (While t b) v = Within (env_of f.word p) NeedsValue t v ⊎ BodyBreaks f (within_loop p) b v
-  InStatement f p (DoWhile b t) v = BodyBreaks f (within_loop p) b v ⊎ Within (env_of f.word p) NeedsValue t v
-  InStatement f p (For start t u b) v =
+  pub InStatement : Typing → InFunction → Place → Statement → Fault → Type 0
+  InStatement typing f p (Evaluate t) v = Within (env_of f.word p) MayBeVoid t v
+  InStatement typing f p (If t b) v = Within (env_of f.word p) NeedsValue t v ⊎ BodyBreaks typing f p b v
+  InStatement typing f p (IfElse t b c) v = Within (env_of f.word p) NeedsValue t v ⊎ (BodyBreaks typing f p b v ⊎ BodyBreaks typing f (past_body typing f.word b p) c v)
+  InStatement typing f p (While t b) v = Within (env_of f.word p) NeedsValue t v ⊎ BodyBreaks typing f (within_loop p) b v
+  InStatement typing f p (DoWhile b t) v = BodyBreaks typing f (within_loop p) b v ⊎ Within (env_of f.word p) NeedsValue t v
+  InStatement typing f p (For start t u b) v =
       let inner = behind_start f.word start (within p) in
-      StartBreaks f.word (within p) start v ⊎ (WithinOption (env_of f.word inner) NeedsValue t v ⊎ (WithinOption (env_of f.word inner) MayBeVoid u v ⊎ BodyBreaks f (within_loop inner) b v))
-  InStatement f p (Switch t b) v =
+      StartBreaks typing f.word (within p) start v ⊎ (WithinOption (env_of f.word inner) NeedsValue t v ⊎ (WithinOption (env_of f.word inner) MayBeVoid u v ⊎ BodyBreaks typing f (within_loop inner) b v))
+  InStatement typing f p (Switch t b) v =
       Within (env_of f.word p) NeedsValue t v
-      ⊎ (BodyBreaks f (within_switch p) b v
+      ⊎ (BodyBreaks typing f (within_switch p) b v
       ⊎ (IsLost (items_in b) v
-      ⊎ EntriesBreak (option_map (λ x. x.kind) (value_of (typed (env_of f.word p) t))) (body_entries f.word p b) v))
-  InStatement f p (Block b) v = BodyBreaks f p b v
-  InStatement f p (Return t) v = WithinOption (env_of f.word p) (returned f.result) t v
-  InStatement f p _ v = ⊥
+      ⊎ EntriesBreak (option_map (λ x. x.kind) (value_of (typing (env_of f.word p) t))) (body_entries typing f.word p b) v))
+  InStatement typing f p (Block b) v = BodyBreaks typing f p b v
+  InStatement typing f p (Return t) v = WithinOption (env_of f.word p) (returned f.result) t v
+  InStatement typing f p _ v = ⊥
 
-  pub BodyBreaks : InFunction → Place → Body → Fault → Type 0
-  BodyBreaks f p (Braces first after xs) v = ListBreaks f (within p) xs v
-  BodyBreaks f p (Lone first after x) v = ItemBreaks f (within p) x v
+  pub BodyBreaks : Typing → InFunction → Place → Body → Fault → Type 0
+  BodyBreaks typing f p (Braces first after xs) v = ListBreaks typing f (within p) xs v
+  BodyBreaks typing f p (Lone first after x) v = ItemBreaks typing f (within p) x v
 
-  pub ListBreaks : InFunction → Place → Items → Fault → Type 0
-  ListBreaks f p NoItem v = ⊥
-  ListBreaks f p (Then x xs) v = ItemBreaks f p x v ⊎ ListBreaks f (behind f.word x p) xs v
+  pub ListBreaks : Typing → InFunction → Place → Items → Fault → Type 0
+  ListBreaks typing f p NoItem v = ⊥
+  ListBreaks typing f p (Then x xs) v = ItemBreaks typing f p x v ⊎ ListBreaks typing f (behind typing f.word x p) xs v

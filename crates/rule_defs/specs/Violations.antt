@@ -12,5 +12,6 @@ pub record IsLeast (P : Fault → Type 0) (v : Fault) : Type 0 where
   pub is : P v
   pub first : (w : Fault) → P w → is_before w v ≡ true → ⊥
 
+-- no rule is broken
 abbrev pub IsFaultless : (Fault → Type 0) → Type 0
 IsFaultless P = (v : Fault) → P v → ⊥

@@ -1,4 +1,5 @@
 pub mod Finding
+pub mod Behind
 pub mod Bound
 pub mod Uses
 pub mod Calls

@@ -1,5 +1,5 @@
 -- What a walk finds at a name, and at an expression that is used for something.
-use Rattle.std.proofs.Common.{◌≡◌, ◌⊎◌, inl, inr, ℕ, Bool, true, false, cond, not, ◌&&◌, Option, Some, None, is_some, refl, sym, ap, subst, ◌∙◌, true≢false}
+use Rattle.std.proofs.Common.{◌≡◌, ◌≢◌, ◌⊎◌, inl, inr, ℕ, Bool, true, false, cond, not, ◌&&◌, Option, Some, None, is_some, refl, sym, ap, subst, ◌∙◌, true≢false}
 use Rattle.c_layers.specs.Terms.{Term, Variable, Cell, first_of}
 use Rattle.c_kinds.specs.declared.binding.Binding.{Binding}
 use Rattle.c_kinds.specs.declared.binding.Binding.TheVariants.{Constant, Global, Local, Function, Printf}
@@ -14,6 +14,9 @@ use Rattle.c_kinds.specs.Values.{use_fault, drop_fault}
 use Rattle.rule_defs.specs.Violations.{broken}
 use Rattle.rule_defs.specs.Bindings.{IsBoundTo, IsUnbound}
 use Rattle.rule_defs.specs.Expressions.{IsFunction, is_array, is_number, is_const, ReadBreaks, WriteBreaks, NeedsValue, NeedsConstant, MayBeVoid, MayBeAnything, UseBreaks}
+use Rattle.rule_defs.specs.Meanings.{Means}
+use Rattle.meaning_laws.proofs.Meanings.{is_typed, typed_is}
+use Rattle.meaning_laws.proofs.Constants.{constant_not, no_constant}
 use Rattle.rule_laws.specs.Finds.{Finds}
 use Rattle.rule_laws.proofs.Finding.{Rule, finds_both, finds_same, finds_nothing, finds_fault, finds_if, finds_one, finds_as}
 use Rattle.rule_laws.proofs.Bound.{bound_of, bound_back, unbound_of, unbound_back}
@@ -172,38 +175,45 @@ array_token (Array a) = a.token
 array_token _ = 0
 
 module _ (env : Env) (t : Term) where
+  -- what is found to be x means x, and nothing else
+  meant : (x : Typed) → typed env t ≡ x → x ≢ Wrong → Means env t x
+  meant x e r = typed_is env t x e r
+
+  same : (x y : Typed) → typed env t ≡ x → Means env t y → x ≡ y
+  same x y e h = sym e ∙ is_typed env t y h
+
   -- one that is used is void, a text or an array
   use_by : (x : Typed) → typed env t ≡ x → Finds (use_fault (first_of t) x) (λ v. UseBreaks env t NeedsValue v)
   use_by (Value a) e = finds_nothing (λ v. UseBreaks env t NeedsValue v) only
     where
       only : (v : Fault) → UseBreaks env t NeedsValue v → ⊥
-      only v (UseBreaks.void n i f) = cc
-      only v (UseBreaks.text bytes i f) = cc
-      only v (UseBreaks.array a i f) = cc
-  use_by (Void n) e = finds_one (first_of t) 24 (λ v. UseBreaks env t NeedsValue v) (UseBreaks.void n tt e) only
+      only v (UseBreaks.void n i f) = let g : ◌≡◌ {A = Typed} (Value a) (Void n) = same (Value a) (Void n) e f in cc
+      only v (UseBreaks.text bytes i f) = let g : ◌≡◌ {A = Typed} (Value a) (Text bytes) = same (Value a) (Text bytes) e f in cc
+      only v (UseBreaks.array b i f) = let g : ◌≡◌ {A = Typed} (Value a) (Array b) = same (Value a) (Array b) e f in cc
+  use_by (Void n) e = finds_one (first_of t) 24 (λ v. UseBreaks env t NeedsValue v) (UseBreaks.void n tt (meant (Void n) e (λ w. cc))) only
     where
       only : (v : Fault) → UseBreaks env t NeedsValue v → v ≡ broken (first_of t) 24
       only v (UseBreaks.void n i f) = refl
-      only v (UseBreaks.text bytes i f) = cc
-      only v (UseBreaks.array a i f) = cc
-  use_by (Text bytes) e = finds_one (first_of t) 40 (λ v. UseBreaks env t NeedsValue v) (UseBreaks.text bytes tt e) only
+      only v (UseBreaks.text bytes i f) = let g : ◌≡◌ {A = Typed} (Void n) (Text bytes) = same (Void n) (Text bytes) e f in cc
+      only v (UseBreaks.array a i f) = let g : ◌≡◌ {A = Typed} (Void n) (Array a) = same (Void n) (Array a) e f in cc
+  use_by (Text bytes) e = finds_one (first_of t) 40 (λ v. UseBreaks env t NeedsValue v) (UseBreaks.text bytes tt (meant (Text bytes) e (λ w. cc))) only
     where
       only : (v : Fault) → UseBreaks env t NeedsValue v → v ≡ broken (first_of t) 40
-      only v (UseBreaks.void n i f) = cc
+      only v (UseBreaks.void n i f) = let g : ◌≡◌ {A = Typed} (Text bytes) (Void n) = same (Text bytes) (Void n) e f in cc
       only v (UseBreaks.text bytes i f) = refl
-      only v (UseBreaks.array a i f) = cc
-  use_by (Array a) e = finds_one a.token 22 (λ v. UseBreaks env t NeedsValue v) (UseBreaks.array a tt e) only
+      only v (UseBreaks.array a i f) = let g : ◌≡◌ {A = Typed} (Text bytes) (Array a) = same (Text bytes) (Array a) e f in cc
+  use_by (Array a) e = finds_one a.token 22 (λ v. UseBreaks env t NeedsValue v) (UseBreaks.array a tt (meant (Array a) e (λ w. cc))) only
     where
       only : (v : Fault) → UseBreaks env t NeedsValue v → v ≡ broken a.token 22
-      only v (UseBreaks.void n i f) = cc
-      only v (UseBreaks.text bytes i f) = cc
-      only v (UseBreaks.array b i f) = let same : Array b ≡ Array a = sym f ∙ e in ap (λ x. broken x 22) (ap array_token same)
+      only v (UseBreaks.void n i f) = let g : ◌≡◌ {A = Typed} (Array a) (Void n) = same (Array a) (Void n) e f in cc
+      only v (UseBreaks.text bytes i f) = let g : ◌≡◌ {A = Typed} (Array a) (Text bytes) = same (Array a) (Text bytes) e f in cc
+      only v (UseBreaks.array b i f) = ap (λ x. broken x 22) (ap array_token (sym (same (Array a) (Array b) e f)))
   use_by Wrong e = finds_nothing (λ v. UseBreaks env t NeedsValue v) only
     where
       only : (v : Fault) → UseBreaks env t NeedsValue v → ⊥
-      only v (UseBreaks.void n i f) = cc
-      only v (UseBreaks.text bytes i f) = cc
-      only v (UseBreaks.array a i f) = cc
+      only v (UseBreaks.void n i f) = let g : ◌≡◌ {A = Typed} Wrong (Void n) = same Wrong (Void n) e f in cc
+      only v (UseBreaks.text bytes i f) = let g : ◌≡◌ {A = Typed} Wrong (Text bytes) = same Wrong (Text bytes) e f in cc
+      only v (UseBreaks.array a i f) = let g : ◌≡◌ {A = Typed} Wrong (Array a) = same Wrong (Array a) e f in cc
 
   pub needs_value : Finds (used env t) (λ v. UseBreaks env t NeedsValue v)
   needs_value = use_by (typed env t) refl
@@ -213,32 +223,32 @@ module _ (env : Env) (t : Term) where
     where
       only : (v : Fault) → UseBreaks env t MayBeVoid v → ⊥
       only v (UseBreaks.void n i f) = i
-      only v (UseBreaks.text bytes i f) = cc
-      only v (UseBreaks.array a i f) = cc
+      only v (UseBreaks.text bytes i f) = let g : ◌≡◌ {A = Typed} (Value a) (Text bytes) = same (Value a) (Text bytes) e f in cc
+      only v (UseBreaks.array b i f) = let g : ◌≡◌ {A = Typed} (Value a) (Array b) = same (Value a) (Array b) e f in cc
   drop_by (Void n) e = finds_nothing (λ v. UseBreaks env t MayBeVoid v) only
     where
       only : (v : Fault) → UseBreaks env t MayBeVoid v → ⊥
       only v (UseBreaks.void n i f) = i
-      only v (UseBreaks.text bytes i f) = cc
-      only v (UseBreaks.array a i f) = cc
-  drop_by (Text bytes) e = finds_one (first_of t) 40 (λ v. UseBreaks env t MayBeVoid v) (UseBreaks.text bytes tt e) only
+      only v (UseBreaks.text bytes i f) = let g : ◌≡◌ {A = Typed} (Void n) (Text bytes) = same (Void n) (Text bytes) e f in cc
+      only v (UseBreaks.array a i f) = let g : ◌≡◌ {A = Typed} (Void n) (Array a) = same (Void n) (Array a) e f in cc
+  drop_by (Text bytes) e = finds_one (first_of t) 40 (λ v. UseBreaks env t MayBeVoid v) (UseBreaks.text bytes tt (meant (Text bytes) e (λ w. cc))) only
     where
       only : (v : Fault) → UseBreaks env t MayBeVoid v → v ≡ broken (first_of t) 40
       only v (UseBreaks.void n i f) = absurd i
       only v (UseBreaks.text bytes i f) = refl
-      only v (UseBreaks.array a i f) = cc
-  drop_by (Array a) e = finds_one a.token 22 (λ v. UseBreaks env t MayBeVoid v) (UseBreaks.array a tt e) only
+      only v (UseBreaks.array a i f) = let g : ◌≡◌ {A = Typed} (Text bytes) (Array a) = same (Text bytes) (Array a) e f in cc
+  drop_by (Array a) e = finds_one a.token 22 (λ v. UseBreaks env t MayBeVoid v) (UseBreaks.array a tt (meant (Array a) e (λ w. cc))) only
     where
       only : (v : Fault) → UseBreaks env t MayBeVoid v → v ≡ broken a.token 22
       only v (UseBreaks.void n i f) = absurd i
-      only v (UseBreaks.text bytes i f) = cc
-      only v (UseBreaks.array b i f) = ap (λ x. broken x 22) (ap array_token (sym f ∙ e))
+      only v (UseBreaks.text bytes i f) = let g : ◌≡◌ {A = Typed} (Array a) (Text bytes) = same (Array a) (Text bytes) e f in cc
+      only v (UseBreaks.array b i f) = ap (λ x. broken x 22) (ap array_token (sym (same (Array a) (Array b) e f)))
   drop_by Wrong e = finds_nothing (λ v. UseBreaks env t MayBeVoid v) only
     where
       only : (v : Fault) → UseBreaks env t MayBeVoid v → ⊥
       only v (UseBreaks.void n i f) = i
-      only v (UseBreaks.text bytes i f) = cc
-      only v (UseBreaks.array a i f) = cc
+      only v (UseBreaks.text bytes i f) = let g : ◌≡◌ {A = Typed} Wrong (Text bytes) = same Wrong (Text bytes) e f in cc
+      only v (UseBreaks.array a i f) = let g : ◌≡◌ {A = Typed} Wrong (Array a) = same Wrong (Array a) e f in cc
 
   pub may_be_void : Finds (unused env t) (λ v. UseBreaks env t MayBeVoid v)
   may_be_void = drop_by (typed env t) refl
@@ -268,10 +278,10 @@ module _ (env : Env) (t : Term) where
       to v (inl (UseBreaks.void n i f)) = UseBreaks.void n tt f
       to v (inl (UseBreaks.text bytes i f)) = UseBreaks.text bytes tt f
       to v (inl (UseBreaks.array a i f)) = UseBreaks.array a tt f
-      to v (inr p) = subst (λ w. UseBreaks env t NeedsConstant w) (sym p.1) (UseBreaks.not_constant (unfixed (constant_of (typed env t)) p.0))
+      to v (inr p) = subst (λ w. UseBreaks env t NeedsConstant w) (sym p.1) (UseBreaks.not_constant (constant_not env t (unfixed (constant_of (typed env t)) p.0)))
 
       fro : (v : Fault) → UseBreaks env t NeedsConstant v → UseBreaks env t NeedsValue v ⊎ ((not (is_some (constant_of (typed env t))) ≡ true) × (v ≡ broken (first_of t) 34))
       fro v (UseBreaks.void n i f) = inl (UseBreaks.void n tt f)
       fro v (UseBreaks.text bytes i f) = inl (UseBreaks.text bytes tt f)
       fro v (UseBreaks.array a i f) = inl (UseBreaks.array a tt f)
-      fro v (UseBreaks.not_constant e) = inr (fixed (constant_of (typed env t)) e, refl)
+      fro v (UseBreaks.not_constant e) = inr (fixed (constant_of (typed env t)) (no_constant env t e), refl)
