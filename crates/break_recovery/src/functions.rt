@@ -12,9 +12,9 @@ ghost use Rattle.break_recovery.specs.Ends.{IsBodyChanged, WentOn, AreMade, IsNu
 use crate::places::{Start, behind_change, change_from};
 use c_tree::{Function, Item, Top};
 use c_types::{List, Memory};
+use std::alloc::Global;
 use tidy_loops::{guard_counts, is_declaration};
 use tidy_renumber::{Numbers, new_numbers, remove_gone, renumber_list};
-use std::alloc::Global;
 
 /// Takes the first `int g = 0;` out, and answers where it stood.
 fn undeclare(slot: u32, list: &mut List<Item>) -> Option<usize>

@@ -6,8 +6,8 @@ ghost use Rattle.tidy_search.specs.Next.{put, next_here, broken_first, continued
 
 use c_tree::Item;
 use c_types::{List, Memory};
-use tidy_loops::{break_slot, broken, continue_slot, continued};
 use std::alloc::Global;
+use tidy_loops::{break_slot, broken, continue_slot, continued};
 
 fn break_at(
     counts: &List<u64>,

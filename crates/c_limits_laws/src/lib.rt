@@ -1,8 +1,7 @@
-//! The derivation of a text gives source trees as the laws of resolving read them.
+//! The derivation of a text gives source trees within the limits of a file, and so all that the laws of resolving
+//! ask of them.
 //!
-//! The function here runs no code: its contract is the laws.
-//!
-//! The derivation of a text gives source trees within the limits of a file, and so all that resolving asks of them.
+//! The functions here run no code: their contracts are the laws.
 #![tactic(auto)]
 
 ghost use Rattle.c_limits_laws.specs.CSourceLaws.{DerivedLaws};

@@ -12,8 +12,8 @@ ghost use Rattle.c_parser.specs.Reads.{Reads};
 
 use c_grammar::{Class, Syntax, class_of};
 use c_lexer::{Token, refusal_at};
-use c_types::{List, MOST, ReadStop, Stack};
 use c_parse_step::{Frame, Load, Role, step};
+use c_types::{List, MOST, ReadStop, Stack};
 use std::alloc::Global;
 
 /// The greatest level of nesting, and the most counted tokens of one full expression.

@@ -10,9 +10,9 @@ use crate::pieces::{
     put_comma, put_newline, put_number, put_punctuator, put_space, put_spaced, put_verbatim,
     put_word,
 };
-use rg_ports::Output;
 use c_tree::{Expression, Function, Selector, Slot, Test};
 use c_types::{IntKind, List};
+use rg_ports::Output;
 
 /// A keyword and a space.
 pub fn put_keyword<W: Output>(out: &mut W, text: &str)

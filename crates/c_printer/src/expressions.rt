@@ -14,9 +14,9 @@ use crate::spelling::{
     binary_level, binary_spelling, count_spelling, home_name, is_bracketed, unary_spelling,
     update_spelling,
 };
-use rg_ports::Output;
 use c_tree::{Expression, Node, Place, Slot, UnaryOp};
 use c_types::IntKind;
+use rg_ports::Output;
 
 /// The words of a kind.
 pub fn put_kind<W: Output>(out: &mut W, kind: IntKind)

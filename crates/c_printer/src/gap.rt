@@ -7,10 +7,10 @@ ghost use Rattle.c_printer.specs.Writing.{Prints};
 
 use crate::pieces::{put_space, suffix};
 use crate::spelling::home_name;
-use rg_ports::Output;
 use c_tree::{Expression, Node, Place, Slot, UnaryOp};
 use c_types::IntKind;
 use itoa::Buffer;
+use rg_ports::Output;
 
 /// Whether the bytes begin with a byte, or where there are none, what holds of those that follow.
 fn starts_or(bytes: &[u8], byte: u8, otherwise: bool) -> bool

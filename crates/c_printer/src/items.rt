@@ -16,8 +16,8 @@ use crate::statements::{
     put_close, put_close_line, put_evaluation, put_goto, put_keyword_line, put_local_line,
     put_mark, put_repeat, put_return, put_switch, put_tested,
 };
-use rg_ports::Output;
 use c_tree::{Expression, Function, Item, Section, Slot};
+use rg_ports::Output;
 
 /// The depth of a list in one of this depth.
 fn deeper(depth: u32) -> u32

@@ -5,9 +5,9 @@ ghost use Rattle.c_tree.specs.TextPieces.{suffix as the_suffix, escaped, space, 
 ghost use Rattle.rg_ports.specs.Writing.{Gives};
 ghost use Rattle.c_printer.specs.Writing.{Prints};
 
-use rg_ports::Output;
 use c_types::IntKind;
 use itoa::Buffer;
+use rg_ports::Output;
 
 pub fn put_space<W: Output>(out: &mut W)
     ensures { Prints (W.progress out.old) (W.progress out.new) space }

@@ -11,9 +11,9 @@ use crate::declarations::{
 };
 use crate::expressions::put_expression;
 use crate::pieces::{put_indentation, put_newline, put_punctuator, put_space, put_word};
-use rg_ports::Output;
 use c_tree::{Expression, Function, Selector, Test};
 use c_types::List;
+use rg_ports::Output;
 
 /// An expression statement.
 pub fn put_evaluation<W: Output>(out: &mut W, function: &Function, e: &Expression)

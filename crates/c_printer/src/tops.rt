@@ -11,9 +11,9 @@ use crate::declarations::{
 use crate::expressions::{put_comma_between, put_expression, put_result};
 use crate::items::put_braced;
 use crate::pieces::{put_newline, put_punctuator, put_space, put_spaced, put_word};
-use rg_ports::Output;
 use c_tree::{EnumItem, Expression, Function, GlobalVariable, Item, Program, Slot, Top};
 use c_types::List;
+use rg_ports::Output;
 
 /// The value that an enumerator is given.
 fn put_given<W: Output>(out: &mut W, given: &Option<Expression>)

@@ -5,10 +5,9 @@ ghost use Rattle.c_tree.specs.Text.{text_of};
 
 use crate::tops::put_program;
 use arrayvec::ArrayVec;
-use rg_ports::{Growing, Writer};
 use c_tree::Program;
 use c_types::{Bytes, List, MOST, Memory};
-use rg_ports::{Failed, Sink};
+use rg_ports::{Failed, Growing, Sink, Writer};
 use std::alloc::Global;
 
 /// Writes the printed text of a program (docs/COMMANDS.md). After `Failed` a front of it, but not

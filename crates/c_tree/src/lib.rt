@@ -1,6 +1,4 @@
-//! The resolved tree of a C file.
-//!
-//! The tree of an item, which shows its form where the item does.
+//! The resolved tree of a C file, its paths, and the view of an item as a tree for proofs.
 #![tactic(auto)]
 
 mod paths;

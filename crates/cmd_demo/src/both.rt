@@ -7,13 +7,13 @@ ghost use Rattle.move_driver.specs.Text.{output, IsTextRestructured, IsOnlyOutpu
 ghost use Rattle.cmd_demo.specs.Demos.{IsShown, StopsAt};
 
 use crate::alone::{End, STEPS, Stop, run_alone};
+use c_text::read;
 use c_tree::Program;
 use c_types::{Memory, ReadStop};
+use cmd_run::Ready;
 use cmd_words::Demonstration;
 use move_driver::{Written, restructure_text};
-use cmd_run::Ready;
 use std::alloc::Global;
-use c_text::read;
 
 /// Restructures a text of the subset.
 fn restructured(alloc: Global, text: &[u8]) -> Result<Written, Memory>

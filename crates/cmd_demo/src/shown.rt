@@ -9,13 +9,13 @@ ghost use Rattle.cmd_demo.specs.Demos.{CompletesDemo, IsShown, IsUnreadFor, Show
 
 use crate::alone::{STEPS, Stop};
 use crate::both::show_both;
+use c_text::read;
 use c_types::{Memory, ReadStop};
+use cmd_run::{Ready, ready_program};
 use cmd_words::{Demonstration, Status, tell, tell_refusal, tell_spent, tell_trap, write_demo};
 use demo_gen::make;
 use rg_ports::Sink;
-use cmd_run::{Ready, ready_program};
 use std::alloc::Global;
-use c_text::read;
 
 /// Restructures the text of n functions (`demo_gen::make`), runs its program and that of the result without input, for at
 /// most 100,000,000 steps each, and writes one line about it to `out`.

@@ -2,8 +2,8 @@ ghost use Rattle.std.specs.Prelude.{◌≡◌};
 
 use crate::text::{Lowered, lower_text};
 use c_types::{List, ReadStop};
-use cmd_words::Summary;
 use cmd_files::{Translation, Translator};
+use cmd_words::Summary;
 use std::alloc::Global;
 
 /// Lowers texts.

@@ -3,10 +3,10 @@ ghost use Rattle.c_text.specs.Reading.{IsInSubset, IsRefusedFor};
 ghost use Rattle.cmd_lower.specs.Lowered.{IsTextLowered, IsOnlyText};
 
 use c_printer::print;
+use c_text::read;
 use c_types::{Bytes, ReadStop, Refusal};
 use goto_lowering::lower;
 use std::alloc::Global;
-use c_text::read;
 
 /// A text that is lowered.
 #[derive(Drop)]

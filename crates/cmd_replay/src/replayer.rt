@@ -7,8 +7,8 @@ ghost use Rattle.rg_ports.specs.Reads.{NotFewer, IsOneRead};
 
 use c_tree::Program;
 use c_types::{ReadStop, Refusal};
-use cmd_words::{Status, tell, tell_refusal};
 use cmd_files::{MOST_BYTES, Translation, take_text};
+use cmd_words::{Status, tell, tell_refusal};
 use rg_ports::{Shelf, Sink};
 use std::alloc::Global;
 

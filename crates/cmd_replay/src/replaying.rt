@@ -5,8 +5,8 @@ ghost use Rattle.cmd_replay.specs.Replays.{Replays, CompletesReplay};
 
 use crate::replayer::{Replayer, program_read, replayed};
 use c_tree::Program;
-use cmd_words::Status;
 use cmd_files::{Targets, write_translation};
+use cmd_words::Status;
 use rg_ports::{Shelf, Sink};
 use std::alloc::Global;
 

@@ -3,10 +3,10 @@ ghost use Rattle.std.specs.Prelude.{◌≡◌};
 use c_printer::print;
 use c_tree::Program;
 use c_types::{List, ReadStop};
-use cmd_words::Summary;
 use cmd_files::Translation;
-use move_driver::Counts;
 use cmd_replay::Replayer;
+use cmd_words::Summary;
+use move_driver::Counts;
 use std::alloc::Global;
 
 /// Reads texts of C (docs/SUBSET.md), and makes the moves of reports in their programs (docs/REWRITING.md).

@@ -7,12 +7,12 @@ ghost use Rattle.cmd_run.specs.Runnable.{main_entry as the_main_entry, EntersMai
 
 use c_tree::Program;
 use c_types::{List, Memory, Name, ReadStop, Refusal};
-use cmd_words::{Status, tell, tell_refusal};
 use cmd_files::take_text;
-use step_open_calls::has_open_call;
+use cmd_words::{Status, tell, tell_refusal};
 use rg_ports::{Shelf, Sink};
 use std::alloc::Global;
 use step_interp::{Entry, is_entry};
+use step_open_calls::has_open_call;
 
 /// The most bytes of a text that is run.
 pub const MOST_RUN_BYTES: usize = 67108864;

@@ -17,9 +17,9 @@ use Rattle.tidy_result_laws.proofs.TheLaws.{end_law}
 use Rattle.tidy_result_laws.specs.TidyRereadLaws.{ReadsBack}
 use Rattle.tidy_result_laws.proofs.Ends.{ends_read_back}
 use Rattle.tidy_result_laws.proofs.OneEnd.{one_end}
-use Rattle.tidy_refusal.specs.CJumplessLaws.{TopLacksJumps}
+use Rattle.tidy_refusal.specs.JumplessLaws.{TopLacksJumps}
 use Rattle.cmd_tidy.specs.declared.text.Tidied.{Tidied}
-use Rattle.tidy_refusal.specs.TidyRefusalJumps.{text_jump}
+use Rattle.tidy_refusal.specs.TextJumps.{text_jump}
 use Rattle.cmd_tidy.specs.Tidied.{IsTextTidied, IsOnlyText}
 use Rattle.cmd_tidy.proofs.Behaves.{behaves}
 use Rattle.tidy_refusal.proofs.Jumpless.{lacks_jumps}

@@ -29,8 +29,9 @@ use Rattle.move_driver.specs.declared.counts.Counts.{Counts}
 use Rattle.move_driver.specs.Counts.{counted, guards_between, guards_from, counts_of}
 use Rattle.move_driver.specs.Restructured.{IsRestructured}
 use Rattle.move_driver.specs.Settled.{no_counts}
+use Rattle.move_driver.proofs.Programs.{counts_are}
 use Rattle.tidy_laws.specs.Ends.{variables_in, variables}
-use Rattle.tidy_refusal.specs.CJumplessLaws.{TopLacksJumps}
+use Rattle.tidy_refusal.specs.JumplessLaws.{TopLacksJumps}
 
 -- ---- the flat form loses labels alone
 
@@ -119,4 +120,4 @@ module _ (p q : Program) (ms : List Move) (counts : Counts) (r : IsResolved p) (
 
   pub nothing_counted : counts ≡ no_counts
   nothing_counted =
-      w.counted ∙ (λ i. counts_of (moved.0 i) w.moved (w.result i)) ∙ counted_none w.moved (plain (names p) w.moved) last.0
+      counts_are p q ms counts r w ∙ (λ i. counts_of (moved.0 i) w.moved (w.result i)) ∙ counted_none w.moved (plain (names p) w.moved) last.0

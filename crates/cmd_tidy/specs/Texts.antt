@@ -8,7 +8,7 @@ use Rattle.cmd_files.specs.declared.translator.Translation.{Translation}
 use Rattle.cmd_files.specs.Translated.{Completes}
 use Rattle.cmd_files.specs.Written.{Writes}
 use Rattle.cmd_tidy.specs.declared.text.Tidied.{Tidied}
-use Rattle.tidy_refusal.specs.TidyRefusalJumps.{IsRefusedForJumps, IsWithoutJumps}
+use Rattle.tidy_refusal.specs.TextJumps.{IsRefusedForJumps, IsWithoutJumps}
 use Rattle.cmd_tidy.specs.Tidied.{IsTextTidied, IsOnlyText}
 
 -- what is written of a tidied text, and told of it

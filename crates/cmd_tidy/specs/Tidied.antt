@@ -9,7 +9,7 @@ use Rattle.move_driver.specs.Restructured.{IsRestructured}
 use Rattle.move_driver.specs.Settled.{no_counts}
 use Rattle.tidy_laws.specs.Ends.{IsTidied, variables}
 use Rattle.cmd_tidy.specs.declared.text.Tidied.{Tidied}
-use Rattle.tidy_refusal.specs.TidyRefusalJumps.{IsWithoutJumps}
+use Rattle.tidy_refusal.specs.TextJumps.{IsWithoutJumps}
 
 -- The text is in the subset and has no jump. What is written is the text of the end to which the changes of its program's
 -- plain form come, and how many changes these are. From every entry, on every input and all answers, that end ends, traps

@@ -1,14 +1,14 @@
 ghost use Rattle.std.specs.Prelude.{◌≡◌, IfOk, IfErr, Err};
-ghost use Rattle.tidy_refusal.specs.TidyRefusalJumps.{IsRefusedForJumps, IsWithoutJumps};
+ghost use Rattle.tidy_refusal.specs.TextJumps.{IsRefusedForJumps, IsWithoutJumps};
 ghost use Rattle.cmd_tidy.specs.Tidied.{IsTextTidied, IsOnlyText};
 
 use break_recovery::tidy;
 use c_printer::print;
+use c_text::read;
 use c_types::{Bytes, ReadStop, Refusal};
 use move_driver::restructure_program;
 use std::alloc::Global;
 use tidy_refusal::text_jump;
-use c_text::read;
 
 /// A tidied text.
 #[derive(Drop)]

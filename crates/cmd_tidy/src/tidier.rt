@@ -2,15 +2,15 @@ ghost use Rattle.std.specs.Prelude.{◌≡◌};
 
 use crate::text::{Tidied, tidy_text};
 use c_types::{List, ReadStop};
-use cmd_words::Summary;
 use cmd_files::{Translation, Translator};
+use cmd_words::Summary;
 use std::alloc::Global;
 
 /// Tidies texts.
 pub struct TextTidier;
 
 impl Translator for TextTidier {
-    ghost use Rattle.tidy_refusal.specs.TidyRefusalJumps.{IsRefusedForJumps, IsWithoutJumps};
+    ghost use Rattle.tidy_refusal.specs.TextJumps.{IsRefusedForJumps, IsWithoutJumps};
     ghost use Rattle.tidy_refusal.proofs.Jumpless.{apart};
     ghost use Rattle.cmd_tidy.specs.Texts.{IsTidiedTo};
 

@@ -1,7 +1,7 @@
 pub mod PlaceLaws
 pub mod PlanLaws
 pub mod Measured
-pub mod Places
+pub mod CountedPlaces
 pub mod StrayLists
 pub mod Totals
 pub mod Gathered

@@ -8,9 +8,9 @@ ghost use Rattle.c_tree.specs.Views.{tree_at};
 
 use crate::flat_counts_labels::label_count;
 use crate::strays::without_strays;
+use crate::{flat_body, labels_in};
 use c_tree::{Function, Item, Section};
 use c_types::{List, Memory, Name};
-use crate::{flat_body, labels_in};
 use flat_questions::{has_arrival, has_jumps};
 use std::alloc::Global;
 

@@ -4,8 +4,8 @@ ghost use Rattle.std.specs.Prelude.{◌≡◌, ◌≤◌, ◌==◌, ◌||◌, le
 ghost use Rattle.flat_items.specs.Plans.{number_at};
 ghost use Rattle.c_resolved_laws.specs.Counts.{is_case_code as the_case_code, labels_from};
 
-use c_types::Memory;
 use crate::places_of;
+use c_types::Memory;
 use flat_items::{Places, label_of};
 use std::alloc::Global;
 
@@ -28,7 +28,7 @@ fn counts_here(places: &Places, sources: usize, code: u32, place: usize) -> Resu
 }
 
 /// How many labels these codes name, where the source has so many. Want of memory is the only failure.
-#[tactic(auto, using(crate::proofs::Places::steps))]
+#[tactic(auto, using(crate::proofs::CountedPlaces::steps))]
 pub fn label_count(alloc: Global, sources: usize, codes: &[u32]) -> Result<u64, Memory>
     requires { length codes.now ≤ 4294967295 }
     ensures { IfOk result (λ it. it ≡ labels_from sources codes.now 0 codes.now) }

@@ -7,9 +7,9 @@ ghost use Rattle.flat_names.specs.FlatNames.{flat_names_beside};
 ghost use Rattle.flat_form.specs.Flattened.{applied, IsBodyForm, IsFormBeside, IsFlattenedBeside};
 
 use crate::unlabelling::unlabelled;
+use crate::{FlatBody, flat_body};
 use c_tree::{Function, Item};
 use c_types::{List, Memory};
-use crate::{FlatBody, flat_body};
 use flat_names::{FlatNames, ProgramNames, name_flat};
 use flat_questions::has_jumps;
 use std::alloc::Global;

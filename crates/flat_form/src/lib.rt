@@ -1,21 +1,17 @@
-//! The flat form of a body, in which the labels are numbered in text order.
-//!
-//! How many gotos and labels a flat form has.
-//!
-//! The flat form of a function.
+//! The flat form of a function, and of its body alone: labels are numbered in text order, gotos and labels are counted.
 #![tactic(auto)]
 
 mod bodies;
-mod flat_bodies_labels;
-mod places;
 mod counting;
+mod flat_bodies_labels;
 mod flat_counts_labels;
-mod strays;
 mod forms;
+mod places;
+mod strays;
 mod unlabelling;
 
 pub use bodies::{FlatBody, flat_body};
-pub use flat_bodies_labels::labels_in;
-pub use places::places_of;
 pub use counting::{flat_counts, gotos_in};
+pub use flat_bodies_labels::labels_in;
 pub use forms::flatten_function;
+pub use places::places_of;

@@ -26,7 +26,8 @@ use Rattle.whole_laws.proofs.Source.{IsSourceTop, source_function}
 use Rattle.whole_laws.proofs.Flattened.{body_is, flat_looser, flat_ranged, flat_made, flat_converted, unlabelled_looser, left_ranged, left_made}
 use Rattle.flat_form.specs.Flattened.{IsFlattenedBeside}
 use Rattle.flat_function.proofs.Forms.{flattened}
-use Rattle.flat_function.specs.Behaviour.{IsOfResolved, OneFunctionExchanged, this_function, later_function, KeepsBehaviour, IsConvertible}
+use Rattle.move_order_laws.specs.Exchanged.{OneFunctionExchanged, this_function, later_function, KeepsBehaviour, IsConvertible}
+use Rattle.flat_function.specs.Behaviour.{IsOfResolved}
 
 -- ---- one function
 

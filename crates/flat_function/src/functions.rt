@@ -1,6 +1,7 @@
 ghost use Rattle.std.specs.Prelude.{◌≡◌, OnOk, OnErr};
 ghost use Rattle.flat_form.specs.Flattened.{IsFlattenedBeside, IsFlattened};
-ghost use Rattle.flat_function.specs.Behaviour.{IsOfResolved, KeepsBehaviour, IsConvertible};
+ghost use Rattle.move_order_laws.specs.Exchanged.{KeepsBehaviour, IsConvertible};
+ghost use Rattle.flat_function.specs.Behaviour.{IsOfResolved};
 
 use c_tree::Function;
 use c_types::{List, Memory, Name};

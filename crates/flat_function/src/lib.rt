@@ -1,8 +1,4 @@
-//! What the names of a flat form make of a function.
-//!
-//! The definitions stand in specs/. The functions here run no code: their contracts are the laws.
-//!
-//! The flat form of a function, and that programs behave the same with it.
+//! The flat form of a function with its names, and that programs behave the same with it.
 #![tactic(auto)]
 
 mod functions;

@@ -1,6 +1,5 @@
-//! The flat form of a body, as a definition on plain trees, and that it is a looser body.
-//!
-//! The flat form of a source body is made well, before its conversion and after it.
+//! Theorems on the flat form of a source body: it is a looser body, and it is made well, before its conversion
+//! and after it.
 #![tactic(auto)]
 
 ghost use Rattle.flat_laws.specs.FlatLaws.{FlatLaws};

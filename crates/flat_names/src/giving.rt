@@ -5,9 +5,9 @@ ghost use Rattle.flat_names.specs.Gathered.{all_used, given_of};
 ghost use Rattle.flat_names.specs.FlatNames.{name_variable as the_name_variable, name_case as the_name_case, name_cases as the_name_cases, name_default as the_name_default, name_break as the_name_break, name_construct as the_name_construct, name_constructs as the_name_constructs};
 
 use crate::constructs::Construct;
+use c_fresh_names::{UsedNames, numbered};
 use c_tree::Slot;
 use c_types::{IntKind, List, Memory, Name};
-use c_fresh_names::{UsedNames, numbered};
 use std::alloc::Global;
 
 /// The names that were given so far.

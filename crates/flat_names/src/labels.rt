@@ -5,8 +5,8 @@ ghost use Rattle.flat_names.specs.Gathered.{all_used};
 ghost use Rattle.flat_names.specs.FlatNames.{Gets, label_of as the_label_of, named_or, naming, chosen, used_then, label_names as the_label_names};
 
 use crate::giving::Made;
-use c_types::{List, Memory, Name};
 use c_fresh_names::{UsedNames, numbered};
+use c_types::{List, Memory, Name};
 use std::alloc::Global;
 
 /// Which label a code is.

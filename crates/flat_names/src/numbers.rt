@@ -6,8 +6,8 @@ ghost use Rattle.c_fresh_names.specs.Fresh.{fresh as the_fresh};
 ghost use Rattle.flat_names.specs.Gathered.{all_used};
 ghost use Rattle.flat_names.specs.Numbers.{found, or_first, with_number, AreUsedBelow};
 
-use c_types::{Memory, Name};
 use c_fresh_names::UsedNames;
+use c_types::{Memory, Name};
 use std::alloc::Global;
 use std::collections::BTreeMap;
 use std::marker::Model;

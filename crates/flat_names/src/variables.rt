@@ -7,9 +7,9 @@ ghost use Rattle.flat_names.specs.FlatNames.{variable_name as the_variable_name,
 
 use crate::numbers::{NextNumbers, fresh_beside};
 use c_copies::copy_slot;
+use c_fresh_names::UsedNames;
 use c_tree::Slot;
 use c_types::{List, Memory, Name};
-use c_fresh_names::UsedNames;
 use std::alloc::Global;
 
 fn renamed(slot: &Slot, name: Name) -> Slot

@@ -7,9 +7,9 @@ use crate::constructs::constructs;
 use crate::giving::{GivenNames, Made, name_constructs};
 use crate::labels::label_names;
 use crate::variables::name_slots;
+use c_fresh_names::UsedNames;
 use c_tree::{Function, Item, Slot};
 use c_types::{List, Memory, Name};
-use c_fresh_names::UsedNames;
 use std::alloc::Global;
 
 /// The variables and the labels of a flat form.

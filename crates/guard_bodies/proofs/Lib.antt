@@ -7,3 +7,4 @@ pub mod SettledItems
 pub mod Onward
 pub mod Tails
 pub mod OnwardPlaces
+pub mod Levels

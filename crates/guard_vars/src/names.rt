@@ -4,9 +4,9 @@ ghost use Rattle.c_copies.specs.Names.{has_name, with_names};
 ghost use Rattle.guard_vars.specs.GuardNames.{guard_name as the_guard_name, named_guards as the_named_guards, own_names, guard_names_beside as the_guard_names_beside, guard_names as the_guard_names, AreNew};
 
 use c_copies::{add_names, add_slots};
+use c_fresh_names::UsedNames;
 use c_tree::Function;
 use c_types::{List, Memory, Name};
-use c_fresh_names::UsedNames;
 use std::alloc::Global;
 
 fn guard_name(alloc: Global, label: &Name, used: &UsedNames) -> Result<Name, Memory>

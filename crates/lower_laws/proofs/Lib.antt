@@ -13,4 +13,4 @@ pub mod Once
 pub mod Flat
 pub mod LoweredPrograms
 pub mod Instance
-mod Tried
+mod LoweredFormsTried

@@ -1,6 +1,7 @@
-//! Functions as flat lists of gotos, as a definition on plain trees, and that they behave as before.
+//! Functions as flat lists of gotos, with the names that lowering gives: as a definition on plain trees, and that they
+//! behave as before.
 //!
-//! What lowering makes of the functions of a program, with their names: definitions alone.
+//! The definitions stand in specs/. Each function here runs no code: its contract is a law of them.
 #![tactic(auto)]
 
 ghost use Rattle.lower_laws.specs.Laws.{LoweredLaws};

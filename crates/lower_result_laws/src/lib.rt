@@ -1,10 +1,7 @@
-//! What the program is that a resolved program is lowered to.
+//! What a resolved program is lowered to is one program, resolved, within the limits of a text, and what its text reads
+//! as.
 //!
-//! The definitions stand in specs/. The function here runs no code: its contract is the laws.
-//!
-//! What a resolved program is lowered to is resolved, and within the limits of a text.
-//!
-//! What a program is lowered to is one program, and what its text reads as.
+//! The definitions stand in specs/. The functions here run no code: their contracts are the laws.
 #![tactic(auto)]
 
 ghost use Rattle.lower_result_laws.specs.LoweredBehavesLaws.{LoweredProgramLaws};

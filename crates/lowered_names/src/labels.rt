@@ -5,9 +5,9 @@ ghost use Rattle.flat_names.specs.Gathered.{all_used};
 ghost use Rattle.lower_laws.specs.Lowering.{label_names as the_label_names};
 ghost use Rattle.lowered_names.specs.Steps.{chosen, next_then, used_then};
 
+use c_fresh_names::UsedNames;
 use c_types::{List, Memory, Name};
 use flat_names::{made_name, own_name};
-use c_fresh_names::UsedNames;
 use std::alloc::Global;
 
 /// Whether a label with this code is one of the source.

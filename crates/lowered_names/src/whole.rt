@@ -4,10 +4,10 @@ ghost use Rattle.flat_names.specs.FlatNames.{named_slots};
 ghost use Rattle.lower_laws.specs.Lowering.{with_variable, with_variables, label_names as the_label_names};
 
 use crate::labels::label_names;
+use c_fresh_names::UsedNames;
 use c_tree::Slot;
 use c_types::{IntKind, List, Memory, Name};
 use flat_names::{FlatNames, ProgramNames, made_name, name_slots};
-use c_fresh_names::UsedNames;
 use std::alloc::Global;
 
 /// The variable of loop or switch `k`, if it is a switch, whose variable has this kind.

@@ -9,10 +9,10 @@ ghost use Rattle.move_bodies.specs.Moving.{IsUnderway};
 
 use c_tree::{Item, Path};
 use c_types::{List, Memory};
-use move_order_laws::Kept;
 use label_offsets::{Rule, relation};
-use report_moves::MoveKind;
+use move_order_laws::Kept;
 use outward_moves::move_out;
+use report_moves::MoveKind;
 use std::alloc::Global;
 
 /// Whether the Leap at a path goes out, by the place that its Land had when it was chosen.

@@ -12,8 +12,8 @@ use crate::leaving::leave;
 use crate::one_move::{Moved, move_once};
 use c_tree::{Item, Path};
 use c_types::{List, Memory};
-use move_order_laws::Kept;
 use label_offsets::{first_leap, label_at, place_of};
+use move_order_laws::Kept;
 use std::alloc::Global;
 
 /// Moves the Leap at the path until it is joined, and adds its moves to those before: out of lists that

@@ -10,8 +10,8 @@ use c_types::{List, Memory};
 use goto_lifting::lift;
 use inward_moves::move_in;
 use label_offsets::{Rule, rule_at};
-use report_moves::MoveKind;
 use outward_moves::move_out;
+use report_moves::MoveKind;
 use sibling_elim::join;
 use std::alloc::Global;
 

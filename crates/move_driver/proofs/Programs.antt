@@ -11,6 +11,7 @@ use Rattle.c_tree.specs.InRange.{IsProgramInRange}
 use Rattle.c_copies.specs.Names.{names, file_names}
 use Rattle.jump_meaning.specs.Laws.{IsTopUnflat}
 use Rattle.move_order_laws.specs.Moved.{IsTopMovable, MovedTops}
+use Rattle.move_order_laws.proofs.Joined.{moved_laws}
 use Rattle.report_moves.specs.declared.moves.Move.{Move}
 use Rattle.move_programs.proofs.Tops.{dropped, dropped_set, taken_set, taken_all}
 use Rattle.c_resolved_laws.specs.Counts.{flat_counts, IsResolved}
@@ -93,9 +94,9 @@ movable p names file us r w = flat_movable p us r (named_program_laws.flat names
 -- ---- the whole
 
 module _ (p : Program) (used file : List (List ℕ)) (us : List Top) (q made : Program) (ms : List Move) where
-  pub restructured : used ≡ names p → file ≡ file_names p → length used ≤ most_held → FlattenedTops used file p.tops us → MovedTops us q.tops ms → made ≡ plain used q
+  pub restructured : IsResolved p → used ≡ names p → file ≡ file_names p → length used ≤ most_held → FlattenedTops used file p.tops us → MovedTops us q.tops ms → made ≡ plain used q
       → (counts : Counts) → counts ≡ counts_of ms q made → IsRestructured p made ms counts
-  restructured e f held flattened moved form counts counted = record {
+  restructured resolved e f held flattened moved form counts counted = record {
     moved = q;
     rewritten = record {
       flat = record { tops = us };
@@ -104,8 +105,17 @@ module _ (p : Program) (used file : List (List ℕ)) (us : List Top) (q made : P
       moved = moved;
     };
     result = form ∙ ap (λ n. plain n q) e;
-    counted = counted;
+    jumps = ap (λ (c : Counts). c.jumps) counted ∙ moved_laws.joins us q.tops ms (movable p used file us resolved flattened) moved;
+    moves = ap (λ (c : Counts). c.moves) counted;
+    guards = ap (λ (c : Counts). c.guards) counted;
   }
+
+-- there is one join for each goto of the flat forms, so these are the counts of its moves
+pub counts_are : (p q : Program) (ms : List Move) (counts : Counts) → IsResolved p → (w : IsRestructured p q ms counts) → counts ≡ counts_of ms w.moved q
+counts_are p q ms counts r w =
+    let flat = w.rewritten.flat.tops in
+    let jumps = w.jumps ∙ sym (moved_laws.joins flat w.moved.tops ms (movable p (names p) (file_names p) flat r w.rewritten.flattened) w.rewritten.moved) in
+    λ i. record { jumps = jumps i; moves = w.moves i; guards = w.guards i }
 
 -- the result is resolved, behaves as the program and reads back
 pub reads_back : (p q : Program) (ms : List Move) (counts : Counts) → IsResolved p → IsRestructured p q ms counts → ReadsBack p q

@@ -22,6 +22,7 @@ use Rattle.c_text.proofs.Readings.{program_back}
 use Rattle.move_driver.specs.declared.counts.Counts.{Counts}
 use Rattle.move_driver.specs.Counts.{counted, guards_between, guards_from, counts_of}
 use Rattle.move_driver.specs.Restructured.{IsRestructured, IsOnly}
+use Rattle.move_driver.proofs.Programs.{counts_are}
 use Rattle.move_driver.specs.Settled.{no_counts, IsSettled, unchanged, IsTextSettled}
 use Rattle.move_driver.specs.Text.{Output, CanBeReplayed, IsOnlyOutput}
 
@@ -36,7 +37,7 @@ pub only : (p q : Program) (ms : List Move) (counts : Counts) → IsResolved p �
 only p q ms counts s v r ns others w =
     let k = one_rewriting_laws.rewritten p w.moved v.moved ns ms s w.rewritten v.rewritten in
     let same : r ≡ q = w.result ∙ ap (plain (names p)) k.0 ∙ sym v.result in
-    (same, k.1, w.counted ∙ (λ i. counts_of (k.1 i) (k.0 i) (same i)) ∙ sym v.counted)
+    (same, k.1, counts_are p r ns others s w ∙ (λ i. counts_of (k.1 i) (k.0 i) (same i)) ∙ sym (counts_are p q ms counts s v))
 
 -- what a text is restructured to, which reads as p, where q is the only one for p
 module _ (t : List ℕ) (p : Program) (reads : IsProgramOf t p) (q : Program) (ms : List Move) (counts : Counts) (o : IsOnly p q ms counts) where
@@ -79,7 +80,7 @@ pub settled : (p : Program) → IsResolved p → is_plain_program p ≡ true →
 settled p r e q ms counts w =
     let k = settled_laws.rewritten p w.moved ms r e w.rewritten in
     let same : q ≡ p = w.result ∙ ap (plain (names p)) k.0 ∙ settled_laws.plain (guard_names (names p)) p r in
-    (same, k.1, w.counted ∙ (λ i. counts_of (k.1 i) (k.0 i) (same i)) ∙ none_counted p)
+    (same, k.1, counts_are p q ms counts r w ∙ (λ i. counts_of (k.1 i) (k.0 i) (same i)) ∙ none_counted p)
 
 -- and so is its text
 pub text_settled : (t : List ℕ) (p : Program) → IsSettled p → t ≡ text_of p → IsProgramOf (text_of p) p → IsTextSettled t

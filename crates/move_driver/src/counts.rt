@@ -3,8 +3,8 @@ ghost use Rattle.move_driver.specs.Counts.{counted, guards_between, guards_from,
 
 use c_tree::{Program, Top};
 use c_types::List;
-use report_moves::Move;
 use move_programs::join_count;
+use report_moves::Move;
 
 /// What a rewriting did, each counted up to the last `u64`.
 #[derive(Clone, Copy, Debug, PartialEq, Eq)]

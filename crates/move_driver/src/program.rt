@@ -18,9 +18,9 @@ use c_tree::{Program, Top};
 use c_types::{List, Memory};
 use flat_function::flatten_beside;
 use flat_names::ProgramNames;
-use report_moves::Move;
-use plain_form::plain;
 use move_programs::move_program;
+use plain_form::plain;
+use report_moves::Move;
 use std::alloc::Global;
 
 fn flatten_top(alloc: Global, names: &mut ProgramNames, top: &mut Top) -> Result<(), Memory>

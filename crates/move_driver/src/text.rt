@@ -6,10 +6,10 @@ ghost use Rattle.move_driver.specs.Settled.{IsTextSettled};
 use crate::counts::Counts;
 use crate::program::{Rewritten, rewrite};
 use c_printer::print;
+use c_text::read;
 use c_types::{Bytes, ReadStop, Refusal};
 use move_report::write_report;
 use std::alloc::Global;
-use c_text::read;
 
 /// A restructured text.
 #[derive(Drop)]

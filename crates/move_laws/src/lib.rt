@@ -1,12 +1,9 @@
-//! Each of the four rules makes a body at least as good as before: what leaves it stays, no way through it is
-//! worse, and its core is the same, but for Arms that become gotos. So a steady program stays steady and
-//! behaves the same.
+//! Theorems on what may be done to a body. Each of the four rules makes it at least as good as before: what
+//! leaves it stays, no way through it is worse, and its core is the same, but for Arms that become gotos; so a
+//! steady program stays steady and behaves the same. The simplifications of made tests keep its core. A guard
+//! that nothing reads can go: its Lands and Arms with it, but for the conditions of the Arms.
 //!
 //! The definitions stand in specs/. Each function here runs no code: its contract is a law of them.
-//!
-//! The simplifications of made tests keep the core of a body.
-//!
-//! A guard that nothing reads can go: its Lands and Arms with it, but for the conditions of the Arms.
 #![tactic(auto)]
 
 ghost use Rattle.move_laws.specs.MoveRuleLaws.{BehaviourLaws, BetterLaws, MoveLaws, ProgramLaws};

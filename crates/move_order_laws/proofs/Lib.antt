@@ -23,6 +23,6 @@ pub mod Laws
 pub mod Refused
 pub mod ConvertedTrees
 pub mod BetterConverted
-pub mod Kept
+pub mod KeptByConversion
 pub mod ProgramsConverted
 pub mod Joined

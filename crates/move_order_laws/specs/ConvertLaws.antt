@@ -12,6 +12,7 @@ use Rattle.jump_meaning.specs.Runs.{BehaveTheSame}
 use Rattle.jump_meaning.specs.Steady.{IsSteady}
 use Rattle.core_laws.specs.Better.{Better}
 use Rattle.c_tree.specs.Conversions.{convert}
+use Rattle.move_order_laws.specs.Exchanged.{KeepsBehaviour, IsConvertible}
 
 -- one flat function, whose conversion is well made, is converted; all else is equal
 pub data OneFunctionConverted : List Top → List Top → Type 0 where
@@ -25,3 +26,5 @@ pub record ConversionLaws : Type 0 where
   pub better : (xs : List Item) → Better (trees_of xs) (trees_of (converted_list xs))
   -- a steady program stays steady, and behaves the same
   pub steady : (p q : Program) → OneFunctionConverted p.tops q.tops → IsSteady p → IsSteady q × BehaveTheSame p q
+  -- whichever flat function of it that is, where its conversion is well made
+  pub exchanged : (f : Function) → f.flat ≡ true → IsConvertible f → KeepsBehaviour f (converted f)

@@ -9,6 +9,7 @@ pub mod MoveOrderCounts
 pub mod MoveBodyLaws
 pub mod Skeletons
 pub mod MoveSkeletonLaws
+pub mod Exchanged
 pub mod ConvertLaws
 pub mod Moved
 pub mod MoveFunctionCounts

@@ -1,17 +1,9 @@
-//! The derivation of a body: its first Leap in text order is chosen and moved by the rule that applies
-//! until it is joined, then the next, until none is left.
+//! The order of the moves: in each body the first Leap in text order is chosen and moved by the rule that applies
+//! until it is joined, then the next, until none is left. Conversion and all moves together keep the behaviour of a
+//! body, its skeleton (the source statements and source tests, each once, in their order and in their own
+//! constructs), and make it three lists deeper for each goto at most.
 //!
 //! The definitions stand in specs/. Each function here runs no code: its contract is a law of them.
-//!
-//! All moves of a body keep behaviour, and make it three lists deeper for each goto at most.
-//!
-//! The skeleton of a body is its source statements and source tests, each once, in their order and in
-//! their own constructs. Conversion, moves and simplifications keep it.
-//!
-//! Conversion keeps the core of a body: each goto is an Arm and a Leap whose way lands, each label a Land.
-//!
-//! What the derivation of a function and of a program is: conversion, the moves of all Leaps, and the
-//! simplifications, with one list of moves.
 #![tactic(auto)]
 
 mod kept;

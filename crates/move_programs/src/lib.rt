@@ -3,9 +3,11 @@
 #![tactic(auto)]
 
 mod all_tops;
+mod converting;
 mod counting;
 mod one_function;
 
 pub use all_tops::move_program;
+pub use converting::convert_function;
 pub use counting::join_count;
 pub use one_function::move_function;

@@ -4,12 +4,12 @@ ghost use Rattle.std.specs.Prelude.{◌≡◌, ◌++◌, IfOk, OnOk};
 ghost use Rattle.move_order_laws.specs.Moved.{IsMovable, IsMoved};
 ghost use Rattle.move_programs.specs.Derived.{IsReady, IsDerived};
 
-use move_bodies::{derive, name_moves};
-use guard_bodies::simplify;
+use crate::converting::convert_function;
 use c_tree::Function;
 use c_types::{List, Memory};
+use guard_bodies::simplify;
+use move_bodies::{derive, name_moves};
 use move_order_laws::Kept;
-use guard_vars::convert;
 use report_moves::Move;
 use std::alloc::Global;
 use std::mem;
@@ -45,7 +45,7 @@ pub fn move_function(alloc: Global, function: &mut Function) -> Result<List<Move
     requires { IsMovable function.old }
     ensures { IfOk result (λ ms. IsMoved function.old function.new ms) }
 {
-    convert(alloc, function)?;
+    convert_function(alloc, function)?;
     let kept = derive_function(alloc, function)?;
     let mut moves = name_moves(alloc, &function.name, &function.labels, kept)?;
     let more = simplify(alloc, function)?;

@@ -18,7 +18,7 @@ use Rattle.restructure_laws.specs.Flattened.{most_held, FlattenedTops}
 use Rattle.move_driver.specs.declared.counts.Counts.{Counts}
 use Rattle.move_driver.specs.Counts.{counts_of}
 use Rattle.move_driver.specs.Restructured.{IsRestructured}
-use Rattle.move_driver.proofs.Programs.{reads_back}
+use Rattle.move_driver.proofs.Programs.{counts_are, reads_back}
 use Rattle.print_limits.specs.Limits.{IsWithinLimits}
 use Rattle.replay_laws.specs.Lawful.{Moves}
 use Rattle.replay_laws.specs.Replayed.{converted_tops, IsTopLeapless, IsReplayed}
@@ -114,7 +114,7 @@ restructured p q text ms counts r w numbers e =
     let i : IsStart p start = record { flat = w.rewritten.flat.tops; held = w.rewritten.held; flattened = w.rewritten.flattened; is = refl } in
     let m = replayed_laws.moves flat_counts p w.rewritten.flat.tops w.moved.tops ms r (flat_tops p start r i) w.rewritten.moved in
     let named = replayed_program_laws.moves p w.moved ms r (with_names p w.moved ms (record { start = start; is_start = i; moved = m.0 })) in
-    accepted p w.moved q text start (names p) ms counts r refl (record { lines = reportable ms named numbers; text_is = e }) i m.0 m.1 w.result (resolved_within q (reads_back p q ms counts r w).resolved) w.counted
+    accepted p w.moved q text start (names p) ms counts r refl (record { lines = reportable ms named numbers; text_is = e }) i m.0 m.1 w.result (resolved_within q (reads_back p q ms counts r w).resolved) (counts_are p q ms counts r w)
 
 -- ---- the answer is the only one
 

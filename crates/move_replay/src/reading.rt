@@ -6,8 +6,8 @@ ghost use Rattle.move_replay.specs.Replay.{IsUnreadable};
 
 use crate::lines::line_start;
 use c_types::{List, ReadStop, Refusal};
-use report_moves::Move;
 use move_report::{ReportStop, read_report};
+use report_moves::Move;
 use std::alloc::Global;
 
 /// A refusal at the first byte of a line.

@@ -24,11 +24,11 @@ use c_copies::{file_names, names};
 use c_tree::{Program, Top};
 use c_types::{List, Memory, Name, ReadStop, Refusal};
 use flat_names::ProgramNames;
-use replay_moves::convert_tops;
 use move_driver::{Counts, count, flatten_tops};
-use report_moves::Move;
 use plain_form::plain;
 use print_limits::is_within_limits;
+use replay_moves::convert_tops;
+use report_moves::Move;
 use std::alloc::Global;
 
 /// The flat forms of all functions, converted.

@@ -5,6 +5,6 @@ mod line;
 mod read;
 mod write;
 
-pub use report_moves::{Move, MoveKind};
 pub use read::{ReportStop, read_report};
+pub use report_moves::{Move, MoveKind};
 pub use write::{report_to, write_report};

@@ -7,12 +7,11 @@ ghost use Rattle.report_moves.specs.Report.{kind_text as the_kind_text, label_te
 ghost use Rattle.move_report.specs.Numbers.{HaveNumbers};
 
 use arrayvec::ArrayVec;
-use rg_ports::{Growing, Output, Writer};
 use c_tree::{Branch, Path, Step};
 use c_types::{Bytes, List, MOST, Memory, Name};
 use itoa::Buffer;
 use report_moves::{Move, MoveKind};
-use rg_ports::{Failed, Sink};
+use rg_ports::{Failed, Growing, Output, Sink, Writer};
 use std::alloc::Global;
 
 fn put_number<W: Output>(out: &mut W, number: u32)

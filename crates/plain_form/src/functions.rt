@@ -8,9 +8,9 @@ use crate::left::{Left, guards_left};
 use crate::sections::joined;
 use crate::slots::Slots;
 use c_copies::{copy_function, copy_slots};
+use c_fresh_names::UsedNames;
 use c_tree::{Function, Item, Slot};
 use c_types::{IntKind, List, MOST, Memory, Name};
-use c_fresh_names::UsedNames;
 use guard_vars::guard_names_beside;
 use std::alloc::Global;
 

@@ -10,9 +10,9 @@ ghost use Rattle.plain_form.specs.Plain.{plain as the_plain};
 
 use crate::functions::plain_function;
 use c_copies::copy_top;
+use c_fresh_names::UsedNames;
 use c_tree::{Program, Top};
 use c_types::{List, Memory, Name};
-use c_fresh_names::UsedNames;
 use std::alloc::Global;
 
 fn plain_top(alloc: Global, used: &mut UsedNames, top: &Top) -> Result<Top, Memory>

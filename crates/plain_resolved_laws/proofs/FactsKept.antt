@@ -9,7 +9,7 @@ use Rattle.c_tree.specs.ExpressionTrees.{ExpressionTree}
 use Rattle.c_tree.specs.Trees.{Tree, Forest, Sections, NoSection, Section, trees_of}
 use Rattle.c_tree.proofs.KeptLemmas.{IsKept, changed_kept}
 use Rattle.move_order_laws.proofs.ConvertedTrees.{converted_trees}
-use Rattle.move_order_laws.proofs.Kept.{IsKeptByConversion, convert_kept}
+use Rattle.move_order_laws.proofs.KeptByConversion.{IsKeptByConversion, convert_kept}
 use Rattle.flat_laws.specs.Unlabelled.{unlabelled, unlabelled_among}
 use Rattle.guard_vars.specs.Conversion.{converted_list}
 use Rattle.move_laws.proofs.Kept.{IsOfLabels, shorter_kept, round_kept, selector_kept, IsStable, simplified_kept}

@@ -30,7 +30,7 @@ use Rattle.plain_laws.specs.GuardSlots.{plain_list, plain_item, plain_sections}
 use Rattle.plain_laws.specs.Slotted as D
 use Rattle.plain_laws.specs.Slotted.{AreDeclarations, one_more, variable, guarding}
 use Rattle.plain_laws.proofs.PlainFunctions.{are_declared}
-use Rattle.whole_laws.proofs.BodiesKept.{IsSimplified, chosen_simplified}
+use Rattle.guard_simplify.proofs.Applied.{IsSimplified, chosen_simplified}
 use Rattle.c_resolved_defs.specs.PrintableStatements.{most, depth, depth_of, depth_in}
 use Rattle.c_resolved_defs.specs.Resolved.{IsResolvedFunction}
 use Rattle.c_resolved_laws.specs.Counts as measures

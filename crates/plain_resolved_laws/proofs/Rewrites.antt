@@ -16,7 +16,7 @@ use Rattle.guard_simplify.specs.declared.choice.Choice.{Choice}
 use Rattle.guard_simplify.specs.Choice.{choices}
 use Rattle.guard_simplify.specs.Application.{Reaches, none, then}
 use Rattle.guard_simplify.proofs.Members.{in_first}
-use Rattle.whole_laws.proofs.BodiesKept.{IsSimplified, chosen_simplified}
+use Rattle.guard_simplify.proofs.Applied.{IsSimplified, chosen_simplified}
 
 pub data Rewrites : List Item → List Item → Type 0 where
   unchanged : (xs : List Item) → Rewrites xs xs

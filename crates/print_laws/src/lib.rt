@@ -1,8 +1,7 @@
-//! The syntax of printed text: what the lexer and the grammar make of the text of a tree.
+//! Theorems on printed text: what the lexer and the grammar make of the text of a tree, and what `scan` and
+//! `parse` answer to it.
 //!
-//! The definitions stand in specs/. The function here runs no code: its contract is the law.
-//!
-//! Reading printed text: what `scan` and `parse` answer to the text that a tree prints as.
+//! The definitions stand in specs/. Each function here runs no code: its contract is a law of them.
 #![tactic(auto)]
 
 ghost use Rattle.print_laws.specs.PrintSyntaxLaws.{PrintedReadsBack};

@@ -2,6 +2,7 @@ ghost use Rattle.std.specs.Prelude.{◌≡◌, ◌↔◌, ℕ, List, Option, map
 ghost use Rattle.cmd_words.specs.Lines.{Tells, usage_line};
 ghost use Rattle.cmd_words.specs.Command.{Restructure, Run, Demo, Help, Show, Moves, Replay, Tidy, Lower, command_of};
 ghost use Rattle.cmd_words.specs.Help.{Helps};
+ghost use Rattle.cmd_files.specs.Written.{Wanted};
 ghost use Rattle.cmd_demo.specs.Demos.{ShowsDemo, CompletesDemo};
 ghost use Rattle.cmd_run_text.specs.Texts.{RunsText, CompletesText};
 ghost use Rattle.cmd_replay_text.specs.Texts.{ReplaysText, CompletesText as CompletesReplay};
@@ -10,9 +11,9 @@ ghost use Rattle.cmd_lower.specs.Texts.{LowersText, CompletesText as CompletesLo
 ghost use Rattle.regoto.specs.Restructure.{Restructures, ShowsRestructured, Completes};
 
 use crate::works::TextWorks;
+use cmd_files::Part;
 use cmd_words::Status;
 use command_table::carry_out;
-use cmd_files::Part;
 use rg_ports::{Shelf, Sink, Source};
 use std::alloc::Global;
 
@@ -39,6 +40,10 @@ pub fn regoto<H: Shelf, I: Source, O: Sink, E: Sink>(
     ensures complete { (from to : List ℕ) (report : Option (List ℕ)) → command_of (map string_bytes words.now) ≡ Some (Restructure from to report)
         → Completes from (H.held shelf.old) (H.reads shelf.old) (H.reads shelf.new)
         (H.write_faults shelf.old) (H.write_faults shelf.new) result }
+
+    // Where a file has changed, it was the write of the report that was refused memory.
+    ensures wanted { (from to : List ℕ) (report : Option (List ℕ)) → command_of (map string_bytes words.now) ≡ Some (Restructure from to report)
+        → result ≡ Status.Memory → Wanted (H.held shelf.old) (H.held shelf.new) (H.wants shelf.old) (H.wants shelf.new) }
 
     ensures help { command_of (map string_bytes words.now) ≡ Some Help → (shelf.new ≡ shelf.old)
         × Helps (O.written out.old) (O.written out.new) (O.faults out.old) (O.faults out.new)

@@ -1,8 +1,8 @@
 ghost use Rattle.std.specs.Prelude.{◌≡◌};
 
 use c_types::ReadStop;
-use cmd_words::Summary;
 use cmd_files::{Translation, Translator};
+use cmd_words::Summary;
 use move_driver::{Counts, Written, restructure_text};
 use std::alloc::Global;
 

@@ -4,18 +4,18 @@ ghost use Rattle.cmd_files.specs.Translated.{Completes as CompletesWhere};
 ghost use Rattle.cmd_files.specs.Written.{Writes};
 
 use crate::restructurer::Restructurer;
-use cmd_words::Status;
-use command_table::Works;
 use cmd_demo::demo;
 use cmd_files::{Part, Targets, Translator, show, write};
-use cmd_replay::replay_file;
-use rg_ports::{Shelf, Sink, Source};
-use cmd_run::run_file;
-use std::alloc::Global;
 use cmd_lower::TextLowerer;
+use cmd_replay::replay_file;
 use cmd_replay_text::TextReplayer;
+use cmd_run::run_file;
 use cmd_run_text::TextReader;
 use cmd_tidy::TextTidier;
+use cmd_words::Status;
+use command_table::Works;
+use rg_ports::{Shelf, Sink, Source};
+use std::alloc::Global;
 
 /// Reads one file, and writes what becomes of its text to another, which may be the same; no report is written.
 fn write_text<T: Translator, H: Shelf, E: Sink>(

@@ -18,6 +18,7 @@ pub struct FileShelf<'a, R: Files + AllocGlobal> {
     runtime: &'a R,
     reads: ReadCounts,
     writes: u64,
+    wants: u64,
 }
 
 impl<'a, R: Files + AllocGlobal> FileShelf<'a, R> {
@@ -27,6 +28,7 @@ impl<'a, R: Files + AllocGlobal> FileShelf<'a, R> {
             runtime,
             reads: NO_READS,
             writes: 0,
+            wants: 0,
         }
     }
 }
@@ -38,6 +40,8 @@ impl<'a, R: Files + AllocGlobal> Shelf for FileShelf<'a, R> {
 
     ghost write_faults = { λ shelf. shelf.writes };
 
+    ghost wants = { λ shelf. shelf.wants };
+
     fn read(&mut self, alloc: Global, name: &str, most: usize) -> Result<Bytes, ReadError> {
         let answer = read_file(self.runtime, alloc, name, most);
         self.reads = after_read(self.reads, error_of(&answer));
@@ -46,8 +50,10 @@ impl<'a, R: Files + AllocGlobal> Shelf for FileShelf<'a, R> {
 
     fn write(&mut self, name: &str, bytes: &[u8]) -> Result<(), WriteError> {
         let answer = put_file(self.runtime, name, bytes);
-        if let Err(WriteError::Failed) = answer {
-            self.writes = self.writes.saturating_add(1);
+        match answer {
+            Ok(()) => {}
+            Err(WriteError::Failed) => self.writes = self.writes.saturating_add(1),
+            Err(WriteError::Memory) => self.wants = self.wants.saturating_add(1),
         }
         answer
     }

@@ -22,7 +22,7 @@ use Rattle.plain_laws.specs.Kinded.{KindedItem}
 use Rattle.plain_laws.proofs.KindsMoved.{kinds_moved}
 use Rattle.whole_laws.proofs.Simplified.{kinds_simplified}
 use Rattle.whole_laws.proofs.Dropped.{kinds_dropped}
-use Rattle.whole_laws.proofs.BodiesKept.{IsSimplified, chosen_simplified}
+use Rattle.guard_simplify.proofs.Applied.{IsSimplified, chosen_simplified}
 use Rattle.whole_laws.proofs.Chains.{KeepsKindsOf}
 use Rattle.replay_laws.specs.Lawful.{IsLeapMoved, IsSimplifiedBy}
 

@@ -27,7 +27,7 @@ use Rattle.guard_bodies.specs.Lawful.{IsMadeIn}
 use Rattle.guard_simplify.specs.declared.choice.Choice.{Choice}
 use Rattle.guard_simplify.specs.Choice.{Among, barred, choices}
 use Rattle.guard_simplify.proofs.Members.{located}
-use Rattle.whole_laws.proofs.BodiesKept.{IsSimplified, chosen_simplified}
+use Rattle.guard_simplify.proofs.Applied.{IsSimplified, chosen_simplified}
 use Rattle.whole_laws.proofs.Flattened.{body_is}
 use Rattle.replay_laws.specs.Lawful as L
 use Rattle.replay_laws.specs.Lawful.{IsLeapMoved, IsSimplifiedBy, IsMovedBy, OneMoved, Moves, none, more}

@@ -9,7 +9,7 @@ use Rattle.move_laws.specs.Bodies.{with_body}
 use Rattle.report_moves.specs.declared.moves.Move.{Move}
 use Rattle.replay_laws.specs.Lawful.{IsMovedBy, OneMoved, this_function, later_function, Moves, none, more}
 use Rattle.replay_laws.proofs.Bodies.{IsChanged, leap_changed}
-use Rattle.whole_laws.proofs.BodiesKept.{chosen_simplified}
+use Rattle.guard_simplify.proofs.Applied.{chosen_simplified}
 use Rattle.plain_resolved_laws.proofs.Rewrites.{Rewrites, unchanged, moved, simplified, rewrites_both}
 
 -- g is f, a flat function, with another body

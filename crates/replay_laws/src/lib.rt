@@ -1,10 +1,8 @@
 //! Moves and simplifications in whatever order they are chosen: which may be made at a program, and that a list of
-//! them keeps behaviour, be it the list of the rewriting or another.
+//! them keeps behaviour, be it the list of the rewriting or another. The plain form of what they reach reads back, and
+//! the moves have names that a report can write.
 //!
 //! The definitions stand in specs/. Each function here runs no code: its contract is a law of them.
-//!
-//! Programs after lawful moves, in whatever order they are made: their plain form reads back, and the moves have names
-//! that a report can write.
 #![tactic(auto)]
 
 ghost use Rattle.replay_laws.specs.ReplayMovesLaws.{LawfulMoveLaws, ReplayLaws};

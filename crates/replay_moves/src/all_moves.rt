@@ -10,8 +10,8 @@ ghost use Rattle.replay_moves.specs.Steps.{IsFlatOf, IsPlaceOf, StopsAt, IsTopMo
 use crate::one_move::{has_leap_left, move_in};
 use c_tree::Top;
 use c_types::{List, Memory, Name};
-use replay_places::Places;
 use guard_vars::convert;
+use replay_places::Places;
 use report_moves::Move;
 use std::alloc::Global;
 

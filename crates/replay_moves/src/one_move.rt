@@ -10,11 +10,11 @@ ghost use Rattle.move_order_laws.specs.Leaps.{leaps};
 ghost use Rattle.replay_laws.specs.Lawful.{IsLeapMoved, IsMovedBy};
 ghost use Rattle.replay_laws.specs.Replayed.{IsTopWellMade};
 
-use move_bodies::{Moved, move_once};
-use guard_bodies::apply_one;
 use c_tree::{Function, Item, Top};
 use c_types::{List, Memory, Name};
+use guard_bodies::apply_one;
 use label_offsets::{first_leap, label_at};
+use move_bodies::{Moved, move_once};
 use report_moves::{Move, MoveKind};
 use std::alloc::Global;
 use std::mem;

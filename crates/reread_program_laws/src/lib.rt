@@ -1,8 +1,6 @@
 //! The printed text of a resolved program reads back as the program.
 //!
-//! The function here runs no code: its contract is the laws.
-//!
-//! Reading the printed text of a resolved program gives the program.
+//! The functions here run no code: their contracts are the laws.
 #![tactic(auto)]
 
 ghost use Rattle.reread_program_laws.specs.RereadProgramLaws.{BackLaws};

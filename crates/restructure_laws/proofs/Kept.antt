@@ -28,7 +28,7 @@ use Rattle.plain_resolved_laws.proofs.PlainTops.{no_body}
 use Rattle.move_order_laws.specs.Skeletons.{skeleton}
 use Rattle.move_order_laws.proofs.Laws.{skeleton_laws}
 use Rattle.whole_laws.specs.Rewritten.{IsFlatForm, IsUnlabelledForm}
-use Rattle.whole_laws.proofs.BodiesKept.{IsSimplified, chosen_simplified}
+use Rattle.guard_simplify.proofs.Applied.{IsSimplified, chosen_simplified}
 use Rattle.whole_laws.proofs.Flattened.{body_is, flat_trees, flat_converted}
 use Rattle.whole_laws.proofs.Source.{IsSourceFunction}
 use Rattle.restructure_laws.specs.EachPlace.{AtEachPlace}

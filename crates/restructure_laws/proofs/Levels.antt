@@ -1,5 +1,5 @@
 -- The moves of each jump are within the bound of its levels.
-use Rattle.std.proofs.Common.{ℕ, ◌≤◌, inl, inr, eqb, List, sym, ap, subst, arith}
+use Rattle.std.proofs.Common.{ℕ, List, ap, arith}
 use Rattle.c_tree.specs.declared.tree.Item.{Item}
 use Rattle.c_tree.specs.declared.tree.Function.{Function}
 use Rattle.c_tree.specs.declared.tree.Top.{Top}
@@ -11,19 +11,13 @@ use Rattle.jump_meaning.specs.Laws.{IsTopUnflat}
 use Rattle.label_offsets.proofs.ChoiceLaws.{one_land}
 use Rattle.move_order_laws.specs.declared.kept.Kept.{Kept}
 use Rattle.move_order_laws.specs.Derivations.{Eliminates, Derives, ends, chooses}
-use Rattle.move_order_laws.specs.Nesting.{nesting}
 use Rattle.move_order_laws.specs.Next.{Point}
 use Rattle.move_order_laws.proofs.OneDerivation.{leap_first, well_made_eliminated}
+use Rattle.guard_bodies.proofs.Levels.{reached_simpler}
 use Rattle.move_order_laws.proofs.SomeDerivation.{count_laws, nesting_laws}
-use Rattle.move_order_laws.proofs.Depth.{depth_laws}
-use Rattle.guard_simplify.specs.declared.choice.Choice.{Choice}
-use Rattle.guard_simplify.specs.Choice.{choices}
-use Rattle.guard_simplify.specs.Application.{Reaches, none, then}
-use Rattle.guard_simplify.proofs.Members.{in_first}
 use Rattle.report_moves.specs.declared.moves.Move.{Move}
 use Rattle.move_order_laws.specs.Moved.{IsMoved}
 use Rattle.whole_laws.specs.Rewritten.{IsFlatForm, IsNoFunction}
-use Rattle.whole_laws.proofs.BodiesKept.{IsSimplified, chosen_simplified}
 use Rattle.whole_laws.proofs.Source.{IsSourceFunction}
 use Rattle.restructure_laws.specs.Jumps.{IsWithinLevels, AreWithinLevels, no_leap, one_leap, IsMovedWithin, TopMovedWithin, moved, unmoved, TopsMovedWithin, no_top, one_top}
 use Rattle.restructure_laws.specs.WholeBoundsLaws.{JumpsAreWithinLevels}
@@ -46,21 +40,6 @@ within l p ms new w e =
 all_within : {body : List Item} {ms : List Kept} {new : List Item} → Derives body ms new → IsWellMade (trees_of body) → AreWithinLevels body ms new
 all_within (ends body e) w = no_leap body e
 all_within (chooses body at l ms ns mid new f e d) w = one_leap body at l ms ns mid new f e (within l (record { body = body; at = at }) ms mid w e) (all_within d (well_made_eliminated l e w))
-
--- ---- simplifications
-
-next_simpler : (old new : List Item) → IsSimplified old new → nesting (trees_of new) ≤ nesting (trees_of old)
-next_simpler old new s = elim s.either [
-  | inl r ↦ depth_laws.simplified (trees_of old) (trees_of new) r
-  | inr g ↦ subst (λ a. nesting a ≤ nesting (trees_of old)) (sym g.1) (depth_laws.dropped (eqb g.0) (trees_of old))
-]
-
-pub reached_simpler : {old : List Item} {cs : List Choice} {new : List Item} → Reaches old cs new → nesting (trees_of new) ≤ nesting (trees_of old)
-reached_simpler none = omega arith
-reached_simpler (then {body = body} {new = new} c r n) =
-    let i = reached_simpler r in
-    let j = next_simpler body new (chosen_simplified c body new (in_first (choices (trees_of body)) c n.next) n.applied) in
-    omega (arith, i, j)
 
 -- ---- functions
 

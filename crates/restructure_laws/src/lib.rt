@@ -1,14 +1,7 @@
-//! What a rewriting keeps of a program besides its behaviour, and its bounds.
+//! What a rewriting keeps of a program besides its behaviour: its bounds, its names, and that its printed text reads
+//! back. A program is rewritten in one way, and one without jumps to itself.
 //!
 //! The definitions stand in specs/. The functions here run no code: their contracts are the laws.
-//!
-//! Reading back: what the printed text of a plain form is read as.
-//!
-//! The names of whole programs: those that a flattened program has, by the names of its source.
-//!
-//! A program is rewritten in one way.
-//!
-//! A program without jumps is rewritten to itself.
 #![tactic(auto)]
 
 ghost use Rattle.restructure_laws.specs.WholeBoundsLaws.{SkeletonsAreKept, GuardsAreFew, JumpsAreWithinLevels, SizesAreBounded};

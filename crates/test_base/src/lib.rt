@@ -1,8 +1,5 @@
-//! Numbers, ports and the demo text on worked examples. This crate holds tests alone, so that what they call is not
-//! proved twice for them.
-//!
-//! The words of commands, and texts that are written in pieces, on worked examples. This crate holds tests alone, so that
-//! what they call is not proved twice for them.
+//! Numbers, ports, the demo text, the words of commands, and texts that are written in pieces, on worked examples.
+//! This crate holds tests alone, so that what they call is not proved twice for them.
 #![tactic(auto)]
 
 #[cfg(test)]
@@ -10,9 +7,8 @@ mod demo;
 #[cfg(test)]
 mod numbers;
 #[cfg(test)]
-mod ports;
-
-#[cfg(test)]
 mod pieces;
+#[cfg(test)]
+mod ports;
 #[cfg(test)]
 mod words;

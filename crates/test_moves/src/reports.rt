@@ -6,10 +6,10 @@ ghost use Rattle.c_tree.specs.WellMade.{IsWellMade};
 
 use crate::bodies;
 use crate::test_moves_printed::{is_text, print_items, print_path};
-use move_bodies::derive;
-use guard_bodies::simplify_body;
 use c_tree::{Item, Path};
 use c_types::{List, Memory};
+use guard_bodies::simplify_body;
+use move_bodies::derive;
 use report_moves::MoveKind;
 use std::alloc::{AllocError, Global};
 

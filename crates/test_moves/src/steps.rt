@@ -1,9 +1,9 @@
 //! Single simplifications that a report may name, in whatever order.
 
 use crate::test_moves_printed::{is_text, print_items};
-use guard_bodies::apply_one;
 use c_tree::{Function, Item, Path, Test};
 use c_types::{IntKind, List, Memory, Name};
+use guard_bodies::apply_one;
 use report_moves::{Move, MoveKind};
 use std::alloc::Global;
 

@@ -2,12 +2,12 @@
 
 use c_copies::{file_names, names};
 use c_printer::print;
+use c_text::read;
 use c_tree::{Program, Top};
 use c_types::Memory;
 use flat_function::flatten;
 use std::alloc::Global;
 use std::test::Fail;
-use c_text::read;
 
 const SOURCE: &str =
     "int main(void) { int i; for (i = 0; i < 4; i++) { again: if (i == 0) continue; if (i == 3) break; putchar('0' + i); if (getchar() == 'r') goto again; } return i; }";

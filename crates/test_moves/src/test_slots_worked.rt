@@ -1,9 +1,9 @@
 use c_tree::{Expression, Home, Item, Node, Place, Test};
 use c_types::{Boxed, IntKind, List, Memory};
-use tidy_mentions::{item_names, items_name, list_names, names, test_names};
-use tidy_renumber::{Numbers, new_number, new_numbers, renumber_expression, renumber_list};
 use std::alloc::Global;
 use std::test::Fail;
+use tidy_mentions::{item_names, items_name, list_names, names, test_names};
+use tidy_renumber::{Numbers, new_number, new_numbers, renumber_expression, renumber_list};
 
 fn expression(node: Node) -> Expression {
     Expression {

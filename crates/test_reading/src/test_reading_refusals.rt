@@ -1,10 +1,10 @@
 //! At which place, and for which reason, texts are refused.
 
 use crate::refusal_texts::TEXTS;
+use c_text::read;
 use c_types::{Memory, ReadStop, Refusal};
 use std::alloc::Global;
 use std::test::Fail;
-use c_text::read;
 
 /// A refusal with this reason at this place.
 pub fn refused(reason: u32, line: u64, column: u64, at: u64) -> ReadStop {

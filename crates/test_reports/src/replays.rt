@@ -2,12 +2,12 @@
 
 use crate::texts::{REPLAYED, SEVERAL_FUNCTIONS};
 use c_printer::print;
+use c_text::read;
 use c_types::{Bytes, ReadStop};
 use move_driver::{Counts, restructure_text};
 use move_replay::replay;
 use std::alloc::Global;
 use std::test::Fail;
-use c_text::read;
 use test_texts::TWO_RESOURCES;
 
 #[derive(Drop)]

@@ -3,8 +3,8 @@ ghost use Rattle.rg_ports.specs.Written.{Untold};
 
 use c_tree::{Path, Step};
 use c_types::{List, Memory, Name};
-use report_moves::{Move, MoveKind};
 use move_report::{ReportStop, read_report, report_to, write_report};
+use report_moves::{Move, MoveKind};
 use rg_ports::{Failed, Sink};
 use std::alloc::Global;
 use std::test::Fail;

@@ -1,17 +1,7 @@
-//! Where a set of a guard makes the rest of a turn skip, a jump may leave the turn: the runs stay.
+//! The changes that turn a guard of a program without jumps into `break` or `continue`, and that take away variables
+//! that are 0 wherever they are tested: as definitions, that they come to an end, and that each keeps the behaviour.
 //!
-//! The definitions stand in specs/. The function here runs no code: its contract is the law.
-//!
-//! The changes that turn a guard of a program without jumps into `break` or `continue`, as definitions, and that they come
-//! to an end.
-//!
-//! A variable that is 0 wherever it is tested may go, with its tests and what sets it: the runs stay.
-//!
-//! Guards of a program without jumps, back into `break` and `continue`: each change keeps the behaviour.
-//!
-//! Where the changes of a program end that turn its guards back into `break` and `continue`, as definitions.
-//!
-//! New numbers for slots, as definitions: slots go one after another, and what is left gets its numbers at once.
+//! The definitions stand in specs/. Each function here runs no code: its contract is a law of them.
 #![tactic(auto)]
 
 ghost use Rattle.tidy_laws.specs.TidyExitLaws.{LeavingLaws};

@@ -10,8 +10,8 @@ ghost use Rattle.tidy_loops.specs.Slots.{count_in, declared as the_declared, is_
 use crate::reading::is_zero_value;
 use c_tree::{Function, Item, Slot};
 use c_types::{IntKind, List, Memory};
-use tidy_counts::count_list;
 use std::alloc::Global;
+use tidy_counts::count_list;
 
 /// The count of the slot, 0 where it has none.
 pub fn count_of(counts: &List<u64>, slot: u32) -> u64

@@ -21,8 +21,8 @@ use Rattle.c_scopes.specs.Files.{File, State, env_of, function_declared, notes_t
 use Rattle.c_resolved_defs.specs.Within.{Each}
 use Rattle.c_resolving_laws.proofs.Lists.{each_append}
 use Rattle.flat_laws.specs.Parts.{has_jumps}
-use Rattle.tidy_refusal.specs.CFirstJumpJumps.{body_jump, block_jump, top_jump, first_jump}
-use Rattle.tidy_refusal.specs.CJumplessLaws.{TopLacksJumps, JumplessSources}
+use Rattle.tidy_refusal.specs.FileJumps.{body_jump, block_jump, top_jump, first_jump}
+use Rattle.tidy_refusal.specs.JumplessLaws.{TopLacksJumps, JumplessSources}
 use Rattle.tidy_refusal.proofs.Still.{lacks_jumps}
 use Rattle.tidy_refusal.proofs.Sections.{Still, still_both}
 use Rattle.tidy_refusal.proofs.Statements.{still_notes, still_item, still_items}

@@ -11,13 +11,16 @@ use Rattle.c_layers.specs.Parts.{file_of}
 use Rattle.c_tree.specs.declared.tree.Program.{Program}
 use Rattle.c_scopes.specs.Files.{start}
 use Rattle.c_scopes.specs.Resolving.{file_at}
-use Rattle.tidy_refusal.specs.CFirstJumpJumps.{first_jump}
-use Rattle.tidy_refusal.specs.CJumplessLaws.{TopLacksJumps}
+use Rattle.tidy_refusal.specs.FileJumps.{first_jump}
+use Rattle.tidy_refusal.specs.JumplessLaws.{TopLacksJumps}
 use Rattle.tidy_refusal.proofs.Files.{jumpless_sources}
+use Rattle.rule_defs.specs.Typings.{Typing}
+use Rattle.rule_defs.specs.Programs.{program, file_written}
+use Rattle.meaning_laws.proofs.Typings.{sole_typing}
 use Rattle.c_text.specs.Reading.{counts_of, IsProgramOf}
 use Rattle.c_text.proofs.Readings.{faultless, same_program}
-use Rattle.tidy_refusal.specs.TidyRefusalJumps.{jump_of_tokens, jump_of_syntax, text_jump, IsRefusedForJumps, IsWithoutJumps}
-use Rattle.tidy_refusal.specs.TidyRefusalLaws.{TextJumpLaws}
+use Rattle.tidy_refusal.specs.TextJumps.{jump_of_tokens, jump_of_syntax, text_jump, IsRefusedForJumps, IsWithoutJumps}
+use Rattle.tidy_refusal.specs.Laws.{TextJumpLaws}
 
 none_before : {A B : Type 0} (f : A → B) (o : Option A) → option_map f o ≡ None → o ≡ None
 none_before f None e = refl
@@ -30,7 +33,8 @@ lacks_jumps t p h e =
     let xs = file_of (word_of t tokens) h.syntax_of in
     let found = sym (ap (jump_of_tokens t) (scan_read_back t h.pieces h.spells) ∙ ap (jump_of_syntax t tokens) (parses t tokens h.syntax_of h.derives)) ∙ e in
     let none : first_jump xs ≡ None = none_before (λ at. refusal_of 60 t (offset_of t tokens at)) (first_jump xs) found in
-    subst (λ (z : Program). All TopLacksJumps z.tops) (same_program t h.pieces xs ∙ sym h.is) (jumpless_sources (file_at counts_of t tokens (comments_of h.pieces) xs) xs start none)
+    subst (λ (z : Program). All TopLacksJumps z.tops) (same_program t h.pieces xs
+    ∙ ap (λ (typing : Typing). program typing (file_written counts_of t tokens (comments_of h.pieces) xs) xs) (sym (sole_typing h.typing h.types)) ∙ sym h.is) (jumpless_sources (file_at counts_of t tokens (comments_of h.pieces) xs) xs start none)
 
 none_is_some : (o : Option Refusal) (refusal : Refusal) → o ≡ None → o ≡ Some refusal → ⊥
 none_is_some o refusal e f = cc

@@ -6,7 +6,7 @@ use Rattle.c_layers.specs.ItemViews.{label_of, labels_of}
 use Rattle.c_layers.specs.TopViews.{top_of}
 use Rattle.c_layers.proofs.Layers.{weight-at}
 use Rattle.c_statements.proofs.Lists.{items-token, items-item}
-use Rattle.tidy_refusal.specs.CFirstJumpJumps.{jump_in, labels_jump}
+use Rattle.tidy_refusal.specs.FileJumps.{jump_in, labels_jump}
 
 one-jump : (o : Option Label) (ls : List Label) (rest : Option ℕ) → labels_jump (elim o [ Some l ↦ l ∷ ls | None ↦ ls ]) rest ≡ jump_in o (labels_jump ls rest)
 one-jump (Some l) ls rest = refl

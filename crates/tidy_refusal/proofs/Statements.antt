@@ -18,7 +18,7 @@ use Rattle.c_statements.specs.Sections.{Reading, extended, closed, passed_on, fr
 use Rattle.c_statements.specs.Statements as statements
 use Rattle.c_statements.specs.Statements.{behind_start, behind_item, behind_plain, behind_body, declared_by, declaration_items, dropped_at, test_at, start_items, begun, item_items, plain_items, statement_items, body_items, list_items, switch_sections, sections_from, sections_at, outside_item, outside_items, begins, is_null}
 use Rattle.c_resolving_laws.proofs.Lists.{each_append}
-use Rattle.tidy_refusal.specs.CFirstJumpJumps.{labels_jump, item_jump, plain_jump, statement_jump, body_jump, list_jump, switch_jump, sections_jump, section_jump}
+use Rattle.tidy_refusal.specs.FileJumps.{labels_jump, item_jump, plain_jump, statement_jump, body_jump, list_jump, switch_jump, sections_jump, section_jump}
 use Rattle.tidy_refusal.proofs.Still.{IsStill, IsStillList}
 use Rattle.tidy_refusal.proofs.Sections.{Still, still_both, StillSections, StillReading, closed_still, extended_still, end_still, are_still, front_still, still_if}
 

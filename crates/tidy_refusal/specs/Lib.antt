@@ -1,4 +1,4 @@
-pub mod CFirstJumpJumps
-pub mod CJumplessLaws
-pub mod TidyRefusalJumps
-pub mod TidyRefusalLaws
+pub mod FileJumps
+pub mod JumplessLaws
+pub mod TextJumps
+pub mod Laws

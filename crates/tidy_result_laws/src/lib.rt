@@ -1,10 +1,6 @@
-//! What a change makes of the body of a resolved function.
+//! What tidying makes of a resolved program without jumps is resolved, its printed text reads back, and it is one.
 //!
-//! No code runs: proofs/ has lemmas alone, which the laws above cite.
-//!
-//! What is made of a resolved program without jumps by turning its guards back into `break` and `continue` is resolved.
-//!
-//! Reading back: what the printed text of the end of a program is read as, and that a program has one end.
+//! The functions here run no code: their contracts are the laws. The laws above cite the lemmas of proofs/.
 #![tactic(auto)]
 
 ghost use Rattle.tidy_result_laws.specs.TidyResolvedLaws.{EndLaws};

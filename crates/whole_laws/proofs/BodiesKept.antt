@@ -1,5 +1,5 @@
 -- What the moves and the simplifications of a body keep of each of its items.
-use Rattle.std.proofs.Common.{◌≡◌, ℕ, ◌⊎◌, inl, inr, Bool, eqb, List, None, refl, sym, subst, ◌∙◌}
+use Rattle.std.proofs.Common.{◌≡◌, ℕ, inl, inr, eqb, List, None, sym, subst}
 use Rattle.c_tree.specs.declared.tree.Item.{Item}
 use Rattle.c_tree.specs.declared.tree.Slot.{Slot}
 use Rattle.c_tree.specs.Trees.{Tree, Forest, trees_of}
@@ -10,17 +10,16 @@ use Rattle.c_tree.proofs.RuleChanges.{joins_changed}
 use Rattle.jump_meaning.specs.Code.{Code}
 use Rattle.move_laws.specs.Simplifications.{Simplified}
 use Rattle.move_laws.specs.Drops.{dropped}
-use Rattle.report_moves.specs.declared.moves.MoveKind.TheVariants.{Z1, Z2, Z3, Z4, Z5}
 use Rattle.label_offsets.specs.Leaps.{leaps_from, first}
 use Rattle.move_order_laws.specs.declared.kept.Kept.{Kept}
 use Rattle.move_order_laws.specs.Next.{Point}
 use Rattle.move_order_laws.specs.Derivations.{Eliminates, joins, moves, Derives, ends, chooses}
 use Rattle.move_order_laws.proofs.MovesLeft.{moved_changed}
 use Rattle.guard_simplify.specs.declared.choice.Choice.{Choice}
-use Rattle.guard_simplify.specs.Choice.{Among, barred, choices}
-use Rattle.guard_simplify.specs.Application.{applied_as, IsDropped, IsApplied, Reaches, none, then}
-use Rattle.guard_simplify.proofs.Members.{in_first, located}
-use Rattle.guard_simplify.proofs.Edits.{edit_changed}
+use Rattle.guard_simplify.specs.Choice.{choices}
+use Rattle.guard_simplify.specs.Application.{Reaches, none, then}
+use Rattle.guard_simplify.proofs.Members.{in_first}
+use Rattle.guard_simplify.proofs.Applied.{IsSimplified, chosen_simplified}
 use Rattle.plain_laws.specs.Kinded.{KindedItem}
 use Rattle.plain_laws.proofs.KindsMoved.{kinds_moved}
 use Rattle.whole_laws.proofs.Simplified.{kinds_simplified}
@@ -38,30 +37,6 @@ module _ (P : Tree → Type 0) (kept : (xs ys : Forest) → Changed Moved xs ys 
   derived_kept (chooses body at l ms ns mid new f e d) h = derived_kept d (eliminated_kept l e h)
 
 -- ---- simplifications
-
--- a simplification of a made test or `if`, or a guard that goes
-pub record IsSimplified (old new : List Item) : Type 0 where
-  pub either : Changed Simplified (trees_of old) (trees_of new) ⊎ ((l : ℕ) × (trees_of new ≡ dropped (eqb l) (trees_of old)))
-
-abbrev bar_of : List Item → ℕ → Bool
-bar_of old l = barred l (trees_of old)
-
-pub chosen_simplified : (c : Choice) (old new : List Item) → Among c (choices (trees_of old)) → IsApplied c old new → IsSimplified old new
-chosen_simplified c old new i a =
-    let l = located (bar_of old) c.path.steps old c refl i in
-    elim l.shape [
-      | inl h ↦ record { either = inl (edit_changed (bar_of old) old new c l (subst (λ k. applied_as k c old new) h.0 a) (λ e. let f : Z1 ≡ Z5 = sym h.0 ∙ e in cc)) }
-      | inr s ↦ elim s [
-        | inl h ↦ record { either = inl (edit_changed (bar_of old) old new c l (subst (λ k. applied_as k c old new) h.0 a) (λ e. let f : Z2 ≡ Z5 = sym h.0 ∙ e in cc)) }
-        | inr s ↦ elim s [
-          | inl h ↦ record { either = inl (edit_changed (bar_of old) old new c l (subst (λ k. applied_as k c old new) h.0 a) (λ e. let f : Z3 ≡ Z5 = sym h.0 ∙ e in cc)) }
-          | inr s ↦ elim s [
-            | inl h ↦ record { either = inl (edit_changed (bar_of old) old new c l (subst (λ k. applied_as k c old new) h.0 a) (λ e. let f : Z4 ≡ Z5 = sym h.0 ∙ e in cc)) }
-            | inr h ↦ let d : IsDropped c old new = subst (λ k. applied_as k c old new) h.0 a in record { either = inr (d.label, d.trees) }
-          ]
-        ]
-      ]
-    ]
 
 module _ (P : Tree → Type 0) (simplified : (xs ys : Forest) → Changed Simplified xs ys → Everywhere P xs → Everywhere P ys) (drops : (l : ℕ) (xs : Forest) → Everywhere P xs → Everywhere P (dropped (eqb l) xs)) where
   next_kept : (old new : List Item) → IsSimplified old new → Everywhere P (trees_of old) → Everywhere P (trees_of new)

@@ -16,7 +16,7 @@ use Rattle.jump_meaning.specs.Code.{Code, code_of}
 use Rattle.guard_vars.specs.Conversion.{converted, converted_list}
 use Rattle.move_order_laws.specs.ConvertLaws.{OneFunctionConverted, this_function, later_function}
 use Rattle.move_order_laws.proofs.ConvertedTrees.{converted_trees}
-use Rattle.move_order_laws.proofs.Kept.{IsKeptByConversion, convert_kept}
+use Rattle.move_order_laws.proofs.KeptByConversion.{IsKeptByConversion, convert_kept}
 use Rattle.plain_laws.specs.Kinded.{KindedItem}
 use Rattle.plain_laws.specs.Signatures.{SameTops}
 use Rattle.plain_laws.proofs.SignaturesSame.{signatures_same}

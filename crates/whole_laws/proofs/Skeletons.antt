@@ -17,7 +17,7 @@ use Rattle.guard_simplify.proofs.Members.{in_first}
 use Rattle.guard_simplify.proofs.Next.{choice_laws}
 use Rattle.guard_vars.specs.Conversion.{converted_list}
 use Rattle.move_order_laws.proofs.ConvertedTrees.{converted_trees}
-use Rattle.whole_laws.proofs.BodiesKept.{IsSimplified, chosen_simplified}
+use Rattle.guard_simplify.proofs.Applied.{IsSimplified, chosen_simplified}
 use Rattle.whole_laws.specs.Notes.{notes, notes_in, notes_among}
 use Rattle.whole_laws.proofs.Lists.{both, notes_join, notes_one}
 

@@ -1,11 +1,8 @@
-//! Kinds that agree stay so through the conversion and each change of one body of a program.
+//! The whole of a rewriting: the flat forms, conversions, moves and simplifications of all functions of a program.
+//! The plain form of what they reach behaves as the program does, with the same comments in the same order and
+//! kinds that agree.
 //!
-//! The definitions stand in specs/. The function here runs no code: its contract is the law.
-//!
-//! The whole of a rewriting: the flat forms, conversions, moves and simplifications of all functions of a
-//! program, and that the plain form of what they reach behaves as the program does.
-//!
-//! The Notes of a program, in text order: the rewriting keeps them.
+//! The definitions stand in specs/. Each function here runs no code: its contract is a law of them.
 #![tactic(auto)]
 
 ghost use Rattle.whole_laws.specs.WholeKindsLaws.{KindLaws};

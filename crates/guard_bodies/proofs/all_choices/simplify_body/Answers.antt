@@ -1,10 +1,12 @@
-use Rattle.std.proofs.Common.{◌++◌, ◌∷◌, [], sym, subst, ◌∙◌}
+use Rattle.std.proofs.Common.{◌≤◌, ◌++◌, ◌∷◌, [], sym, subst, ◌∙◌}
 use Rattle.c_tree.specs.Trees.{trees_of}
 use Rattle.c_tree.specs.WellMade.{IsWellMade}
 use Rattle.move_laws.specs.MoveRuleLaws.{Keeps}
+use Rattle.move_order_laws.specs.Nesting.{nesting}
 use Rattle.guard_simplify.specs.Application.{Reaches, none, then}
 use Rattle.guard_simplify.proofs.Next.{next_facts, reached_made, reached_keeps}
 use Rattle.guard_bodies.proofs.Applied.{is_next, always_err}
+use Rattle.guard_bodies.proofs.Levels.{reached_simpler}
 use Rattle.guard_bodies.proofs.all_choices.simplify_body.Goals as goal
 
 pub loop-next-init : goal.loop-next-init
@@ -72,3 +74,22 @@ returns-clause-behaviour c = reached_keeps c.loop-next.invariant.reaches
 pub next_choice-requires : goal.next_choice-requires
 next_choice-requires c =
     record { old = c.loop-next.body; next = is_next c.in-Some.choice c.loop-next.body c.apply.new.body (sym c.loop-next.invariant.next_is ∙ c.in-Some.is) c.in_ok-apply.ensures.ok; marks = c.loop-next.invariant.marks }
+
+pub returns-in_err-next-clause-levels : goal.returns-in_err-next-clause-levels
+returns-in_err-next-clause-levels c = let n : Reaches c.args.body.now [] c.args.body.now = none in reached_simpler n
+
+pub returns-in_err-apply-clause-levels : goal.returns-in_err-apply-clause-levels
+returns-in_err-apply-clause-levels c = subst (λ z. nesting (trees_of z) ≤ nesting (trees_of c.args.body.now)) (sym c.in_err-apply.ensures.err) (reached_simpler c.loop-next.invariant.reaches)
+
+pub returns-in_err-push-clause-levels : goal.returns-in_err-push-clause-levels
+returns-in_err-push-clause-levels c =
+    let n = is_next c.in-Some.choice c.loop-next.body c.apply.new.body (sym c.loop-next.invariant.next_is ∙ c.in-Some.is) c.in_ok-apply.ensures.ok in
+    reached_simpler (then c.in-Some.choice c.loop-next.invariant.reaches n)
+
+pub returns-in_err-next-2-clause-levels : goal.returns-in_err-next-2-clause-levels
+returns-in_err-next-2-clause-levels c =
+    let n = is_next c.in-Some.choice c.loop-next.body c.apply.new.body (sym c.loop-next.invariant.next_is ∙ c.in-Some.is) c.in_ok-apply.ensures.ok in
+    reached_simpler (then c.in-Some.choice c.loop-next.invariant.reaches n)
+
+pub returns-clause-levels : goal.returns-clause-levels
+returns-clause-levels c = reached_simpler c.loop-next.invariant.reaches

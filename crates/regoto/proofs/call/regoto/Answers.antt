@@ -9,6 +9,9 @@ returns-clause-restructure g c = λ from to report e. let done = rw e at c.carry
 pub returns-clause-complete : goal.returns-clause-complete
 returns-clause-complete g c = λ from to report e. let done = rw e at c.carry_out.ensures.answers in done.2
 
+pub returns-clause-wanted : goal.returns-clause-wanted
+returns-clause-wanted g c = λ from to report e. let done = rw e at c.carry_out.ensures.answers in done.3
+
 pub returns-clause-replay : goal.returns-clause-replay
 returns-clause-replay g c = λ from report to e. let done = rw e at c.carry_out.ensures.answers in (done.0, done.1)
 

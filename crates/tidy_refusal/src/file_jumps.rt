@@ -4,7 +4,7 @@ ghost use Rattle.c_layers.specs.Parts.{part_of, block_in, file_of};
 ghost use Rattle.c_layers.specs.TopViews.{top_of};
 ghost use Rattle.c_layers.specs.Views.{words_of};
 ghost use Rattle.c_statements.specs.Nodes.{items_of};
-ghost use Rattle.tidy_refusal.specs.CFirstJumpJumps as spec;
+ghost use Rattle.tidy_refusal.specs.FileJumps as spec;
 
 use c_grammar::Syntax;
 use c_layers::{

@@ -10,7 +10,7 @@ use Rattle.c_grammar.specs.TokenClasses.{offset_of}
 use Rattle.c_parser.specs.Answers.{parsed}
 use Rattle.c_layers.specs.Words.{word_of}
 use Rattle.c_layers.specs.Parts.{file_of}
-use Rattle.tidy_refusal.specs.CFirstJumpJumps.{first_jump}
+use Rattle.tidy_refusal.specs.FileJumps.{first_jump}
 use Rattle.c_text.specs.Reading.{IsInSubset, IsRefusedFor}
 
 -- of a syntax of these tokens

@@ -3,8 +3,8 @@ use Rattle.std.specs.Prelude.{◌≡◌, ℕ, List, None, All}
 use Rattle.c_types.specs.declared.refusal.Refusal.{Refusal}
 use Rattle.c_tree.specs.declared.tree.Program.{Program}
 use Rattle.c_text.specs.Reading.{IsProgramOf}
-use Rattle.tidy_refusal.specs.CJumplessLaws.{TopLacksJumps}
-use Rattle.tidy_refusal.specs.TidyRefusalJumps.{text_jump, IsRefusedForJumps, IsWithoutJumps}
+use Rattle.tidy_refusal.specs.JumplessLaws.{TopLacksJumps}
+use Rattle.tidy_refusal.specs.TextJumps.{text_jump, IsRefusedForJumps, IsWithoutJumps}
 
 pub record TextJumpLaws : Type 0 where
   -- no function of a text without jumps has any

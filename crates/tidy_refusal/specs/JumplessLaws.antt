@@ -6,7 +6,7 @@ use Rattle.c_tree.specs.InRange.{body_of}
 use Rattle.c_layers.specs.Tops as tops
 use Rattle.c_scopes.specs.Files.{File, State, tops_of}
 use Rattle.flat_laws.specs.Parts.{has_jumps}
-use Rattle.tidy_refusal.specs.CFirstJumpJumps.{first_jump}
+use Rattle.tidy_refusal.specs.FileJumps.{first_jump}
 
 -- a function without gotos and scattered switches
 abbrev pub TopLacksJumps : Top → Type 0

@@ -1,8 +1,8 @@
 use Rattle.std.proofs.Common.{◌≡◌, ◌≤◌, drop, length}
 use Rattle.c_layers.specs.ItemViews.{labels_of}
 use Rattle.c_layers.specs.Views.{words_of}
-use Rattle.tidy_refusal.specs.CFirstJumpJumps.{labels_jump}
-use Rattle.tidy_refusal.proofs.jumps.labels_jump.Given as goal
+use Rattle.tidy_refusal.specs.FileJumps.{labels_jump}
+use Rattle.tidy_refusal.proofs.file_jumps.labels_jump.Given as goal
 
 abbrev pub invariant-loop-i : goal.invariant-loop-i
 invariant-loop-i l = record {

@@ -1,8 +1,8 @@
 use Rattle.std.proofs.Common.{◌≡◌, ◌≤◌, drop, length, map}
 use Rattle.c_layers.specs.TopViews.{top_of}
 use Rattle.c_layers.specs.Views.{words_of}
-use Rattle.tidy_refusal.specs.CFirstJumpJumps.{first_jump}
-use Rattle.tidy_refusal.proofs.jumps.tops_jump.Given as goal
+use Rattle.tidy_refusal.specs.FileJumps.{first_jump}
+use Rattle.tidy_refusal.proofs.file_jumps.tops_jump.Given as goal
 
 abbrev pub invariant-loop-i : goal.invariant-loop-i
 invariant-loop-i l = record {

@@ -1,8 +1,8 @@
 use Rattle.std.proofs.Common.{◌≡◌, ◌≤◌, ◌+◌, ◌*◌, drop, length}
 use Rattle.c_layers.specs.Views.{words_of, weight, weights}
 use Rattle.c_statements.specs.Nodes.{items_of}
-use Rattle.tidy_refusal.specs.CFirstJumpJumps.{list_jump, sections_jump}
-use Rattle.tidy_refusal.proofs.jumps.+jumps.Given as goal
+use Rattle.tidy_refusal.specs.FileJumps.{list_jump, sections_jump}
+use Rattle.tidy_refusal.proofs.file_jumps.+jumps.Given as goal
 
 abbrev pub decreases-item_jump : goal.decreases-item_jump
 decreases-item_jump l = 2 * weight l.x.now

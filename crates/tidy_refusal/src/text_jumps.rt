@@ -2,14 +2,14 @@ ghost use Rattle.std.specs.Prelude.{◌≡◌, ◌≤◌, All, length, IfOk, Ok}
 ghost use Rattle.c_grammar.specs.TokenClasses.{offset_of as the_offset};
 ghost use Rattle.c_lexer.specs.Pieces.{IsWithin};
 ghost use Rattle.c_parser.specs.Answers.{parsed};
-ghost use Rattle.tidy_refusal.specs.TidyRefusalJumps as spec;
+ghost use Rattle.tidy_refusal.specs.TextJumps as spec;
 
+use crate::first_jump;
 use c_grammar::Syntax;
+use c_layers::Words;
 use c_lexer::{Scanned, Token, refusal_at, scan};
 use c_parser::parse;
-use c_layers::Words;
 use c_types::{Memory, ReadStop, Refusal};
-use crate::first_jump;
 use std::alloc::Global;
 
 /// The offset of a token by its number, and the text's length where there is no such token.
