@@ -12,6 +12,7 @@ from .forms import Items
 from .lexing import TokenKind
 from .libclang import Kind
 from .messages import Fault
+from .records import dataclass
 
 if TYPE_CHECKING:
     from .cutting import Cutter
@@ -44,9 +45,9 @@ def account(cutter: Cutter, items: Items, core_names: frozenset[str] = frozenset
         counts[word] += 1
         if word not in known and word not in _WORDS:
             raise _fault(cutter, offset, f"'{word}' is lost")
-    every = list(_every(items))
+    every = Counter(map(type, _every(items)))
     for word, kinds in _WORDS.items():
-        if counts[word] + cutter.hidden[word] != sum(isinstance(item, kinds) for item in every):
+        if counts[word] + cutter.hidden[word] != sum(every[kind] for kind in kinds):
             raise _fault(cutter, cutter.function.body, f"'{word}' doesn't stand as often as it should")
 
 
@@ -71,36 +72,52 @@ def _every(items: Items) -> Iterator[forms.Item]:
     """Give all items, at any depth."""
     for item in items:
         yield item
-        for below in (getattr(item, "then", []), getattr(item, "other", []), getattr(item, "body", [])):
-            yield from _every(below)
+        for name in ("then", "other", "body"):
+            if hasattr(item, name):
+                yield from _every(getattr(item, name))
 
 
-def uses_of(cutter: Cutter, renames: dict[int, str]) -> Counter[tuple[str, str]]:
-    """Return how often the body names each variable, function and enumerator, and what it means by it.
+@dataclass
+class Use:
+    """What a name means: the name, the offset where a variable at the top is declared, else -1, and where it belongs."""
 
-    A variable of the body counts by its new name, and whether it is declared at the top or in a piece.
-    """
+    name: str
+    offset: int
+    where: str
+    count: int = 0
+
+
+def uses_of(cutter: Cutter) -> list[Use]:
+    """Return how often the body names each variable, function and enumerator, and what it means by it."""
     top = {libclang.identity(cursor) for cursor in _variables(cutter)}
     inner = {libclang.identity(cursor) for cursor in cutter.syntax.variables} - top
-    entities: dict[int, tuple[str, str]] = {}
-    found: Counter[tuple[str, str]] = Counter()
+    found: dict[int, Use] = {}
+    numbers: dict[int, int] = {}  # of declarations, by where libclang has them
     for cursor in cutter.syntax.references:
         if cursor.kind != Kind.DECL_REF_EXPR:
             continue
         entity = libclang.referenced(cursor)
         if entity is None:
             continue
-        number = libclang.identity(entity)
-        if number not in entities:
+        number = numbers.get(entity.first) or numbers.setdefault(entity.first, libclang.identity(entity))
+        if number not in found:
             name = libclang.spelling(entity)
             if number in top:
-                entities[number] = (renames.get(libclang.name_offset(entity), name), "top")
+                found[number] = Use(name, libclang.name_offset(entity), "top")
             elif number in inner:
-                entities[number] = (_own_name(cutter, entity), "piece")
+                found[number] = Use(_own_name(cutter, entity), -1, "piece")
             else:
-                entities[number] = (name, "parameter" if entity.kind == Kind.PARM_DECL else "outside")
-        found[entities[number]] += 1
-    return found
+                found[number] = Use(name, -1, "parameter" if entity.kind == Kind.PARM_DECL else "outside")
+        found[number].count += 1
+    return list(found.values())
+
+
+def named(uses: list[Use], renames: dict[int, str]) -> Counter[tuple[str, str]]:
+    """Return how often each name is used, by where it belongs; a variable at the top counts by its new name."""
+    counts: Counter[tuple[str, str]] = Counter()
+    for use in uses:
+        counts[renames.get(use.offset, use.name), use.where] += use.count
+    return counts
 
 
 def _own_name(cutter: Cutter, variable: Any) -> str:
@@ -112,13 +129,10 @@ def _own_name(cutter: Cutter, variable: Any) -> str:
     return f"{invocation.name}()" if invocation else name
 
 
-def types_of(cutter: Cutter, renames: dict[int, str]) -> dict[str, str]:
-    """Return the type of each variable at the top, without `const` and `restrict` of its own."""
-    found = {}
-    for cursor in _variables(cutter):
-        name = renames.get(libclang.name_offset(cursor), libclang.spelling(cursor))
-        found[name] = _type_name(type_of(cursor))
-    return found
+def types_of(cutter: Cutter) -> list[tuple[int, str, str]]:
+    """Return the offset, the name and the type of each variable at the top, without `const` and `restrict` of its own."""
+    return [(libclang.name_offset(cursor), libclang.spelling(cursor), _type_name(type_of(cursor)))
+            for cursor in _variables(cutter)]
 
 
 def _variables(cutter: Cutter) -> list[Any]:

@@ -4,9 +4,9 @@ from __future__ import annotations
 
 from typing import Callable, Sequence
 
-from .core import CORE_NAMES, answers_of
+from .core import CORE_NAMES, Core, answers_of
 from .edits import Edit, edited
-from .finishing import put_back, tell
+from .finishing import look_ahead, put_back, tell
 from .jobs import Job, give_names, jobs_of, prepare
 from .messages import Refused, Unreadable
 from .options import Options, Outcome, Trail
@@ -47,7 +47,8 @@ def _restructure(file: SourceFile, jobs: list[Job], options: Options, trail: Tra
     cut = [job for job in jobs if job.cutter is not None and job.refusal is None]
     reserved = {word for word in file.all_words() if word.startswith(CORE_NAMES)}
     skeletons = [job.skeleton(reserved) for job in cut]
-    for job, answer in zip(cut, answers_of(options.core, skeletons, options.tidy)):
+    core = Core(options.core, options.tidy, options.reports, lambda: look_ahead(cut))
+    for job, answer in zip(cut, answers_of(core, skeletons)):
         job.answer = answer
         if answer.refusal:
             assert job.cutter is not None

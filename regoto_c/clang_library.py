@@ -1,12 +1,11 @@
-"""libclang itself: where it is found, what its structures look like, and how its functions are called."""
+"""libclang itself: what its structures look like, and how its functions are called."""
 
 from __future__ import annotations
 
-import sys
 from ctypes import CDLL, PyDLL, Structure, c_char_p, c_int, c_uint, c_void_p
 from typing import Any
 
-_OLDEST, _NEWEST = 14, 30
+from .loading import library
 
 
 class Cursor(Structure):
@@ -39,24 +38,7 @@ class String(Structure):
     _fields_ = [("data", c_void_p), ("flags", c_uint)]
 
 
-def _names() -> list[str]:
-    numbers = range(_OLDEST, _NEWEST)
-    several = [f"libclang-{number}.so.{end}" for number in numbers for end in (1, number)]
-    return [*several, *(f"/usr/lib/llvm-{number}/lib/libclang.so" for number in numbers), "libclang.so"]
-
-
-def _loaded() -> str:
-    """Return the name by which libclang is found; it is loaded then."""
-    for name in _names():
-        try:
-            CDLL(name)
-        except OSError:
-            continue
-        return name
-    sys.exit("regoto-c: libclang is missing; on Debian: apt-get install python3-clang")
-
-
-_NAME = _loaded()
+_NAME = library()
 _quick, _slow = PyDLL(_NAME), CDLL(_NAME)
 
 

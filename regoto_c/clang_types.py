@@ -69,8 +69,10 @@ class Type:
 
     @property
     def is_volatile(self) -> bool:
-        """Whether it is volatile itself."""
-        return bool(_is_volatile(self.raw))
+        """Whether it is volatile, or for an array its elements, or has a member that is."""
+        if self.kind == TypeKind.RECORD and any(field.is_volatile for field in _fields(self)):
+            return True
+        return bool(_is_volatile(self.raw)) or self.kind == TypeKind.CONSTANTARRAY and self.element.is_volatile
 
     @property
     def is_const(self) -> bool:

@@ -9,11 +9,12 @@ from functools import partial
 from pathlib import Path
 from typing import Iterator
 
+from . import loading
 from .core_program import NoCore, find_core
 from .flags import Database
 from .messages import Message
 from .options import Options
-from .work import DONE, FAULT, LEFT, UNREADABLE, WORDS, Request, Result, carry_out, difference, replace
+from .results import DONE, FAULT, LEFT, UNREADABLE, WORDS, Request, Result, difference, replace
 
 _VERSION = Path(__file__).resolve().parent.parent / "VERSION"
 
@@ -22,7 +23,7 @@ exit status:
   0   each function with a goto was restructured
   1   a function was left as it is; with --check, a function has a goto that could go
   2   the words fit no use
-  3   a file can't be read, clang finds errors in it, or there is no core
+  3   a file can't be read, clang finds errors in it, or there is no proved program
   70  a fault of regoto-c itself; nothing was written
 """
 
@@ -31,13 +32,14 @@ def parser() -> argparse.ArgumentParser:
     """Return the parser of the command line."""
     made = argparse.ArgumentParser(
         "regoto-c", usage="regoto-c [options] FILE.. [-- COMPILER FLAGS]\n       regoto-c [options] --cc COMPILER ..",
-        description="Eliminates the gotos of C functions, by the proved program regoto on their control flow.",
+        description="Eliminates the gotos of C functions, by the proved program regoto on their control flow.\n"
+                    "Without -o, -i, -d or --check it says which functions it would restructure.",
         epilog=_STATUSES, formatter_class=argparse.RawDescriptionHelpFormatter)
-    made.add_argument("files", nargs="+", metavar="FILE", type=Path)
+    made.add_argument("files", nargs="+", metavar="FILE", type=Path, help="a C file, or a preprocessed one (.i)")
     where = made.add_mutually_exclusive_group()
     where.add_argument("-o", metavar="OUT", dest="out", help="write the one file to OUT; '-' is the standard output")
-    where.add_argument("-i", "--in-place", action="store_true", help="replace each file")
-    where.add_argument("-d", "--diff", action="store_true", help="write a unified diff, change nothing")
+    where.add_argument("-i", "--in-place", action="store_true", help="replace each file that changes")
+    where.add_argument("-d", "--diff", action="store_true", help="show what would change, as a unified diff")
     where.add_argument("--check", action="store_true", help="change nothing; exit 1 if a goto could go")
     made.add_argument("-p", metavar="BUILD", dest="build", type=Path,
                       help="take the flags of each file from BUILD/compile_commands.json")
@@ -45,11 +47,12 @@ def parser() -> argparse.ArgumentParser:
     made.add_argument("--configured", action="store_true",
                       help="resolve #if groups that bear jumps, for these flags, in functions that are rewritten")
     made.add_argument("--tidy", action="store_true", help="turn guards of single loops back into break and continue")
-    made.add_argument("--strict", action="store_true", help="write nothing where a function is left")
+    made.add_argument("--strict", action="store_true", help="write nothing where a function is left; an error then")
     made.add_argument("--report", metavar="FILE", type=Path, help="write the moves, function by function, to FILE")
-    made.add_argument("--core", metavar="PROGRAM", type=Path, help="the program that restructures the control flow")
+    made.add_argument("--core", metavar="PROGRAM", type=Path, help="take this program as the proved one")
     made.add_argument("--try-core", action="store_true",
                       help="use ./regoto, which runs its sources before any proof where it isn't built")
+    made.add_argument("--cc", metavar="COMPILER ..", help="stand in for a compiler: make CC='regoto-c --cc gcc'")
     made.add_argument("--jobs", metavar="N", type=int, default=len(os.sched_getaffinity(0)),
                       help="work with N processes; by default with as many as there are processors")
     made.add_argument("--quiet", action="store_true", help="say nothing but warnings and errors")
@@ -65,6 +68,7 @@ def main(words: list[str]) -> int:
     """Do what the words of the command line ask for; return the exit status."""
     if "--cc" in words:
         return _stand_in(words)
+    loading.begin()
     cut = words.index("--") if "--" in words else len(words)
     made = parser()
     asked = made.parse_args(words[:cut])
@@ -77,7 +81,7 @@ def main(words: list[str]) -> int:
         return UNREADABLE
     functions = frozenset(name for name in asked.functions.split(",") if name)
     share = asked.jobs if len(asked.files) == 1 else 1  # of several files each has one process
-    options = Options(core, functions, asked.configured, asked.tidy, share)
+    options = Options(core, functions, asked.configured, asked.tidy, share, asked.report is not None)
     try:
         requests = list(_requests(asked, words[cut + 1:], options))
     except (OSError, ValueError, KeyError) as why:
@@ -111,9 +115,13 @@ def _requests(asked: argparse.Namespace, flags: list[str], options: Options) -> 
 
 def _results(asked: argparse.Namespace, requests: list[Request]) -> Iterator[Result]:
     """Do the work, and say of each file what became of it."""
+    from .work import carry_out
+
     shows = sys.stderr.isatty() and not asked.quiet and len(requests) > 1
     if asked.jobs > 1 and len(requests) > 1:
         from concurrent.futures import ProcessPoolExecutor  # slow to load
+
+        from . import alone  # noqa: F401  # once, before there are several processes
 
         with ProcessPoolExecutor(min(asked.jobs, len(requests))) as pool:
             yield from _shown(pool.map(carry_out, requests), requests, shows, asked)
@@ -132,7 +140,8 @@ def _shown(
         if shows:
             say("\r\x1b[K", end="")
         for message in result.messages:
-            say(_as_asked(message, asked))
+            if message.kind != "note" or not asked.quiet:
+                say(_as_asked(message, asked))
         yield result
     for _ in results:
         pass

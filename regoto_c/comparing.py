@@ -5,7 +5,7 @@ from __future__ import annotations
 from typing import Any
 
 from . import forms
-from .accounting import account, types_of, uses_of
+from .accounting import account, named, types_of, uses_of
 from .cutting import Cutter
 from .expected import Side, is_opaque, words_between
 from .forms import Items
@@ -17,12 +17,22 @@ from .reading import Function, SourceFile
 from .recutting import ResultCutter
 
 
-def compare(
-    file: SourceFile, function: Function, source: Cutter, renderer: Renderer, cut: Items, items: Items
-) -> None:
-    """Cut a function of the result, and compare it with what the core wrote, `items`, and with its source.
+class Known:
+    """What is known of a source before there is a result: its tokens are accounted for, what names mean, and types."""
 
-    `cut` are the items of the source.
+    def __init__(self, cutter: Cutter, items: Items) -> None:
+        self.cutter = cutter
+        self.fault: Fault | None = None
+        try:
+            account(cutter, items)
+        except Fault as fault:
+            self.fault = fault
+        self.uses = uses_of(cutter)
+        self.types = types_of(cutter)
+
+
+def compare(file: SourceFile, function: Function, known: Known, renderer: Renderer, items: Items) -> None:
+    """Cut a function of the result, and compare it with what the core wrote, `items`, and with its source.
 
     Raises `Fault` where they differ.
     """
@@ -33,15 +43,18 @@ def compare(
     except (Refused, NeedsExpansion) as refused:
         raise Fault(f"{function.name}: the result can't be cut: {refused}") from None
     declared = [item for item in items if isinstance(item, forms.Declare)]
-    left = Side(source, renderer.renames, renderer.copy)
+    left = Side(known.cutter, renderer.renames, renderer.copy)
     _compare_top(result, left, declared)
     rest: Items = [item for item in items if not isinstance(item, forms.Declare)]
     Comparison(left, Side(result)).lists(rest, found, is_body=False)
-    account(source, cut)
+    if known.fault is not None:
+        raise known.fault
     account(result, found, names)
-    if uses_of(source, renderer.renames) - uses_of(result, {}):  # assignments name their variables once more
+    # assignments name their variables once more
+    if named(known.uses, renderer.renames) - named(uses_of(result), {}):
         raise Fault(f"{function.name}: a name means another thing in the result")
-    if not types_of(source, renderer.renames).items() <= types_of(result, {}).items():
+    types = {renderer.renames.get(offset, name): type_ for offset, name, type_ in known.types}
+    if not types.items() <= {name: type_ for _, name, type_ in types_of(result)}.items():
         raise Fault(f"{function.name}: a variable has another type in the result")
 
 

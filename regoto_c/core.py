@@ -5,6 +5,7 @@ from __future__ import annotations
 import os
 import re
 from pathlib import Path
+from typing import Callable
 
 from .forms import Items, skeleton_lines
 from .messages import Fault
@@ -47,7 +48,17 @@ class Answer:
     refusal: str = ""
 
 
-def answers_of(core: Path, skeletons: list[Skeleton], tidy: bool) -> list[Answer]:
+@dataclass
+class Core:
+    """The program, and how it is called; `meanwhile` is done once, while it works."""
+
+    program: Path
+    tidy: bool
+    reports: bool
+    meanwhile: Callable[[], None]
+
+
+def answers_of(core: Core, skeletons: list[Skeleton]) -> list[Answer]:
     """Return what the core makes of each skeleton; it is called once for as many as one text may hold.
 
     Raises `Fault` where the core ends otherwise than it should.
@@ -58,20 +69,20 @@ def answers_of(core: Path, skeletons: list[Skeleton], tidy: bool) -> list[Answer
     for skeleton in skeletons:
         length = sum(len(line) + 1 for line in [*skeleton.lines, *skeleton.prototypes])
         if batch and size + length > _LONGEST:
-            answers += _answers(core, batch, tidy)
+            answers += _answers(core, batch)
             batch, size = [], 0
         batch.append(skeleton)
         size += length
-    return answers + (_answers(core, batch, tidy) if batch else [])
+    return answers + (_answers(core, batch) if batch else [])
 
 
-def _answers(core: Path, skeletons: list[Skeleton], tidy: bool) -> list[Answer]:
+def _answers(core: Core, skeletons: list[Skeleton]) -> list[Answer]:
     """Call the core, and again without a function that it refuses."""
     answers = {skeleton.name: Answer() for skeleton in skeletons}
     left = list(skeletons)
     while left:
         text, firsts = _text(left)
-        result, report, refusal = _call(core, text, tidy)
+        result, report, refusal = _call(core, text)
         if refusal is None:
             texts = _functions_in(result)
             for skeleton in left:
@@ -107,23 +118,24 @@ def _text(skeletons: list[Skeleton]) -> tuple[str, list[int]]:
     return "\n".join(lines) + "\n", firsts
 
 
-def _call(core: Path, text: str, tidy: bool) -> tuple[str, str, tuple[int, str] | None]:
+def _call(core: Core, text: str) -> tuple[str, str, tuple[int, str] | None]:
     """Run the core on a text; return the result and the report, or the line and the reason of a refusal."""
     folder = _new_folder()
     try:
         _write(f"{folder}/in.c", text)
-        words = [str(core), "restructure", f"{folder}/in.c", f"{folder}/out.c", "--report", f"{folder}/moves"]
-        status, said = _run(folder, words)
+        words = [str(core.program), "restructure", f"{folder}/in.c", f"{folder}/out.c"]
+        meanwhile, core.meanwhile = core.meanwhile, _nothing
+        status, said = _run(folder, words + (["--report", f"{folder}/moves"] if core.reports else []), meanwhile)
         refusal = _REFUSAL.search(said)
         if status == 1 and refusal and refusal.group(2) in _OVER_LIMITS:
             return "", "", (int(refusal.group(1)), refusal.group(3))
         result = f"{folder}/out.c"
-        if status == 0 and tidy:
+        if status == 0 and core.tidy:
             result = f"{folder}/tidied.c"
-            status, said = _run(folder, [str(core), "tidy", f"{folder}/out.c", result])
+            status, said = _run(folder, [str(core.program), "tidy", f"{folder}/out.c", result], _nothing)
         if status:
             raise Fault(f"the core ended with status {status}: {said}")
-        return _read(result), _read(f"{folder}/moves"), None
+        return _read(result), _read(f"{folder}/moves") if core.reports else "", None
     finally:
         for name in os.listdir(folder):
             os.unlink(f"{folder}/{name}")
@@ -141,13 +153,20 @@ def _new_folder() -> str:
         return folder
 
 
-def _run(folder: str, words: list[str]) -> tuple[int, str]:
+def _nothing() -> None:
+    pass
+
+
+def _run(folder: str, words: list[str], meanwhile: Callable[[], None]) -> tuple[int, str]:
     """Run a program; return its exit status, less than 0 where a signal ended it, and what it said."""
     said = f"{folder}/said"
     out = (os.POSIX_SPAWN_OPEN, 1, os.devnull, os.O_WRONLY, 0)
     errors = (os.POSIX_SPAWN_OPEN, 2, said, os.O_WRONLY | os.O_CREAT, 0o600)
     child = os.posix_spawn(words[0], words, os.environ, file_actions=[out, errors])
-    _, status = os.waitpid(child, 0)
+    try:
+        meanwhile()
+    finally:
+        _, status = os.waitpid(child, 0)
     return os.waitstatus_to_exitcode(status), _read(said).strip()
 
 

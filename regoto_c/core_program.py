@@ -7,6 +7,7 @@ from pathlib import Path
 
 _TOP = Path(__file__).resolve().parent.parent
 _BUILT = _TOP / "crates" / "regoto_cli" / "out" / "regoto_cli"
+_OTHERS = "--try-core runs its sources, --core names another program"
 
 
 class NoCore(Exception):
@@ -27,10 +28,10 @@ def find_core(given: Path | None, may_try: bool = False) -> Path:
     if may_try:
         return _TOP / "regoto"
     if not _BUILT.is_file():
-        raise NoCore("the proved program isn't built; ./regoto --build proves and builds it (--core names another)")
+        raise NoCore(f"the proved program isn't built; ./regoto --build proves and builds it ({_OTHERS})")
     newer = _newer_source(_BUILT.stat().st_mtime)
     if newer:
-        raise NoCore(f"{newer} is newer than the proved program; ./regoto --build builds it (--core names another)")
+        raise NoCore(f"{newer} is newer than the proved program; ./regoto --build builds it ({_OTHERS})")
     return _BUILT
 
 

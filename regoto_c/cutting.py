@@ -3,6 +3,7 @@
 from __future__ import annotations
 
 import re
+from typing import Iterator
 
 from . import forms, libclang, syntax
 from .declarations import Declarations
@@ -17,6 +18,7 @@ from .syntax import Node
 from .units import UnitKind
 
 _LONGEST_RANGE = 64
+_ASKS_FOR_TYPE = frozenset(("_Generic", "__builtin_types_compatible_p"))
 _LABEL = re.compile(r"[A-Za-z_][A-Za-z_0-9]{0,62}")
 _DEFINITION = re.compile(r"#\s*(?:define|undef)\s+(\w+)")
 
@@ -49,23 +51,50 @@ class Cutter(StatementCutter):
             first = self._keep(nodes, first)
         self.kept_end = self.behind_comments(self.units.ends[first - 1])
         items = ListCutter(self, nodes, first, len(self.units.starts) - 1, self.kept_end, True).items()
-        self._check_directives()
+        self._check_definitions()
+        self._check_counter()
+        self._check_qualifiers()
         return items
 
-    def _check_directives(self) -> None:
+    def _check_definitions(self) -> None:
         """Raise `Refused` where something would move out of the reach of a macro that is defined in the body."""
-        for start, kind, word in zip(self.units.starts, self.units.kinds, self.units.words):
-            match = _DEFINITION.match(word) if kind is UnitKind.GROUP and start >= self.kept_end else None
+        groups = [unit for unit, kind in enumerate(self.units.kinds) if kind is UnitKind.GROUP]
+        for start, word in [(self.units.starts[unit], self.units.words[unit]) for unit in groups]:
+            match = _DEFINITION.match(word) if start >= self.kept_end else None
             if match is None:
                 continue
-            texts = [(span[0], moved.bare(self.file.text)) for moved in self.declarations.moved
-                     for span in moved.spans if span[0] > start]
-            texts += [(piece.start, self.file.text[piece.start: piece.end])
-                      for piece in self.pieces.values() if piece.form is Form.PART]
-            for low, text in texts:
-                words = set(words_of(text))
-                if match.group(1) in words | self.file.words_behind(words):
-                    raise Refused(low, f"{match.group(1)} is defined in the function, and this would move away from it")
+            for offset in self._moving_with(match.group(1), start):
+                why = f"{match.group(1)} is defined in the function, and this would move away from it"
+                raise Refused(offset, why)
+
+    def _check_counter(self) -> None:
+        """Raise `Refused` where something would move whose value is its place among all like it in the file."""
+        if self.file.mentions("__COUNTER__"):
+            for offset in self._moving_with("__COUNTER__", 0):
+                raise Refused(offset, "__COUNTER__ counts along the text, and this would move")
+
+    def _check_qualifiers(self) -> None:
+        """Raise `Refused` where a variable would lose a qualifier that an expression may ask for."""
+        for offset in self.declarations.unqualified:
+            words = self.file.words_in(self.function)
+            if _ASKS_FOR_TYPE & (words | self.file.words_behind(words)):
+                raise Refused(offset, "a variable that is const would lose that word, and _Generic may ask for its type")
+
+    def _moving_with(self, word: str, start: int) -> Iterator[int]:
+        """Give the places of what moves and names a word, itself or by a macro: declarations behind `start`, and parts."""
+        text = self.file.text
+        texts = [(span[0], moved.bare(text)) for moved in self.declarations.moved
+                 for span in moved.spans if span[0] > start]
+        texts += [(piece.start, text[piece.start: piece.end])
+                  for piece in self.pieces.values() if piece.form is Form.PART]
+        for offset, part in texts:
+            if self._names(word, part):
+                yield offset
+
+    def _names(self, word: str, text: str) -> bool:
+        """Return whether a text has a word, or a macro that it names."""
+        words = set(words_of(text))
+        return word in words or word in self.file.words_behind(words)
 
     def check_whole(self) -> None:
         """Raise `Refused` where something in the function can't be restructured wherever it stands."""
@@ -171,9 +200,10 @@ class Cutter(StatementCutter):
         if high - low >= _LONGEST_RANGE:
             raise Refused(node.start, f"a case range of more than {_LONGEST_RANGE} values")
         text = self.file.text[self.units.starts[at]: self.units.ends[behind - 1]]
-        words = set(words_of(text))
-        if "__LINE__" in self.file.words_behind(words) | words:
+        if self._names("__LINE__", text):
             raise Refused(node.start, "a case label that names its line")
+        if self._names("__COUNTER__", text):
+            raise Refused(node.start, "a case label with __COUNTER__")
         if self.units.kinds[at] is UnitKind.INVOCATION:
             written = CaseText(None, text, low, high, False)
         else:

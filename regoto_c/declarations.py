@@ -21,6 +21,7 @@ _STATIC = (2, 3)  # extern and static, as libclang has them
 _STATIC_CLASS = 3
 _STORAGE = frozenset(("register", "auto"))
 _NO_TYPE = frozenset(("__auto_type",))
+_QUALIFIERS = _STORAGE | CONST | {"volatile", "__volatile", "__volatile__"}
 
 
 @dataclass
@@ -66,7 +67,7 @@ class Declarations:
         self.variables: list[Any] = []
         self.fixed: list[Any] = []
         self.replacements: list[Replacement] = []
-        self.drops_const = False
+        self.unqualified: list[int] = []  # where variables stand that lose a qualifier
 
     def fixed_entities(self) -> list[Any]:
         """Return the moved types, enumerators and functions, whose names can't change."""
@@ -93,6 +94,8 @@ class Declarations:
             self._move_whole(node, at, stop, in_head)
             return False
         parts = parts_of(self.cutter, node, at, stop)
+        if all(self.cutter.units.words[unit] in _QUALIFIERS for unit in range(parts.first, parts.behind)):
+            raise Refused(node.start, "a variable without a type of its own")
         for declarator in parts.declarators:
             refuse_unmovable(self.cutter, declarator)
         self.variables += [child.cursor for child in variables]
@@ -189,12 +192,13 @@ class Declarations:
         type_ = type_of(one.cursor)
         if one.equals is not None and type_.is_const:
             gone |= CONST
-            self.drops_const = True
             if not any(self.cutter.units.words[unit] in CONST for unit in own):
                 raise Refused(self.cutter.units.starts[one.name], "a variable that is const by its type's name")
         if own.start != parts.first:
             gone |= RESTRICT
         places = [*range(parts.first, parts.behind), *own] if own.start != parts.first else list(own)
+        if any(self.cutter.units.words[unit] in gone - _STORAGE for unit in own):
+            self.unqualified.append(self.cutter.units.starts[one.name])
         return [
             self._without(unit)
             for unit in places

@@ -67,7 +67,7 @@ def _conditional(body: Body, conditional: Conditional) -> Group:
         if word_of(directive) == "include":
             return Group(start, end, "an #include in a function", directive.start, resolvable=True)
     judge = Judge(body, start, end)
-    return judge.with_next() if any(map(_is_for_the_next, inside)) else judge.group()
+    return judge.with_next(resolvable=True) if any(map(_is_for_the_next, inside)) else judge.group()
 
 
 def _lone(body: Body, directive: Token) -> Group:
@@ -76,7 +76,7 @@ def _lone(body: Body, directive: Token) -> Group:
     if word_of(directive) == "include":
         return Group(start, end, "an #include in a function", start)
     if _is_for_the_next(directive):
-        return judge.with_next()
+        return judge.with_next(resolvable=False)
     if _pragma(directive).startswith("STDC") and start > body.first_statement:
         return Group(start, end, "a #pragma STDC behind the first statement", start)
     return Group(start, end, statements=judge.at_boundary, declarations=end <= body.first_statement)
@@ -92,21 +92,23 @@ def _is_for_the_next(directive: Token) -> bool:
     return _pragma(directive).startswith(_FOR_THE_NEXT)
 
 
-def resolved(file: SourceFile, function: Function) -> list[Edit]:
-    """Return the edits, each a `Resolution`, that resolve the groups that can't be pieces, for the flags of the file.
+def resolved(file: SourceFile, function: Function, named_at: int | None = None) -> list[Resolution]:
+    """Return the edits that resolve the groups that can't be pieces, for the flags of the file.
 
-    What stands in a branch that is taken is looked at again when the result is read. Raises `Refused` where a compiler
-    at hand would take other branches, or the function's macros can't be read.
+    With `named_at` they resolve those of the unit in which that place lies. What stands in a branch that is taken is
+    looked at again when the result is read. Raises `Refused` where a compiler at hand would take other branches, or the
+    function's macros can't be read.
     """
     body = body_of(file, function)
     if body is None or body.broken is not None:
         return []
-    faults = [group for group in groups(file, function) if group.resolvable]
+    faults = [group for group in groups(file, function)
+              if (group.resolvable if named_at is None else group.start <= named_at < group.end)]
     chosen = [group for group in body.groups
               if any(fault.start <= group.start and group.end <= fault.end for fault in faults)]
     if not chosen:
         return []
-    edits: list[Edit] = [_resolution(file, group) for group in chosen]
+    edits = [_resolution(file, group) for group in chosen]
     try:
         other = preprocessing.differs(file.path, file.text, edited(file.text, edits), file.flags)
     except preprocessing.Failed as failed:

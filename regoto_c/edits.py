@@ -4,6 +4,7 @@ from __future__ import annotations
 
 from bisect import bisect_left
 from itertools import accumulate
+from typing import Sequence
 
 from .records import dataclass
 
@@ -17,7 +18,7 @@ class Edit:
     text: str
 
 
-def edited(text: str, edits: list[Edit]) -> str:
+def edited(text: str, edits: Sequence[Edit]) -> str:
     """Return `text` with all edits made, which don't overlap."""
     out: list[str] = []
     at = 0

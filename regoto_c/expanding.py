@@ -8,7 +8,7 @@ from typing import Callable, Iterator, Sequence
 
 from . import preprocessing
 from .lexing import TokenKind, tokens_of
-from .preprocessing import Definition, Definitions
+from .preprocessing import Definition, Definitions, Failed
 from .reading import Edit, edited
 from .words import NAMES, Token, closing, words
 
@@ -126,7 +126,12 @@ class Expander:
         for body in bodies:
             body.sequence = words(body.text)
             body.uses = find_uses(body, definitions)
-        whole = self._expand([use for body in bodies for use in body.uses], False)
+        uses = [use for body in bodies for use in body.uses]
+        try:  # what may be asked for next is found in the same run
+            self._find([*((use, False) for use in uses), *((use, True) for use in uses)])
+        except Failed:
+            pass
+        whole = self._expand(uses, False)
         for body in bodies:
             body.expansions = [words(next(whole)) for _ in body.uses]
 
@@ -152,16 +157,16 @@ class Expander:
 
     def _expand(self, uses: Sequence[Use], alone: bool) -> Iterator[str]:
         """Return the expansions in order: whole ones, or with no macro defined but the one that is used."""
-        known = [{use.name: use.reached[use.name]} if alone else use.reached for use in uses]
-        keys = [(use.text, alone, frozenset(each.items())) for use, each in zip(uses, known)]
-        new = {key: (use.text, each) for key, use, each in zip(keys, uses, known) if key not in _expansions}
-        batch: list[tuple[list[str], str]] = []
+        self._find([(use, alone) for use in uses])
+        return iter([_expansions[_key(use, alone)] for use in uses])
+
+    def _find(self, asked: Sequence[tuple[Use, bool]]) -> None:
+        """Find the expansions that aren't known yet, in one run; of each use, whether it is expanded alone."""
+        new = {_key(*one): one for one in asked if _key(*one) not in _expansions}
         made: dict[str, Definition] = {}
-        for text, each in new.values():
-            batch.append((_directives(made, each, alone), text))
+        batch = [(_directives(made, _known(use, alone), alone), use.text) for use, alone in new.values()]
         if batch:
             _expansions.update(zip(new, preprocessing.expand(self.program, batch, self.flags)))
-        return iter([_expansions[key] for key in keys])
 
     def _compare(self, bodies: Sequence[Body]) -> None:
         """Let each body fail whose tokens, when wholly preprocessed, aren't those of the source."""
@@ -177,8 +182,18 @@ class Expander:
         return edited(self.text, [edit for body in bodies for edit in body.edits])
 
 
-# The expansions that were asked for, by the text, whether only its own macro is defined, and the definitions.
-_expansions: dict[tuple[str, bool, frozenset[tuple[str, Definition | None]]], str] = {}
+# The text of a use, whether only its own macro is defined, and the definitions.
+_Key = tuple[str, bool, frozenset[tuple[str, "Definition | None"]]]
+_expansions: dict[_Key, str] = {}  # that were asked for
+
+
+def _known(use: Use, alone: bool) -> dict[str, Definition | None]:
+    """Return the definitions with which a use is expanded."""
+    return {use.name: use.reached[use.name]} if alone else use.reached
+
+
+def _key(use: Use, alone: bool) -> _Key:
+    return use.text, alone, frozenset(_known(use, alone).items())
 
 
 def _directives(made: dict[str, Definition], wanted: dict[str, Definition | None], alone: bool) -> list[str]:

@@ -2,7 +2,7 @@
 
 from __future__ import annotations
 
-from .comparing import compare
+from .comparing import Known, compare
 from .core_text import body_of
 from .edits import Edit
 from .jobs import Job
@@ -11,6 +11,13 @@ from .messages import Fault, Message, Unreadable, message_at
 from .options import Outcome
 from .putting_back import Writer
 from .reading import SourceFile, read_again
+
+
+def look_ahead(jobs: list[Job]) -> None:
+    """Find what comparing has to know of functions that were cut, while the core works."""
+    for job in jobs:
+        assert job.cutter is not None
+        job.known = Known(job.cutter, job.items)
 
 
 def put_back(source: SourceFile, file: SourceFile, done: list[Job]) -> list[Edit]:
@@ -43,8 +50,8 @@ def _compare(source: SourceFile, edits: list[Edit], done: list[Job]) -> None:
     except Unreadable as unreadable:
         raise Fault(f"clang doesn't read the result: {unreadable.messages[0]}") from None
     for job in done:
-        assert job.cutter is not None and job.renderer is not None
-        compare(result, result.functions[job.number], job.cutter, job.renderer, job.items, job.result)
+        assert job.known is not None and job.renderer is not None
+        compare(result, result.functions[job.number], job.known, job.renderer, job.result)
 
 
 def _copy_function(file: SourceFile) -> str:
@@ -56,7 +63,11 @@ def tell(outcome: Outcome, source: SourceFile, jobs: list[Job], configured: bool
     """Say what became of each function."""
     done = [job for job in jobs if job.refusal is None]
     outcome.done = len(done)
-    outcome.messages += [_message(source, job, configured) for job in jobs if job.refusal is not None]
+    for job in jobs:
+        if job.refusal is not None:
+            outcome.messages.append(_message(source, job, configured))
+        else:
+            outcome.messages += [message_at(source.path, source.text, place, "note", note) for place, note in job.resolved]
     for job in done:
         assert job.answer is not None
         outcome.report += [f"{job.function.name} {line}" for line in job.answer.report]

@@ -262,3 +262,17 @@ def _line(item: Item, kind: str) -> str:
         case Continue():
             return "continue;"
     raise AssertionError(item)
+
+
+def asked(value: Value | None) -> str | None:
+    """Return the first piece whose value is asked for in a test or a selector, or None."""
+    match value:
+        case Ask(piece):
+            return piece
+        case NotZero(inner):
+            return asked(inner)
+        case Choose():
+            return asked(value.selector)
+        case Chain(_, parts):
+            return next((piece for piece in map(asked, parts) if piece), None)
+    return None

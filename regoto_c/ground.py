@@ -58,11 +58,12 @@ class Ground:
 
     def scan(self, at: int, word: str, limit: int) -> int:
         """Return the first unit from `at` that is this token outside of brackets, or `limit` if none is before it."""
+        kinds, words, mates = self.units.kinds, self.units.words, self.units.mates
         while at < limit:
-            if self.units.kinds[at] is UnitKind.TOKEN:
-                if self.units.words[at] == word:
+            if kinds[at] is UnitKind.TOKEN:
+                if words[at] == word:
                     return at
-                at = self.units.mates.get(at, at)
+                at = mates.get(at, at)
             at += 1
         return limit
 

@@ -5,10 +5,9 @@ What a body holds means nothing outside of it, but for directives, which stay. A
 
 from __future__ import annotations
 
-import re
 from typing import Iterable
 
-_MEANS_MORE = re.compile(r"#|%:|\?\?|\b_Pragma\b|\b__pragma\b")
+_MEANS_MORE = ("#", "%:", "??", "_Pragma", "__pragma")
 
 
 def may_go(text: str, body: int, end: int) -> bool:
@@ -20,7 +19,7 @@ def may_go(text: str, body: int, end: int) -> bool:
     while before > 0 and text[before].isspace():
         before -= 1
     whole = text[body] == "{" and text[end - 1] == "}" and text[before] == ")"
-    return whole and _MEANS_MORE.search(text, body, end) is None
+    return whole and all(text.find(mark, body, end) < 0 for mark in _MEANS_MORE)  # quicker than an expression
 
 
 def without(text: str, bodies: Iterable[tuple[int, int]]) -> str:

@@ -99,11 +99,12 @@ def _form(ground: Ground, type_: Type, cursor: Cursor, first: int, behind: int) 
 
 
 def _is_special(type_: Type) -> bool:
+    """Return whether a copy of bytes, or a whole structure, can't be written into a variable of a type."""
     inner = type_
     while inner.kind == TypeKind.CONSTANTARRAY:
         inner = inner.element
     is_array = inner is not type_
-    return "_Atomic" in inner.spelling or (is_array and inner.is_volatile)
+    return "_Atomic" in inner.spelling or (is_array and type_.is_volatile)
 
 
 def _type_spans(ground: Ground, parts: Parts, one: Declarator) -> list[tuple[int, int]] | None:

@@ -2,7 +2,7 @@
 
 from __future__ import annotations
 
-from typing import Iterable
+from typing import TYPE_CHECKING, Iterable
 
 from . import libclang, syntax
 from .core import Answer, Skeleton, skeleton_of
@@ -14,21 +14,28 @@ from .layout import Renderer
 from .messages import Refused
 from .names import Names, new_names
 from .options import Options, Trail
-from .plain_macros import may_bear
+from .plain_macros import macros_named, may_bear
 from .reading import Function, Invocation, SourceFile, read_again
 from .records import dataclass, field
 from .units import has_directives
 
+if TYPE_CHECKING:
+    from .comparing import Known
+    from .directives import Resolution
+
 _ROUNDS = 20
 _GOTOS = (syntax.GOTO, syntax.INDIRECT_GOTO)
+_WRITTEN = "if else while do for switch case default break continue return int long unsigned sizeof".split()
 
 
 @dataclass
 class Job:
     """One function on its way; `number` counts the functions of the file, `round` the times that it was cut before.
 
-    `items` are those that were cut, `result` those that the core wrote. `guarded_late` says that it was given a variable
-    in another round than the first, whose name depends on what other functions were given.
+    `items` are those that were cut, `known` is what comparing knows of them, `result` are those that the core wrote.
+    `resolved` has what is to be said of groups of directives that were resolved, each with its place in the source.
+    `guarded_late` says that it was given a variable in another round than the first, whose name depends on what other
+    functions were given.
     """
 
     number: int
@@ -39,10 +46,12 @@ class Job:
     renderer: Renderer | None = None
     refusal: Refused | None = None
     answer: Answer | None = None
+    known: Known | None = None
     result: Items = field(default_factory=list)
     place: int = 0
     round: int = 0
     guarded_late: bool = False
+    resolved: list[tuple[int, str]] = field(default_factory=list)
 
     def leave(self, refused: Refused, trail: Trail) -> None:
         """Leave the function as it is.
@@ -51,9 +60,12 @@ class Job:
         """
         self.refusal = refused
         is_inside = self.function.start <= refused.offset < self.function.end
-        self.place = refused.offset if is_inside else self.function.name_offset
-        for text, edits in reversed(trail):
-            self.place = unedited(text, edits, self.place)
+        self.place = _in_source(refused.offset if is_inside else self.function.name_offset, trail)
+
+    def resolve(self, resolutions: list[Resolution], trail: Trail) -> list[Edit]:
+        """Return the edits that resolve groups of directives, and keep what is to be said of them."""
+        self.resolved += [(_in_source(one.start, trail), one.note) for one in resolutions]
+        return list(resolutions)
 
     def skeleton(self, reserved: set[str]) -> Skeleton:
         """Return what the core gets of the function."""
@@ -62,17 +74,42 @@ class Job:
         return skeleton_of(f"f{self.number}", self.items, cutter.pieces, cutter.returns_values, reserved)
 
 
+def _in_source(offset: int, trail: Trail) -> int:
+    """Return where an offset lies in the source, of which `trail` made the text."""
+    for text, edits in reversed(trail):
+        offset = unedited(text, edits, offset)
+    return offset
+
+
 def jobs_of(source: SourceFile, options: Options) -> list[Job]:
     """Return the functions with a goto that are asked for; some may be left at once."""
-    jobs = [
-        Job(number, function)
-        for number, function in ((number, source.functions[number]) for number in source.jumping)
-        if (not options.functions or function.name in options.functions) and libclang.holds(function.compound, _GOTOS)
-    ]
-    for job in jobs:
-        if not job.function.is_written:
-            job.leave(Refused(job.function.name_offset, "its body stands in a macro"), [])
+    jobs = []
+    for number in source.jumping:
+        function = source.functions[number]
+        if options.functions and function.name not in options.functions:
+            continue
+        has_goto = libclang.holds(function.compound, _GOTOS)
+        assembler = None if has_goto else _assembler_with_goto(source, function)
+        if has_goto or assembler is not None:
+            jobs.append(Job(number, function))
+        if assembler is not None:
+            jobs[-1].leave(Refused(assembler, "an asm goto"), [])
+        elif has_goto and not function.is_written:
+            jobs[-1].leave(Refused(function.name_offset, "its body stands in a macro"), [])
+        elif has_goto and (words := [word for word in _WRITTEN if word in source.macros]):
+            jobs[-1].leave(Refused(function.name_offset, f"the word {words[0]} is a macro"), [])
     return jobs
+
+
+def _assembler_with_goto(source: SourceFile, function: Function) -> int | None:
+    """Return where assembler in a function jumps to labels, which libclang doesn't show, or None."""
+    if not libclang.holds(function.compound, (syntax.ASM,)):
+        return None
+    tokens = source.tokens
+    for at in range(tokens.first_from(function.body), tokens.first_from(function.end) - 1):
+        if (tokens.spellings[at], tokens.spellings[at + 1]) == ("goto", "("):
+            return tokens.offsets[at]
+    return None
 
 
 def prepare(file: SourceFile, jobs: list[Job], options: Options, trail: Trail) -> SourceFile:
@@ -88,7 +125,7 @@ def prepare(file: SourceFile, jobs: list[Job], options: Options, trail: Trail) -
                 job.round = number
                 edits += _cut(file, job, options, trail, wanted)
         while wanted:
-            edits += _expanded(file, wanted, trail)
+            edits += _expanded(file, options, wanted, trail)
         if not edits:
             return file
         trail.append((file.text, edits))
@@ -127,9 +164,9 @@ def _cut(file: SourceFile, job: Job, options: Options, trail: Trail, wanted: lis
         if options.configured:
             from . import directives  # slow to load
 
-            if edits := directives.resolved(file, job.function):
-                return edits
-        if may_bear(file, job.function):
+            if resolutions := directives.resolved(file, job.function):
+                return job.resolve(resolutions, trail)
+        if may_bear(file, job.function, macros_named(file, job.function)):
             from . import macros  # slow to load
 
             if bearing := macros.bearing(file, job.function):
@@ -138,10 +175,10 @@ def _cut(file: SourceFile, job: Job, options: Options, trail: Trail, wanted: lis
     except Refused as refused:
         job.leave(refused, trail)
         return []
-    return _cut_whole(file, job, trail, wanted)
+    return _cut_whole(file, job, options, trail, wanted)
 
 
-def _cut_whole(file: SourceFile, job: Job, trail: Trail, wanted: list[_Wanted]) -> list[Edit]:
+def _cut_whole(file: SourceFile, job: Job, options: Options, trail: Trail, wanted: list[_Wanted]) -> list[Edit]:
     """Do that with a function whose macros don't stand in the way, as far as one can tell before."""
     try:
         if has_directives(file, job.function):
@@ -160,11 +197,25 @@ def _cut_whole(file: SourceFile, job: Job, trail: Trail, wanted: list[_Wanted]) 
         found = {each.start: each for each in map(file.invocation_at, need.offsets) if each is not None}
         wanted.append(_Wanted(job, list(found.values()), need.offsets[0]))
     except Refused as refused:
-        job.leave(refused, trail)
+        return _resolved_or_left(file, job, refused, options, trail)
     return []
 
 
-def _expanded(file: SourceFile, wanted: list[_Wanted], trail: Trail) -> list[Edit]:
+def _resolved_or_left(file: SourceFile, job: Job, refused: Refused, options: Options, trail: Trail) -> list[Edit]:
+    """Return the edits that resolve a group which is the reason, if that is asked for; else leave the function."""
+    if options.configured and refused.named_at is not None:
+        from . import directives  # slow to load
+
+        try:
+            if resolutions := directives.resolved(file, job.function, refused.named_at):
+                return job.resolve(resolutions, trail)
+        except Refused as other:
+            refused = other
+    job.leave(refused, trail)
+    return []
+
+
+def _expanded(file: SourceFile, options: Options, wanted: list[_Wanted], trail: Trail) -> list[Edit]:
     """Return the edits that expand what is wanted, all at once; what is wanted then is left in `wanted`."""
     from . import macros  # slow to load
 
@@ -181,7 +232,7 @@ def _expanded(file: SourceFile, wanted: list[_Wanted], trail: Trail) -> list[Edi
         elif result:
             edits += result
         elif one.offset is None:
-            edits += _cut_whole(file, one.job, trail, wanted)
+            edits += _cut_whole(file, one.job, options, trail, wanted)
         else:
             why = f"the macro {one.invocations[0].name} holds a part of what has to be taken apart"
             one.job.leave(Refused(one.offset, why), trail)

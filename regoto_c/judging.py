@@ -148,10 +148,10 @@ class Judge:
             fault = "a declaration in a conditional group would have to move"
         return self._widened() or Group(self.start, self.end, fault, offset, resolvable=True)
 
-    def with_next(self) -> Group:
+    def with_next(self, resolvable: bool) -> Group:
         """Return the unit of a directive with the statement behind it, to which it belongs."""
         return self._widened(only_behind=True) or Group(
-            self.start, self.end, "a #pragma for a statement with a jump", self.start, resolvable=True)
+            self.start, self.end, "a #pragma for a statement with a jump", self.start, resolvable=resolvable)
 
     # -- what stands in a part of the body
 

@@ -58,12 +58,25 @@ class Layout:
     def columns_of(self, start: int, end: int) -> int:
         """Return the columns at which a piece stands: those of its first line that begins with a statement of it."""
         text = self.text
-        first = next((at for at in range(start, end) if not text[at].isspace()), start)
+        first = self._behind_directives(start, end)
         line = text.find("\n", first, end)
         if line > 0 and not self.begins_line(first) and text[first:line].rstrip().endswith((";", "}", "*/")):
-            second = next((at for at in range(line, end) if not text[at].isspace()), first)
-            return self.columns_at(second)
+            return self.columns_at(self._text_from(line, end))
         return self.columns_at(first)
+
+    def _text_from(self, start: int, end: int) -> int:
+        """Return where the first text between two offsets stands, `end` where there is none."""
+        return next((at for at in range(start, end) if not self.text[at].isspace()), end)
+
+    def _behind_directives(self, start: int, end: int) -> int:
+        """Return where the first text between two offsets stands that is no directive, or else the first of all."""
+        first = at = self._text_from(start, end)
+        while at < end and self.text[at] == "#":
+            line = self.text.find("\n", at, end)
+            while line > 0 and self.text[max(0, line - 2):line].endswith(("\\", "\\\r")):
+                line = self.text.find("\n", line + 1, end)
+            at = self._text_from(line, end) if line > 0 else end
+        return at if at < end else first
 
     def white(self, columns: int) -> str:
         """Return the white space of so many columns."""

@@ -168,5 +168,6 @@ def reduced(file: SourceFile, function: Function, restructure: Restructure, leve
 def too_many(file: SourceFile, function: Function) -> str:
     """Return how many gotos and labels a function has, and how many there may be."""
     found = found_in([Syntax(function.compound, False).body])
-    return (f"{len(found.gotos)} gotos and {len(set(found.labels))} labels are too many for one function; "
+    labels = len(set(found.labels))
+    return (f"{len(found.gotos)} gotos and {labels} label{'s' if labels != 1 else ''} are too many for one function; "
             "there may be some 130 jumps, and 60 labels")

@@ -50,6 +50,8 @@ class ListCutter:
         self.is_closed = is_closed
         self.run: Run | None = None
         self.waiting: list[Comment] = []
+        self.is_body = at in cutter.sections
+        self.falling: list[tuple[int, int]] = []
 
     def items(self) -> Items:
         """Return the items of the list."""
@@ -63,18 +65,29 @@ class ListCutter:
                 self._label(here[0], limit)
             elif len(here) == 1 and here[0].kind == syntax.DECLARATION:
                 self._declaration(here[0], limit)
-            elif len(here) == 1 and self._is_of_core(here[0], limit):
-                pass
-            elif all(node.is_opaque for node in here) and not self._holds_core(here, limit):
-                self._opaque(here, limit)
-            elif len(here) == 1:
-                self._taken_apart(here[0], limit)
             else:
-                raise self.cutter.not_understood(self.at, "several statements in one")
+                self._statement(here, limit)
         if self.is_closed:
             self.waiting += self._comments(self.units.starts[self.end])
         self._close()
         return self.out
+
+    def _statement(self, here: list[Node], limit: int) -> None:
+        """Take a statement that is neither a label nor a declaration, or what begins in one unit."""
+        behind = self.cutter.finish(here[0], self.at, limit) if len(here) == 1 else 0
+        if len(here) == 1 and self._is_of_core(here[0], behind):
+            return
+        if all(node.is_opaque for node in here):
+            behind = behind or self._behind(here, limit)
+            if not here or not self.cutter.names_core(self.at, behind):
+                self._opaque(here, behind)
+                return
+        if len(here) != 1:
+            raise self.cutter.not_understood(self.at, "several statements in one")
+        self._taken_apart(here[0], limit)
+
+    def _behind(self, here: list[Node], limit: int) -> int:
+        return self.cutter.finish(here[-1], self.at, limit) if here else self.at + 1
 
     def _here(self) -> list[Node]:
         """Take the statements that begin in the next unit."""
@@ -93,18 +106,34 @@ class ListCutter:
     # -- kinds of items
 
     def _label(self, node: Node, limit: int) -> None:
-        """Take a label off; the comments before it go behind it, but for one on falling through."""
-        text = self.cutter.file.text
-        while self.run and self.waiting and _FALLS.search(text, self.waiting[0].start, self.waiting[0].end):
-            self.run.end = self.waiting.pop(0).end
+        """Take a label off; the comments before it go behind it, but for those on falling through."""
+        self._falls(node)
         self._end_run()
         items, below, behind = self.cutter.label(node, self.at, limit)
+        if self.falling and isinstance(items[0], (forms.Case, forms.Default)):
+            value = items[0].value if isinstance(items[0], forms.Case) else None
+            self.cutter.falls[self.cutter.selectors[-1].name, value], self.falling = self.falling, []
         self.out += items
         self._emit_waiting()
         if not below:
             self.out.append(forms.Empty())
         self.nodes[:0] = below
         self._advance(behind)
+
+    def _falls(self, node: Node) -> None:
+        """Take the comments that say that what stands before a label falls through to it."""
+        text = self.cutter.file.text
+        while node.kind == syntax.LABEL:
+            node = node.children[-1]
+        is_section = self.is_body and node.kind in (syntax.CASE, syntax.DEFAULT)
+        while self.waiting and _FALLS.search(text, self.waiting[0].start, self.waiting[0].end):
+            if is_section:  # it is written before the case label
+                comment = self.waiting.pop(0)
+                self.falling.append((comment.start, comment.end))
+            elif self.run:
+                self.run.end = self.waiting.pop(0).end
+            else:
+                break
 
     def _declaration(self, node: Node, limit: int) -> None:
         behind = self.cutter.finish(node, self.at, limit)
@@ -117,9 +146,8 @@ class ListCutter:
             self.offset = self.cutter.behind_comments(self.offset)
             self.cutter.seen = max(self.cutter.seen, self.offset)
 
-    def _is_of_core(self, node: Node, limit: int) -> bool:
+    def _is_of_core(self, node: Node, behind: int) -> bool:
         """Take a statement that the core made, if it is one; return whether it is."""
-        behind = self.cutter.finish(node, self.at, limit)
         item = self.cutter.core_statement(node, self.at, behind)
         if item is None:
             return False
@@ -129,15 +157,13 @@ class ListCutter:
         self._advance(behind)
         return True
 
-    def _holds_core(self, here: list[Node], limit: int) -> bool:
-        return bool(here) and self.cutter.names_core(self.at, self.cutter.finish(here[-1], self.at, limit))
-
-    def _opaque(self, here: list[Node], limit: int) -> None:
+    def _opaque(self, here: list[Node], behind: int) -> None:
+        if len(here) > 1 and any(node.kind == syntax.DECLARATION for node in here):
+            raise self.cutter.not_understood(self.at, "several declarations in one")
         for node in here:
             check_statement(node)
         if not here and self.units.kinds[self.at] is UnitKind.TOKEN:
             raise self.cutter.not_understood(self.at, "a statement is expected here")
-        behind = self.cutter.finish(here[-1], self.at, limit) if here else self.at + 1
         self.cutter.check_units(self.at, behind)
         if len(here) == 1 and here[0].kind in _ATTRIBUTED and self._says_that_it_falls(behind):
             start, end = self.units.starts[self.at], self.units.ends[behind - 1]

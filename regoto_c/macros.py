@@ -12,7 +12,7 @@ from typing import Any, Collection, Sequence
 from . import preprocessing, shapes
 from .expanding import Body, Expander, Use
 from .messages import Refused
-from .plain_macros import may_bear
+from .plain_macros import macros_named, may_bear
 from .preprocessing import Failed
 from .reading import Edit, Function, Invocation, SourceFile
 from .shapes import End
@@ -115,7 +115,7 @@ def meanings_in(file: SourceFile, function: Function) -> list[Meaning]:
 
 
 def _meanings_in(file: SourceFile, function: Function) -> list[Meaning]:
-    if not may_bear(file, function):
+    if not may_bear(file, function, macros_named(file, function)):
         return []
     try:
         expander = expander_of(file)

@@ -2,9 +2,9 @@
 
 from __future__ import annotations
 
-import re
 from bisect import bisect_right
 from functools import lru_cache
+from itertools import accumulate
 from pathlib import Path
 
 from .records import dataclass
@@ -33,14 +33,16 @@ class Message:
 class Refused(Exception):
     """A function that isn't restructured: the offset in the file of what stands in the way, and why.
 
-    `in_group` says that it is a group of directives, which may be resolved.
+    `in_group` says that it is a group of directives, which may be resolved; `named_at` is a place in one that is else a
+    piece.
     """
 
-    def __init__(self, offset: int, why: str, in_group: bool = False) -> None:
+    def __init__(self, offset: int, why: str, in_group: bool = False, named_at: int | None = None) -> None:
         super().__init__(why)
         self.offset = offset
         self.why = why
         self.in_group = in_group
+        self.named_at = named_at
 
 
 class Unreadable(Exception):
@@ -58,7 +60,7 @@ class Fault(Exception):
 @lru_cache(maxsize=2)
 def _line_starts(text: str) -> list[int]:
     """Return where the lines of a text begin."""
-    return [0, *(match.end() for match in re.finditer("\n", text))]
+    return list(accumulate((len(line) + 1 for line in text.split("\n")), initial=0))
 
 
 def message_at(path: Path, text: str, offset: int, kind: str, why: str) -> Message:

@@ -160,9 +160,11 @@ class Names:
         """Raise `Refused` where a variable can't get another name, or `NeedsExpansion` where macros stand in the way."""
         start = libclang.name_offset(cursor)
         for offset in self._in_groups(name):
-            if self._is_in_directive(offset) or self.scopes.meant(name, offset) == entity:
-                why = f"'{name}' has to get another name, and a group of directives names it"
-                raise Refused(start, why, True)
+            why = f"'{name}' has to get another name, and a"
+            if self._is_in_directive(offset):
+                raise Refused(start, f"{why} directive names it")
+            if self.scopes.meant(name, offset) == entity:
+                raise Refused(start, f"{why} group of directives names it", True, offset)
         uses = [use for use in self.uses if use.entity == entity]
         hiding = [use.offset for use in uses if not use.written or self._makes_text(use)]
         if hiding:

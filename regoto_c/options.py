@@ -13,13 +13,17 @@ Trail = list[tuple[str, list[Edit]]]
 
 @dataclass
 class Options:
-    """What the command line asks for; `jobs` is how many processes may work on the file."""
+    """What the command line asks for.
+
+    `jobs` is how many processes may work on the file, `reports` says whether the moves are asked for.
+    """
 
     core: Path
     functions: frozenset[str] = frozenset()
     configured: bool = False
     tidy: bool = False
     jobs: int = 1
+    reports: bool = False
 
 
 @dataclass

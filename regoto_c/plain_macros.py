@@ -16,10 +16,15 @@ def is_more_than_expression(body: str) -> bool:
             or _MORE_THAN_EXPRESSION.search(body) is not None)
 
 
-def may_bear(file: SourceFile, function: Function) -> bool:
-    """Return whether a macro that is named in a function may hold more than a part of an expression."""
+def macros_named(file: SourceFile, function: Function) -> set[str]:
+    """Return the macros whose names are tokens of a function's body."""
     low, high = file.tokens.first_from(function.body), file.tokens.first_from(function.end)
-    left, reached = [name for name in set(file.tokens.spellings[low:high]) if name in file.macros], set[str]()
+    return {name for name in set(file.tokens.spellings[low:high]) if name in file.macros}
+
+
+def may_bear(file: SourceFile, function: Function, named: set[str]) -> bool:
+    """Return whether one of the macros that are named in a function may hold more than a part of an expression."""
+    left, reached = list(named), set[str]()
     for invocation in file.invocations_in(function):
         left += NAMES.findall(file.text[invocation.start:invocation.end])
     while left:

@@ -8,7 +8,7 @@ import shutil
 import subprocess
 import tempfile
 from concurrent.futures import ThreadPoolExecutor
-from dataclasses import dataclass, field
+from dataclasses import dataclass
 from functools import cached_property, lru_cache
 from pathlib import Path
 from typing import Sequence
@@ -50,19 +50,36 @@ class Definition:
 
 
 Event = tuple[int, str, "Definition | None"]
+_CHANGES = ("#define", "#undef")
 
 
 @dataclass
 class Preprocessed:
-    """What the preprocessor makes of a file: its lines, each with its line of the file, and the changes of macros."""
+    """What the preprocessor makes of the file of this name: its text, with markers of lines and changes of macros."""
 
-    lines: list[tuple[int, str]] = field(default_factory=list)
-    directives: list[tuple[int, str]] = field(default_factory=list)
+    output: str
+    name: str
+
+    @cached_property
+    def lines(self) -> list[str]:
+        """The lines that are neither empty, nor markers, nor changes of macros."""
+        return [each for each in self.output.split("\n") if each and not each.isspace()
+                and (each[0] != "#" or not (each.startswith(_CHANGES) or MARKER.match(each)))]
 
     @cached_property
     def events(self) -> list[Event]:
-        """The changes of macros in order, each with its line."""
-        found = [(line, *_event(text)) for line, text in self.directives]
+        """The changes of macros in order, each with its line; one in a header counts for the line before."""
+        found: list[Event] = []
+        line, since, is_inside = 0, 0, False
+        for index, each in enumerate(self.output.split("\n")):
+            if not each.startswith("#"):
+                continue
+            if marker := MARKER.match(each):
+                line += index - since if is_inside else 0
+                is_inside = marker.group(2) == "/" + self.name
+                line, since = int(marker.group(1)) if is_inside else line, index + 1
+            elif each.startswith(_CHANGES):
+                found.append((line + (index - since if is_inside else 0), *_event(each)))
         return [event for event in found if event[1] != "__LINE__"]
 
 
@@ -150,30 +167,12 @@ def run(program: str, path: Path, text: str, flags: Sequence[str]) -> str:
 
 @lru_cache(maxsize=8)
 def _preprocessed(program: str, path: Path, text: str, flags: tuple[str, ...]) -> Preprocessed:
-    return read(run(program, path, text, flags), path.name)
+    return Preprocessed(run(program, path, text, flags), path.name)
 
 
 def preprocessed(program: str, path: Path, text: str, flags: Sequence[str]) -> Preprocessed:
     """Return what a preprocessor makes of a file at `path` that holds `text`; raises Failed as `run` does."""
     return _preprocessed(program, path, text, tuple(flags))
-
-
-def read(output: str, name: str) -> Preprocessed:
-    """Read the preprocessor's text for the file of this name; what comes from a header counts for the line before."""
-    result = Preprocessed()
-    line, inside = 0, False
-    for each in output.split("\n"):
-        if each.startswith("#") and (found := MARKER.match(each)):
-            inside = found.group(2) == "/" + name
-            if inside:
-                line = int(found.group(1))
-            continue
-        if each.startswith(("#define", "#undef")):
-            result.directives.append((line, each))
-        elif each and not each.isspace():
-            result.lines.append((line, each))
-        line += inside
-    return result
 
 
 def differs(path: Path, before: str, after: str, flags: Sequence[str]) -> str | None:
@@ -198,7 +197,7 @@ def differs(path: Path, before: str, after: str, flags: Sequence[str]) -> str | 
 
 def _same_tokens(first: Preprocessed, second: Preprocessed) -> bool:
     """Return whether the lines of two texts are the same tokens."""
-    one, two = [text for _, text in first.lines], [text for _, text in second.lines]
+    one, two = first.lines, second.lines
     front = next((at for at, (a, b) in enumerate(zip(one, two)) if a != b), min(len(one), len(two)))
     one, two = one[front:], two[front:]
     back = next((at for at, (a, b) in enumerate(zip(reversed(one), reversed(two))) if a != b), min(len(one), len(two)))

@@ -5,7 +5,7 @@ from __future__ import annotations
 from typing import TYPE_CHECKING
 
 from . import expressions, forms
-from .forms import Ask, Chain, Choose, Equal, Guard, Items, NotZero, Number
+from .forms import Ask, Chain, Choose, Equal, Guard, Items, NotZero, Number, asked
 from .layout import Layout, Renderer
 from .pieces import Form, Piece
 
@@ -23,6 +23,7 @@ class Writer:
         self.lines: list[str] = []
         self.columns = layout.base + layout.step
         self.switches: list[str] = []
+        self.falls = dict(cutter.falls)
         self.variables: dict[str, str] = {}
 
     def body(self, items: Items) -> str:
@@ -38,6 +39,8 @@ class Writer:
         if text[self.cutter.kept_end:].lstrip(" \t\r").startswith("\n") and self._gap_follows():
             self.lines.append("")
         self.items(rest)
+        for start, end in [span for spans in self.falls.values() for span in spans]:  # of labels that aren't there
+            self.line(self.renderer.shifted(start, end, self.columns))
         self.columns = self.layout.base
         self.line("}")
         return self.layout.newline.join([kept, *self.lines])
@@ -205,6 +208,7 @@ class Writer:
             if isinstance(item, forms.Case):
                 at = self.label(body, at)
             elif isinstance(item, forms.Default):
+                self.falls_to(None)
                 self.line("default:")
                 at += 1
             else:
@@ -221,6 +225,7 @@ class Writer:
         item = body[at]
         assert isinstance(item, forms.Case)
         written = self.cutter.cases[self.switches[-1], item.value]
+        self.falls_to(item.value)
         if written.first != written.last:
             values = [one.value for one in body[at:] if isinstance(one, forms.Case)]
             count = written.last - written.first + 1
@@ -230,6 +235,12 @@ class Writer:
             at += count - 1
         self.line(written.whole or f"case {written.constant}:")
         return at + 1
+
+    def falls_to(self, value: int | None) -> None:
+        """Write the comments that say that the section before falls through to a case label, or to `default`."""
+        columns = self.columns + self.layout.step
+        for start, end in self.falls.pop((self.switches[-1], value), []):
+            self.lines.append(self.layout.white(columns) + self.renderer.shifted(start, end, columns))
 
     def constant(self, selector: str, value: int, as_written: bool) -> str:
         """Return a constant of a switch, as the source writes it if that is asked for and the same there."""
@@ -279,17 +290,3 @@ class Writer:
         if level < around or (around == expressions.OR and level == expressions.AND):
             return f"({text})"
         return text
-
-
-def asked(value: forms.Value | None) -> str | None:
-    """Return the first piece whose value is asked for in a test or a selector, or None."""
-    match value:
-        case Ask(piece):
-            return piece
-        case NotZero(inner):
-            return asked(inner)
-        case Choose():
-            return asked(value.selector)
-        case Chain(_, parts):
-            return next((piece for piece in map(asked, parts) if piece), None)
-    return None

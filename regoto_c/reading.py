@@ -2,7 +2,6 @@
 
 from __future__ import annotations
 
-import re
 from bisect import bisect_left, bisect_right
 from operator import attrgetter
 from pathlib import Path
@@ -11,14 +10,12 @@ from typing import Any, Collection, Iterable
 from . import hollow, libclang
 from .clang_units import Unit
 from .edits import Edit, Shift, edited
-from .lexing import Tokens, tokens_of
+from .lexing import Tokens, tokens_of, words_of
 from .libclang import Kind
 from .messages import Fault, Unreadable
 from .parsing import parsed
 from .records import dataclass, field
 
-WORD = re.compile(r"[A-Za-z_$][\w$]*")
-_GOTO = re.compile(r"goto\b")
 _MACRO_DEFINITION = Kind.MACRO_DEFINITION
 _MACRO_INSTANTIATION = Kind.MACRO_INSTANTIATION
 _FUNCTION = Kind.FUNCTION_DECL
@@ -63,15 +60,15 @@ class SourceFile:
     """A file that libclang has read without errors.
 
     `text` has one character for each byte (latin-1), so that offsets are those of libclang. `jumping` are the numbers of
-    the functions with a goto; `tokens` and `invocations` are those of them alone. `left_out` are bodies of functions that
-    libclang hasn't read, and that aren't among `functions`.
+    the functions with a goto; `invocations` are those of them alone, and `tokens` those of the functions whose `spans` are
+    given. `left_out` are bodies of functions that libclang hasn't read, and that aren't among `functions`.
     """
 
     path: Path
     text: str
     flags: list[str]
     unit: Unit
-    tokens: Tokens = field(default_factory=lambda: tokens_of("", [(0, 0)]))
+    spans: list[tuple[int, int]] = field(default_factory=list)
     invocations: list[Invocation] = field(default_factory=list)
     functions: list[Function] = field(default_factory=list)
     left_out: list[tuple[int, int]] = field(default_factory=list)
@@ -79,10 +76,23 @@ class SourceFile:
     macros: dict[str, Any] = field(default_factory=dict)
     has_memcpy: bool = False
     words: set[str] = field(default_factory=set)
+    hides_gotos: bool = False
+    looked_at: Tokens | None = None
     returning_twice: dict[int, bool] = field(default_factory=dict)
     mentioned: dict[str, bool] = field(default_factory=dict)
     macro_words: dict[str, frozenset[str]] = field(default_factory=dict)
     plain: dict[str, list[str] | None] = field(default_factory=dict)
+
+    @property
+    def tokens(self) -> Tokens:
+        """The tokens of some functions, found when they are first asked for."""
+        if self.looked_at is None:
+            self.looked_at = tokens_of(self.text, self.spans)
+        return self.looked_at
+
+    def look_at(self, functions: Iterable[Function]) -> None:
+        """Let the tokens be those of these functions, which are in order."""
+        self.spans, self.looked_at = [(function.start, function.end) for function in functions], None
 
     def invocation_at(self, offset: int) -> Invocation | None:
         """Return the outermost invocation in which `offset` lies, or None."""
@@ -98,14 +108,17 @@ class SourceFile:
 
     def words_in(self, function: Function) -> set[str]:
         """Return the words in a function, those in comments and strings too."""
-        return set(WORD.findall(self.text, function.start, function.end))
+        return words_of(self.text[function.start:function.end])
 
     def has_goto(self, function: Function) -> bool:
         """Return whether a function has a goto, written in it or in the text of a macro that it names."""
-        if _GOTO.search(self.text, function.start, function.end):
-            return True
-        words = self.words_in(function)
-        return "goto" in self.words_behind(words)
+        words = self.words_in(function) if self.text.find("goto", function.start, function.end) >= 0 else frozenset()
+        return "goto" in words or self.may_hide_gotos() and "goto" in self.words_behind(self.words_in(function))
+
+    def may_hide_gotos(self) -> bool:
+        """Return whether a word in the file is a macro in whose text, or in that of one behind it, a goto stands."""
+        self.all_words()
+        return self.hides_gotos
 
     def mentions(self, word: str) -> bool:
         """Return whether a word stands in the file or in one that it includes."""
@@ -128,14 +141,16 @@ class SourceFile:
 
     def _words_of_macro(self, name: str) -> frozenset[str]:
         if name not in self.macro_words:
-            self.macro_words[name] = frozenset(WORD.findall(self.macro_text(name) or ""))
+            self.macro_words[name] = frozenset(words_of(self.macro_text(name) or ""))
         return self.macro_words[name]
 
     def all_words(self) -> set[str]:
         """Return all names in the file and in the texts of macros; what is added to it counts as one of them."""
         if not self.words:
-            self.words = set(WORD.findall(self.text))
-            self.words |= self.words_behind(self.words) | set(self.macros)
+            self.words = words_of(self.text)
+            behind = self.words_behind(self.words)
+            self.hides_gotos = "goto" in behind
+            self.words |= behind | set(self.macros)
         return self.words
 
     def macro_text(self, name: str) -> str | None:
@@ -233,9 +248,9 @@ def _gather(file: SourceFile, known: SourceFile | None = None) -> list[Any]:
 
 
 def _look_at(file: SourceFile, numbers: Iterable[int], invocations: list[Any]) -> None:
-    """Find the tokens and the outermost invocations of some functions."""
+    """Find the outermost invocations of some functions, whose tokens will be looked at."""
     chosen = [file.functions[number] for number in sorted(numbers)]
-    file.tokens = tokens_of(file.text, [(function.start, function.end) for function in chosen])
+    file.look_at(chosen)
     starts, spans = [function.start for function in chosen], []
     for cursor in invocations:
         if not libclang.is_in_main_file(cursor):

@@ -42,9 +42,11 @@ class ResultCutter(Cutter):
 
     def names_core(self, first: int, behind: int) -> bool:
         """Return whether a variable of the core stands among the units from `first` up to `behind`."""
-        return any(
-            self.units.words[at] in self.core_names and self.units.kinds[at] is UnitKind.TOKEN
-            for at in range(first, behind))
+        words = self.units.words[first:behind]
+        if self.core_names.isdisjoint(words):
+            return False
+        kinds = self.units.kinds[first:behind]
+        return any(word in self.core_names and kind is UnitKind.TOKEN for word, kind in zip(words, kinds))
 
     # -- statements
 

@@ -1,4 +1,7 @@
-"""One file from its bytes to its bytes without goto: read, prepare, cut, restructure, put back, compare."""
+"""One file from its bytes to its bytes without goto: read, prepare, cut, restructure, put back, compare.
+
+What needs libclang is loaded here, when what can be done before is done.
+"""
 
 from __future__ import annotations
 
@@ -7,8 +10,6 @@ from pathlib import Path
 from .background import Background
 from .messages import Fault, Unreadable
 from .options import Options, Outcome
-from .processes import Helper, Lost
-from .reading import bodies_in, read, read_without
 from .scanning import scan
 
 __all__ = ["Options", "Outcome", "restructured"]
@@ -24,10 +25,13 @@ def restructured(path: Path, text: str, flags: list[str], options: Options) -> O
     if options.jobs > 1 and not options.functions and text.count("goto") >= _FEWEST_SHARED:
         if (outcome := _by_several(path, text, flags, options)) is not None:
             return outcome
-    reading = Background(lambda: read(path, text, flags))
+    from . import clang_units, reading
+
+    clang_units.let_go()
+    source = Background(lambda: reading.read(path, text, flags))
     from . import alone  # with all that it needs slow to load
 
-    return alone.restructured(reading.result(), options)
+    return alone.restructured(source.result(), options)
 
 
 def _by_several(path: Path, text: str, flags: list[str], options: Options) -> Outcome | None:
@@ -39,13 +43,17 @@ def _by_several(path: Path, text: str, flags: list[str], options: Options) -> Ou
     if found is None or found.gotos < _FEWEST_SHARED:
         return None
     bodies = found.bodies
+    from . import clang_units, reading
+    from .processes import Helper, Lost
+
+    clang_units.let_go()
     helpers: list[Helper] = []
     try:
-        helpers.append(Helper(lambda line: line.say(bodies_in(path, text, flags))))
-        reading = Background(lambda: read_without(path, text, flags, bodies))
+        helpers.append(Helper(lambda line: line.say(reading.bodies_in(path, text, flags))))
+        source = Background(lambda: reading.read_without(path, text, flags, bodies))
         from . import several  # with all that it needs slow to load
 
-        outcome = several.restructured(reading.result(), options, helpers)
+        outcome = several.restructured(source.result(), options, helpers)
         return outcome if set(bodies) <= set(helpers[0].hear()) else None
     except (Fault, Lost, OSError, Unreadable):
         return None

@@ -41,6 +41,8 @@ class StatementCutter(Ground):
         self.notes: list[tuple[int, int]] = []
         self.cases: dict[tuple[str, int], CaseText] = {}
         self.selectors: list[Piece] = []
+        self.sections: set[int] = set()
+        self.falls: dict[tuple[str, int | None], list[tuple[int, int]]] = {}
         self.labels: set[str] = set()
         self.spans: list[tuple[int, int]] = []
         self.hidden: Counter[str] = Counter()
@@ -240,6 +242,7 @@ class StatementCutter(Ground):
         notes = self.notes_around(at, close + 1, list(self.pieces.values())[-1:])
         behind = self.finish(node.children[1], close + 1, limit)
         if node.children[1].kind == syntax.COMPOUND and self.is_token(close + 1, "{"):
+            self.sections.add(close + 2)
             body = self.items(node.children[1].children, close + 2, behind - 1)
         else:
             body = self.items([node.children[1]], close + 1, behind)

@@ -25,7 +25,7 @@ class UnitKind(IntEnum):
 
 _DIGRAPHS = {"<%": "{", "%>": "}", "<:": "[", ":>": "]"}
 _OPENING = {"(": ")", "[": "]", "{": "}"}
-_CLOSING = frozenset(_OPENING.values())
+_BRACKETS = frozenset((*_OPENING, *_OPENING.values()))
 _OTHERS = (TokenKind.COMMENT, TokenKind.DIRECTIVE, TokenKind.CONTINUATION)
 
 
@@ -59,6 +59,8 @@ class Units:
 
     def comments_from(self, start: int, end: int) -> list[Comment]:
         """Return the comments that begin from one offset up to another."""
+        if not self.comments:
+            return []
         low = bisect_left(self.comments, start, key=lambda comment: comment.start)
         high = bisect_left(self.comments, end, key=lambda comment: comment.start)
         return self.comments[low:high]
@@ -89,7 +91,7 @@ def _wholes(file: SourceFile, function: Function) -> list[tuple[int, int, UnitKi
     for invocation in file.invocations_in(function):
         wholes.append((invocation.start, invocation.end, UnitKind.INVOCATION, None))
     for group in _groups(file, function):
-        fault = Refused(group.fault_offset, group.fault, True) if group.fault else None
+        fault = Refused(group.fault_offset, group.fault, group.resolvable) if group.fault else None
         wholes.append((group.start, group.end, UnitKind.GROUP, fault))
     wholes.sort(key=lambda whole: (whole[0], -whole[1]))
     outer: list[tuple[int, int, UnitKind, Refused | None]] = []
@@ -155,10 +157,11 @@ def _append(units: Units, start: int, end: int, kind: UnitKind, word: str) -> No
 def _match(units: Units) -> None:
     """Find the mate of each bracket."""
     stack: list[int] = []
-    for index, word in enumerate(units.words):
+    for index in [index for index, word in enumerate(units.words) if word in _BRACKETS]:
+        word = units.words[index]
         if word in _OPENING:
             stack.append(index)
-        elif word in _CLOSING:
+        else:
             if not stack or _OPENING[units.words[stack[-1]]] != word:
                 raise _unmatched(units, index)
             units.mates[stack.pop()] = index

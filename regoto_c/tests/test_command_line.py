@@ -148,6 +148,61 @@ def test_check(command: Command, files: dict[str, Path]) -> None:
     assert command('--check', files['left']).status == 0
 
 
+CONFIGURED = '''int g(int);
+int f(int n) {
+    {
+        int i = g(1);
+#ifdef A
+        g(i);
+#endif
+        if (i == 4) goto e;
+    }
+    {
+        int i = 0;
+#ifdef A
+        g(i);
+#else
+        g(i + 2);
+#endif
+        if (g(n)) goto e;
+#ifndef B
+        if (n) goto e; else
+#endif
+        n += i;
+    }
+e:
+    return n;
+}
+'''
+
+
+def test_configured(command: Command, tmp_path: Path) -> None:
+    """--configured resolves the groups that stand in the way, and says so of each; other groups stay."""
+    source = tmp_path / 'a.c'
+    source.write_text(CONFIGURED)
+    left = command(source)
+    assert left.status == 1
+    assert '(--configured resolves it)' in left.error
+    ran = command('--configured', '-o', '-', source)
+    assert ran.status == 0, ran.error
+    assert re.findall(r'^.*a\.c:(\d+):1: note: (.*)$', ran.error, re.MULTILINE) == [
+        ('18', '#ifndef B resolved: its first branch is taken'), ('12', '#ifdef A resolved: the branch of #else is taken')]
+    assert re.findall(r'^#.*$', ran.out, re.MULTILINE) == ['#ifdef A', '#endif']
+    assert command('--configured', '--quiet', '-o', '-', source).error == ''
+
+
+def test_pragma(command: Command, tmp_path: Path) -> None:
+    """A #pragma for a loop that holds a jump isn't resolved, and the message doesn't say so; elsewhere it stays."""
+    loop = '#pragma GCC unroll 4\n    for (int i = 0; i < n; i++) {\n        if (i == %s) %s;\n    }\n'
+    source = tmp_path / 'a.c'
+    source.write_text('int f(int n) {\n    if (n > 9) goto e;\n' + loop % (3, 'goto e') + 'e:\n    return n;\n}\n'
+                      'int g(int n) {\n    if (n > 9) goto e;\n' + loop % (4, 'n--') + 'e:\n    return n;\n}\n')
+    for word in ('--quiet', '--configured'):
+        ran = command('-o', '-', word, source)
+        assert ': warning: not restructured: a #pragma for a statement with a jump\n' in ran.error
+        assert '#pragma GCC unroll 4\n        for (int i = 0; i < n; i++) {\n            if (i == 4) n--;\n' in ran.out
+
+
 def test_strict(command: Command, files: dict[str, Path]) -> None:
     """--strict writes nothing where a function is left, and calls it an error."""
     ran = command('--strict', '-i', files['left'])

@@ -15,6 +15,7 @@ LEFT = [
      'static void *p[] = {|&&a, &&b}; if (n) goto a; n = 2; a: b: return p[0] == p[1];',
      'the address of a label'),
     ('asm goto', '', 'if (n) goto a; |__asm__ goto("" : : : : a); n = 2; a: return n;', 'asm goto'),
+    ('asm goto alone', '', '__asm__ |goto("" : : : : a); n = 2; a: return n;', 'asm goto'),
     ('goto out of an expression', '', '|n = ({ if (n) goto a; 3; }); a: return n;', 'statement expression'),
     ('return out of an expression', '',
      'if (n) goto a; |n = ({ return 4; 3; }); a: return n;', 'statement expression'),
@@ -39,6 +40,20 @@ LEFT = [
     ('a selector wider than long', '',
      'switch (|(__int128)n) { case 1: goto a; default: n++; } a: return n;', 'wider than long'),
     ('a long case range', '', 'switch (n) { |case 1 ... 100: goto a; default: n++; } a: return n;', 'case range'),
+    ('a case label with its line', '', 'switch (n) { |case __LINE__: goto a; default: n++; } a: return n;', 'its line'),
+    ('a case label with the line by a macro', '#define HERE (__LINE__ + 1)',
+     'switch (n) { |case HERE: goto a; default: n++; } a: return n;', 'its line'),
+    ('a case label with a counter', '',
+     'switch (n) { |case __COUNTER__: goto a; default: n++; } a: return n;', 'a case label with __COUNTER__'),
+    ('a case label with a counter by a macro', '#define NEXT (__COUNTER__ + 1)',
+     'switch (n) { |case NEXT: goto a; default: n++; } a: return n;', 'a case label with __COUNTER__'),
+    ('a step of a loop with a counter', '#define NEXT (__COUNTER__ + 1)',
+     'for (; n < 9; |n += NEXT) { n += NEXT; if (n == 4) goto a; } n++; a: return n;', 'this would move'),
+    ('a declaration with a counter', '',
+     'n += __COUNTER__; { |static int k = __COUNTER__; if (n == 4) goto a; n += k; } a: return n;', 'this would move'),
+    ('an array with a counter', '',
+     'n += __COUNTER__; { |int k[__COUNTER__ + 1]; if (n == 4) goto a; k[0] = n; n += k[0]; } a: return n;',
+     'this would move'),
     ('an array of variable length', '',
      '{ int |v[n + 1]; if (n > 7) goto a; v[n] = 3; n = v[n]; } a: return n;', 'variable length'),
     ('a pointer to one', '',
@@ -52,6 +67,17 @@ LEFT = [
      'while (n) { struct s |v = {n, 2}; n--; if (v.a == 3) goto a; } a: return n;', 'const'),
     ('a const member deeper', 'struct s { struct { int c; const int a[2]; } in[2]; };',
      'while (n) { struct s v = {.in[1] = {3, {1}}}; n--; if (v.in[1].c == n) goto a; } a: return n;', 'const'),
+    ('a variable without a type', '', 'while (n) { |register k = n; n--; if (k == 3) goto a; } a: return n;', 'type'),
+    ('a const variable whose type is asked for', '#define KIND(p) _Generic((p), const int *: 1, default: 2)',
+     'while (n) { const int |k = n; n--; if (KIND(&k) == 2) goto a; } a: return n;', 'const'),
+    ('a const array whose type is asked for', '',
+     'while (n) { const int |k[] = {n}; n--; if (__builtin_types_compatible_p(__typeof__(&k[0]), int *)) goto a; } a: '
+     'return n;', 'const'),
+    ('a volatile array', '',
+     'while (n) { volatile int |v[2] = {n, 2}; n--; if (v[0] == 3) goto a; } a: return n;', 'volatile'),
+    ('a volatile text', '', 'while (n) { volatile char |v[] = "ab"; n--; if (v[0] == n) goto a; } a: return n;', 'volatile'),
+    ('an array with a volatile member', 'struct s { int a[1]; struct { volatile int b; } c; };',
+     'while (n) { struct s |v[1] = {{{n}, {2}}}; n--; if (v[0].c.b == n) goto a; } a: return n;', 'volatile'),
     ('tags of one name', '',
      '{ struct x { int a; } v = {1}; if (n > 5) goto a; n += v.a; } { struct x { char a; } v = {2}; if (n) '
      'goto a; n += v.a; } a: return n;', "'x'"),
@@ -73,7 +99,8 @@ LEFT = [
     ('directives with a label', '#define X',
      'if (n > 5) goto a;\n#ifdef X\n a:\n#endif\n n++; if (n < 3) goto a; return n;', '--configured'),
     ('a renamed variable that a definition in the function names', '',
-     'int k = 1; if (n > 5) goto a; { int k = n;\n#define K k\n if (k == 3) goto a; n += K; } a: return n + k;', "'k'"),
+     'int k = 1; if (n > 5) goto a; { int k = n;\n#define K k\n if (k == 3) goto a; n += K; } a: return n + k;',
+     "'k' has to get another name, and a directive names it"),
     ('a declaration by a macro of the function', '',
      'if (n > 5) goto a;\n#define ONE 1\n { int k[ONE] = {n}; if (n == 2) goto a; n += k[0]; } a: return n;', 'ONE'),
     ('a statement before the first case', '',
@@ -102,3 +129,14 @@ def test_left(command: Command, tmp_path: Path, before: str, body: str, message:
         marked = text[:text.index('{\n    ', text.index('int left')) + 6].splitlines()[-1] + body
         assert int(warning[3]) == marked.index('|') + 1, warning[0]
     assert ran.error.endswith('1 file, 2 functions with goto: 1 restructured, 1 refused\n')
+
+
+def test_word_that_is_a_macro(command: Command, tmp_path: Path) -> None:
+    """Where a word that a result may have is a macro, each function is left."""
+    source = tmp_path / 'a.c'
+    source.write_text('#define break do { n += 2; } while (0); break\n'
+                      'int f(int n) { switch (n) { case 1: goto a; case 2: n++; } n = 4; a: return n; }\n')
+    ran = command('-o', '-', source)
+    assert ran.status == 1
+    assert ran.out == source.read_text()
+    assert ':2:5: warning: not restructured: the word break is a macro\n' in ran.error

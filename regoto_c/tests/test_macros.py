@@ -129,7 +129,7 @@ def test_on_demand(tmp_path: Path) -> None:
 
 def test_names_with() -> None:
     lines = '# 1 "/a.c"\n#define A goto x\n#define B(x) A; x\n#define C B\n#define D 1\n#undef A\n'
-    assert preprocessing.names_with(preprocessing.read(lines, "a.c").events, "goto") == {"A", "B", "C"}
+    assert preprocessing.names_with(preprocessing.Preprocessed(lines, "a.c").events, "goto") == {"A", "B", "C"}
 
 
 def test_edits_are_those_of_the_invocations(tmp_path: Path) -> None:

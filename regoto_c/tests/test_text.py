@@ -31,6 +31,58 @@ int f(int n) {
     return n;
 }
 /* the end, without a new line */'''),
+    ('comments on falling through', '''int f(int n, int *p) {
+    switch (n) {
+    case 0:
+        n++;
+        /* FALLTHROUGH */
+    case 1:
+        if (!p)
+            goto out;
+        // falls through
+    two:
+    case 2:
+        /* twice */
+        while (*p)
+            if (*p++ == 7)
+                goto two;
+        /* fall through */
+    default:
+        n = *p;
+    }
+out:
+    return n;
+}
+''', '''int f(int n, int *p) {
+    int goto_two = 0;
+    int goto_out = 0;
+    switch (n) {
+    case 0:
+        n++;
+        /* FALLTHROUGH */
+    case 1:
+        goto_out = !p;
+        // falls through
+    case 2:
+        if (!goto_out) {
+            do {
+                goto_two = 0;
+                /* twice */
+                while (!goto_two && *p) {
+                    goto_two = *p++ == 7;
+                }
+            } while (goto_two);
+        }
+        /* fall through */
+    default:
+        if (!goto_out) {
+            n = *p;
+        }
+    }
+    goto_out = 0;
+    return n;
+}
+'''),
 ]
 
 

@@ -10,6 +10,8 @@ from collections.abc import Mapping, Sequence
 from dataclasses import dataclass
 from pathlib import Path
 
+LONGEST = 3600  # seconds that a build or a test takes at most, on a busy machine too
+
 
 @dataclass(frozen=True)
 class Ran:

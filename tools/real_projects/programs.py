@@ -3,17 +3,19 @@ from __future__ import annotations
 
 import re
 import shutil
+import signal
 from collections.abc import Callable, Sequence
 from concurrent.futures import ThreadPoolExecutor
 from dataclasses import dataclass, field
 from pathlib import Path
 
-from .commands import Ran, run, say
+from .commands import LONGEST, Ran, run, say
 from .restructurer import Count, Restructurer
 from .sources import Sources
 
 FIRST = '-O0'
 NUMBER = 500
+SECONDS = 5
 
 
 @dataclass
@@ -35,12 +37,12 @@ class Tried:
 
 
 def runs(program: Path, made: Path, level: str, flags: Sequence[str]) -> Ran | None:
-    """What a program does that is compiled at a level; None where it isn't compiled."""
-    if not run(['gcc', '-w', level, *flags, str(program), '-o', str(made), '-lm'], made.parent, 300).is_ok:
+    """What a program does that is compiled at a level, in some seconds of a processor; None where it isn't compiled."""
+    if not run(['gcc', '-w', level, *flags, str(program), '-o', str(made), '-lm'], made.parent, LONGEST).is_ok:
         return None
-    found = run([str(made)], made.parent, 10)
+    found = run(['sh', '-c', f'ulimit -t {SECONDS}; exec "$0"', str(made)], made.parent, LONGEST)
     made.unlink()
-    return found
+    return Ran(None, found.output) if found.status in (-signal.SIGXCPU, -signal.SIGKILL) else found
 
 
 def attempt(program: Path, folder: Path, flags: Sequence[str], levels: Sequence[str],
@@ -53,7 +55,7 @@ def attempt(program: Path, folder: Path, flags: Sequence[str], levels: Sequence[
     if before.status is None:
         return Tried(program, 'ran on before', Count())
     result = folder / f'{program.stem}.restructured.c'
-    _, count = restructurer.run(['-o', result, program, '--', '-w', *flags], folder, 300)
+    _, count = restructurer.run(['-o', result, program, '--', '-w', *flags], folder)
     if count.faults and 'exit status 3:' in count.faults[0]:
         return Tried(program, 'not read by clang', Count())
     if count.faults:

@@ -6,9 +6,9 @@ import shutil
 from dataclasses import dataclass, field
 from pathlib import Path
 
-from .commands import Ran, run, say
+from .commands import LONGEST, Ran, run, say
 from .recipes import RECIPES, Recipe
-from .restructurer import Count, Restructurer, logged
+from .restructurer import Count, Restructurer, logged, unread
 from .sources import Sources
 
 
@@ -58,14 +58,14 @@ class Trial:
         shutil.copytree(self.source, tree, symlinks=True)
         return tree
 
-    def _shell(self, line: str, tree: Path, compiler: str, recorder: str = '', seconds: float = 900) -> Ran:
+    def _shell(self, line: str, tree: Path, compiler: str, recorder: str = '') -> Ran:
         changes = {**self.recipe.environment, 'CC': compiler, 'jobs': str(self.jobs), 'tree': str(tree),
                    'source': str(self.source), 'tools': str(Path(__file__).parent),
                    'REGOTO_LOG': str(self.folder / 'compiler.log')}
         words = ['sh', '-c', line]
         if recorder:
             words = ['bear', '--append', '--output', recorder, '--', *words]
-        return run(words, tree / self.recipe.folder, seconds, changes)
+        return run(words, tree / self.recipe.folder, LONGEST, changes)
 
     def _make(self, tree: Path, compiler: str, stage: str, is_recorded: bool = False) -> bool:
         """Prepare, build and test; whether it came as far as the tests."""
@@ -138,6 +138,9 @@ class Trial:
             if run([*words, '-E', '-P', '-w', '-o', str(text)], Path(entry['directory']), 60).is_ok:
                 texts.append(text)
         ran, found = self.restructurer.run(['--jobs', str(self.jobs), *texts, '--', '-w'], tree)
+        if ran.status == 3 and unread(ran):  # gcc's headers, in the text now, have words that only gcc reads
+            found.faults.clear()
+            found.left += unread(ran)
         self.outcome.preprocessed.add(found)
         self._keep('count.preprocessed', ran)
 

@@ -119,7 +119,7 @@ RECIPES: dict[str, Recipe] = {
         package='less',
         prepare='./configure -q CC="$CC"',
         build='make -s -j$jobs CC="$CC"',
-        tests='python3 $tools/less_tests.py ./less $tree/NEWS',
+        tests='python3 $tools/less_tests.py ./less $source/NEWS',
         passed=r'^ok:',
         failed=r'^not ok:',
         in_compilers_place=True),

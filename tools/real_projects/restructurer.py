@@ -7,10 +7,11 @@ from collections.abc import Sequence
 from dataclasses import dataclass, field
 from pathlib import Path
 
-from .commands import Ran, run
+from .commands import LONGEST, Ran, run
 
 TOP = Path(__file__).resolve().parents[2]
 LEFT = re.compile(r'^(?P<place>[^\n:]+:\d+:\d+): (?:warning|error): not restructured: (?P<why>.*)$', re.M)
+UNREAD = re.compile(r'^(?P<file>[^\n:]+):\d+:\d+: error: (?!not restructured)', re.M)
 LAST = re.compile(r'(\d+) functions? with goto: (\d+) [a-z ]+, (\d+) ')
 
 
@@ -45,7 +46,7 @@ class Restructurer:
         """The value of CC with which it stands in gcc's place."""
         return shlex.join([*self.words, '--cc', 'gcc'])
 
-    def run(self, words: Sequence[str | Path], folder: Path, seconds: float = 900) -> tuple[Ran, Count]:
+    def run(self, words: Sequence[str | Path], folder: Path, seconds: float = LONGEST) -> tuple[Ran, Count]:
         """Run it, and count by what it says."""
         ran = run([*self.words, *map(str, words)], folder, seconds)
         return ran, counted(ran)
@@ -60,6 +61,12 @@ def counted(ran: Ran) -> Count:
     if ran.status not in (0, 1):
         count.faults.append(f'exit status {ran.status}: {ran.output.strip()[-400:]}')
     return count
+
+
+def unread(ran: Ran) -> list[tuple[str, str]]:
+    """The files that clang didn't read in a run of regoto-c, each with why it was left."""
+    files = {match['file'] for match in UNREAD.finditer(ran.output)}
+    return [(file, "a file that clang doesn't read") for file in sorted(files)]
 
 
 def logged(log: str) -> Count:

@@ -101,6 +101,15 @@ int tabs_and_tricks(int n) { if (n > 3)goto/**/end;t(1)/*;*/;/*{*/t('{');t("}"[0
 
 int counted(int n) { if (n > 3) goto end; { int line = __LINE__ > 0; if (n == 2) goto end; t(line); } SAY(__LINE__); end: return n; }
 
+/* several declarations, or more than one, in one invocation */
+#define TWO(type) type first = n, second = 2; type third = first
+#define BEGIN int part = 1; part++
+int declared_by_one(int n) { while (n > 0) { if (n == 3) goto in; TWO(int); t(second); n -= third - first; in: n -= second = 1; } return n; }
+int begun_by_one(int n) { for (int i = 0; i < n; i++) { if (i == 2) goto in; BEGIN; n -= part; in: t(part = i); if (n == 4) goto out; } out: return n; }
+
+/* the counter counts on in the same order */
+int numbered(int n) { int first = __COUNTER__; if (n > 5) goto end; { int k = __COUNTER__ - first; if (k + n == 4) goto end; t(__COUNTER__ - first + k); } end: return __COUNTER__ - first; }
+
 int asserted(int n) { if (n == 2) goto end; { int k = n; if (k == 5) goto end; t(__extension__ ({ k + 1; })); } end: return n; }
 
 #define PASTED2(a, b) a##b
