@@ -24,7 +24,7 @@ fault_if b at reason vs = cond b (fault at reason vs) vs
 
 -- ---- scopes
 
--- names, each once and in byte order, and what each has
+-- names and what each has; those that `with_entry` makes have each once and in byte order
 abbrev pub Names : Type 0 → Type 0
 Names X = List (List ℕ × X)
 
