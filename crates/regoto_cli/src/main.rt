@@ -1,18 +1,13 @@
 //! The program `regoto`: hands the system's files, streams and words to the one public call.
 #![tactic(auto)]
 
-mod replacing;
-mod shelf;
-mod streams;
-
 use regoto::{Status, regoto};
-use shelf::FileShelf;
+use rg_system::{ErrPort, FileShelf, InPort, OutPort};
 use std::alloc::Global;
 use std::env;
 use std::io::ErrorKind;
 use std::process::ExitCode;
 use std::rt::Env;
-use streams::{ErrPort, InPort, OutPort};
 
 /// The words after the program's name. Words that the system doesn't hand over as texts are one empty
 /// word, which fits no form; `None` where memory was refused.
@@ -60,7 +55,5 @@ fn main(rt: HostRuntime) -> ExitCode {
     ExitCode::from(status.code())
 }
 
-#[cfg(test)]
-mod port_tests;
 #[cfg(test)]
 mod tests;

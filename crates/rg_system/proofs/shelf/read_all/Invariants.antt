@@ -1,5 +1,5 @@
 use Rattle.std.proofs.Common.{vec_len, ◌≤◌}
-use Rattle.regoto_cli.proofs.shelf.read_all.Given as goal
+use Rattle.rg_system.proofs.shelf.read_all.Given as goal
 
 abbrev pub invariant-loop : goal.invariant-loop
 invariant-loop g l = vec_len l.bytes ≤ l.most

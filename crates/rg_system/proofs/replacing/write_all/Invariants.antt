@@ -1,5 +1,5 @@
 use Rattle.std.proofs.Common.{length, ◌-◌, ◌≤◌}
-use Rattle.regoto_cli.proofs.replacing.write_all.Given as goal
+use Rattle.rg_system.proofs.replacing.write_all.Given as goal
 
 abbrev pub invariant-loop-at : goal.invariant-loop-at
 invariant-loop-at g l = l.at ≤ length l.bytes
