@@ -24,14 +24,13 @@ pub fn guard_between(
     ensures len { vec_len items.new ≤ vec_len items.old }
     ensures err { OnErr result (items.new.items ≡ items.old.items) }
 {
-    let mid = cut(items, from + 1, to)?;
     if from + 1 == to {
-        drop(mid);
         drop_at(items, from);
-    } else {
-        let made = Item::If(Test::Off(label), List::from_vec(mid), List::new(alloc));
-        set_at(items, from, made);
+        return Ok(());
     }
+    let mid = cut(items, from + 1, to)?;
+    let made = Item::If(Test::Off(label), List::from_vec(mid), List::new(alloc));
+    set_at(items, from, made);
     Ok(())
 }
 
