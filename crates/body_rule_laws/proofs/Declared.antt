@@ -16,14 +16,16 @@ use Rattle.c_statements.specs.Declarations.{declared, is_bad_array, is_bad_shape
 use Rattle.c_statements.specs.Violations.{dropped_faults}
 use Rattle.rule_defs.specs.Written as written
 use Rattle.rule_defs.specs.Violations.{broken}
+use Rattle.rule_defs.specs.Arrays.{ArrayBreaks}
 use Rattle.rule_defs.specs.Bindings.{IsDeclared}
 use Rattle.rule_defs.specs.Behind.{SomeBehind}
 use Rattle.rule_defs.specs.Places.{Place, behind_name, behind_names}
-use Rattle.rule_defs.specs.Expressions.{Role, NeedsValue, NeedsConstant, MayBeVoid, MayBeAnything, Within}
+use Rattle.rule_defs.specs.Expressions.{Role, NeedsValue, NeedsConstant, MayBeVoid, IsJudgedElsewhere, ExpressionBreaks}
 use Rattle.rule_defs.specs.Declared.{SizeBreaks, ValuesBreak, InitialiserBreaks, LocalBreaks, DeclaratorBreaks}
 use Rattle.rule_laws.specs.Finds.{Finds}
 use Rattle.rule_laws.proofs.Finding.{finds_none, finds_both, finds_same, finds_as, finds_if}
 use Rattle.rule_laws.proofs.Expressions.{value, dropped, constant, argument}
+use Rattle.body_rule_laws.proofs.Arrays.{array_breaks, breaks_bad}
 use Rattle.place_laws.proofs.Standing.{AreMaps, Stands, stands_name}
 use Rattle.place_laws.proofs.Scopes.{bound_alike, is_declared, declared_is}
 use Rattle.place_laws.proofs.AlikeTerms.{typed_alike, faults_alike}
@@ -38,16 +40,16 @@ module _ (word : ℕ → List ℕ) (ms ss : List Scope) (m : AreMaps ms ss) wher
   abbrev theirs : Env
   theirs = record { word = word; scopes = ss }
 
-  pub value_at : (t : Term) → Finds (value_faults ours t) (λ v. Within theirs NeedsValue t v)
+  pub value_at : (t : Term) → Finds (value_faults ours t) (λ v. ExpressionBreaks theirs NeedsValue t v)
   value_at t = finds_as (value_faults ours t) (value_faults theirs t) _ (λ vs i. use_fault (first_of t) (typed_alike word ms ss m t i) (faults_alike word ms ss m t vs i)) (value theirs t)
 
-  pub dropped_at : (t : Term) → Finds (dropped_faults ours t) (λ v. Within theirs MayBeVoid t v)
+  pub dropped_at : (t : Term) → Finds (dropped_faults ours t) (λ v. ExpressionBreaks theirs MayBeVoid t v)
   dropped_at t = finds_as (dropped_faults ours t) (dropped_faults theirs t) _ (λ vs i. drop_fault (first_of t) (typed_alike word ms ss m t i) (faults_alike word ms ss m t vs i)) (dropped theirs t)
 
-  pub constant_at : (t : Term) → Finds (constant_faults ours t) (λ v. Within theirs NeedsConstant t v)
+  pub constant_at : (t : Term) → Finds (constant_faults ours t) (λ v. ExpressionBreaks theirs NeedsConstant t v)
   constant_at t = finds_as (constant_faults ours t) (constant_faults theirs t) _ (λ vs i. constant_fault (first_of t) (typed_alike word ms ss m t i) (faults_alike word ms ss m t vs i)) (constant theirs t)
 
-  pub any_at : (t : Term) → Finds (faults ours t) (λ v. Within theirs MayBeAnything t v)
+  pub any_at : (t : Term) → Finds (faults ours t) (λ v. ExpressionBreaks theirs IsJudgedElsewhere t v)
   any_at t = finds_as (faults ours t) (faults theirs t) _ (λ vs. faults_alike word ms ss m t vs) (argument theirs t)
 
   pub sizes : (size : Size) → Finds (size_faults ours size) (λ v. SizeBreaks theirs size v)
@@ -55,11 +57,11 @@ module _ (word : ℕ → List ℕ) (ms ss : List Scope) (m : AreMaps ms ss) wher
   sizes Unsized = finds_none
   sizes (Sized t) = constant_at t
 
-  pub options : (k : Term → Faults → Faults) (role : Role) → ((t : Term) → Finds (k t) (λ v. Within theirs role t v)) → (ts : List Term) → Finds (each_faults k ts) (λ v. ValuesBreak theirs role ts v)
+  pub options : (k : Term → Faults → Faults) (role : Role) → ((t : Term) → Finds (k t) (λ v. ExpressionBreaks theirs role t v)) → (ts : List Term) → Finds (each_faults k ts) (λ v. ValuesBreak theirs role ts v)
   options k role h [] = finds_none
   options k role h (t ∷ ts) = finds_both (k t) (each_faults k ts) _ _ (h t) (options k role h ts)
 
-  pub initialisers : (k : Term → Faults → Faults) (role : Role) → ((t : Term) → Finds (k t) (λ v. Within theirs role t v)) → (x : Initialiser) → Finds (initial_faults k x) (λ v. InitialiserBreaks theirs role x v)
+  pub initialisers : (k : Term → Faults → Faults) (role : Role) → ((t : Term) → Finds (k t) (λ v. ExpressionBreaks theirs role t v)) → (x : Initialiser) → Finds (initial_faults k x) (λ v. InitialiserBreaks theirs role x v)
   initialisers k role h NoValue = finds_none
   initialisers k role h (OneValue t) = h t
   initialisers k role h (ValueList ts) = options k role h ts
@@ -69,8 +71,14 @@ module _ (word : ℕ → List ℕ) (ms ss : List Scope) (m : AreMaps ms ss) wher
   length_alike Unsized = refl
   length_alike (Sized t) = λ i. length_of (typed_alike word ms ss m t i)
 
-  pub bad_alike : (local : Bool) (d : Declarator) → is_bad_array local ours d ≡ written.is_bad_array typed local theirs d
-  bad_alike local d = ap (λ l. is_bad_shape local l d.value) (length_alike d.size)
+  shape_alike : (local : Bool) (d : Declarator) → is_bad_array local ours d ≡ is_bad_shape local (written.length_in typed theirs d.size) d.value
+  shape_alike local d = ap (λ l. is_bad_shape local l d.value) (length_alike d.size)
+
+  pub bad_breaks : (local : Bool) (d : Declarator) → is_bad_array local ours d ≡ true → ArrayBreaks typed theirs local d.size d.value
+  bad_breaks local d e = array_breaks theirs local d.size d.value (sym (shape_alike local d) ∙ e)
+
+  pub breaks_are_bad : (local : Bool) (d : Declarator) → ArrayBreaks typed theirs local d.size d.value → is_bad_array local ours d ≡ true
+  breaks_are_bad local d h = shape_alike local d ∙ breaks_bad theirs local d.size d.value h
 
   pub twice : (name : List ℕ) (at : ℕ) → Finds (fault_if (is_bound name ms) at 21) (λ v. IsDeclared name ss × (v ≡ broken at 21))
   twice name at =
@@ -89,12 +97,12 @@ module _ (word : ℕ → List ℕ) (k : Kinded) where
       to fro
     where
       to : (v : Fault) → ((is_bad_array true (env_in word w) d ≡ true) × (v ≡ broken d.name 35)) ⊎ (IsDeclared (word d.name) p.scopes × (v ≡ broken d.name 21)) → LocalBreaks typed word p d v
-      to v (inl q) = subst (LocalBreaks typed word p d) (sym q.1) (LocalBreaks.bad_array (sym (bad_alike word w.scopes p.scopes s.maps true d) ∙ q.0))
+      to v (inl q) = subst (LocalBreaks typed word p d) (sym q.1) (LocalBreaks.bad_array (bad_breaks word w.scopes p.scopes s.maps true d q.0))
       to v (inr q) = subst (LocalBreaks typed word p d) (sym q.1) (LocalBreaks.declared_twice q.0)
 
       fro : (v : Fault) → LocalBreaks typed word p d v → ((is_bad_array true (env_in word w) d ≡ true) × (v ≡ broken d.name 35)) ⊎ (IsDeclared (word d.name) p.scopes × (v ≡ broken d.name 21))
       fro v (LocalBreaks.declared_twice h) = inr (h, refl)
-      fro v (LocalBreaks.bad_array e) = inl (bad_alike word w.scopes p.scopes s.maps true d ∙ e, refl)
+      fro v (LocalBreaks.bad_array e) = inl (breaks_are_bad word w.scopes p.scopes s.maps true d e, refl)
 
   declarator : (d : Declarator) (w : Walk) (p : Place) → Stands w p → Finds (local_faults word k d w) (λ v. DeclaratorBreaks typed word k p d v)
   declarator d w p s =

@@ -1,10 +1,10 @@
 -- What a walk finds in a function.
-use Rattle.std.proofs.Common.{◌≡◌, ◌⊎◌, inl, inr, ℕ, Bool, true, false, cond, List, [], ◌∷◌, ◌++◌, map, Option, Some, None, is_some, refl, sym, ap, subst, ◌∙◌, true≢false}
+use Rattle.std.proofs.Common.{◌≡◌, ◌⊎◌, ℕ, Bool, true, List, [], ◌∷◌, map, Option, Some, None, is_some, refl, sym, ap, subst}
 use Rattle.c_tree.specs.declared.tree.Item as tree
 use Rattle.c_layers.specs.Items.{Body, Braces, Lone}
 use Rattle.c_layers.specs.Tops.{Parameter, Function}
 use Rattle.c_kinds.specs.declared.typed.Fault.{Fault}
-use Rattle.c_kinds.specs.Scopes.{Scope, Faults, fault_if, bind_fault}
+use Rattle.c_kinds.specs.Scopes.{Scope, fault_if, bind_fault}
 use Rattle.c_statements.specs.declared.anchors.Anchor.{Anchor}
 use Rattle.c_statements.specs.Context.{Walk, env_in, no_construct}
 use Rattle.c_statements.specs.Declarations.{size_faults}

@@ -1,3 +1,4 @@
+mod Arrays
 pub mod Declared
 pub mod Entries
 pub mod Labels

@@ -17,12 +17,12 @@ use Rattle.c_statements.specs.Cases as walked
 use Rattle.c_statements.specs.Statements.{behind_start, behind_item, behind_plain, behind_body, declared_by, is_null, begins, is_element}
 use Rattle.c_statements.specs.Violations.{dropped_faults, optional_faults, declaration_faults, start_faults, return_faults, item_faults, plain_faults, statement_faults, body_faults, list_faults, switch_body_faults, outside_faults, outside_fault}
 use Rattle.rule_defs.specs.Declared.{DeclarationBreaks}
-use Rattle.rule_defs.specs.Expressions.{Role, NeedsValue, NeedsConstant, MayBeVoid, MayBeAnything, Within}
+use Rattle.rule_defs.specs.Expressions.{Role, NeedsValue, NeedsConstant, MayBeVoid, IsJudgedElsewhere, ExpressionBreaks}
 use Rattle.rule_defs.specs.Places.{Place, env_of, within, within_loop, within_switch, behind_name, behind_names}
 use Rattle.rule_defs.specs.Slots.{past_body, behind}
 use Rattle.rule_defs.specs.Places as places
 use Rattle.rule_defs.specs.Labels.{InFunction, each_once}
-use Rattle.rule_defs.specs.Statements.{LabelBreaks, LabelsBreak, StatementBreaks, returned, WithinOption, StartBreaks, ItemBreaks, PlainBreaks, InStatement, BodyBreaks, ListBreaks}
+use Rattle.rule_defs.specs.Statements.{LabelBreaks, LabelsBreak, StatementBreaks, returned, OptionBreaks, StartBreaks, ItemBreaks, PlainBreaks, InStatement, BodyBreaks, ListBreaks}
 use Rattle.rule_defs.specs.Switches.{body_entries, EntriesBreak, IsLost}
 use Rattle.rule_defs.specs.Violations.{broken}
 use Rattle.rule_laws.specs.Finds.{Finds}
@@ -109,13 +109,13 @@ module _ (word : ℕ → List ℕ) (notes : Anchor → List (List ℕ)) (names :
 
   -- ---- parts
 
-  values : (w : Walk) (p : Place) → Stands w p → (t : Term) → Finds (value_faults (env_at ctx w) t) (λ v. Within (env_of word p) NeedsValue t v)
+  values : (w : Walk) (p : Place) → Stands w p → (t : Term) → Finds (value_faults (env_at ctx w) t) (λ v. ExpressionBreaks (env_of word p) NeedsValue t v)
   values w p s t = value_at word w.scopes p.scopes s.maps t
 
-  effects : (w : Walk) (p : Place) → Stands w p → (t : Term) → Finds (dropped_faults (env_at ctx w) t) (λ v. Within (env_of word p) MayBeVoid t v)
+  effects : (w : Walk) (p : Place) → Stands w p → (t : Term) → Finds (dropped_faults (env_at ctx w) t) (λ v. ExpressionBreaks (env_of word p) MayBeVoid t v)
   effects w p s t = dropped_at word w.scopes p.scopes s.maps t
 
-  optional : (k : Term → Faults → Faults) (env : Env) (role : Role) → ((t : Term) → Finds (k t) (λ v. Within env role t v)) → (o : Option Term) → Finds (optional_faults k o) (λ v. WithinOption env role o v)
+  optional : (k : Term → Faults → Faults) (env : Env) (role : Role) → ((t : Term) → Finds (k t) (λ v. ExpressionBreaks env role t v)) → (o : Option Term) → Finds (optional_faults k o) (λ v. OptionBreaks env role o v)
   optional k env role h None = finds_none
   optional k env role h (Some t) = h t
 
@@ -139,11 +139,11 @@ module _ (word : ℕ → List ℕ) (notes : Anchor → List (List ℕ)) (names :
       finds_same (λ vs. constant_faults (env_at ctx w) t (fault_if (not around.switch) at 29 vs)) _ (λ v. LabelBreaks (env_of word p) p.around (Case at after t) v)
       (finds_both (fault_if (not around.switch) at 29) (constant_faults (env_at ctx w) t) _ _ (finds_if (not around.switch) at 29) (constant_at word w.scopes p.scopes s.stands.maps t)) to fro
     where
-      to : (v : Fault) → ((not around.switch ≡ true) × (v ≡ broken at 29)) ⊎ Within (env_of word p) NeedsConstant t v → LabelBreaks (env_of word p) p.around (Case at after t) v
+      to : (v : Fault) → ((not around.switch ≡ true) × (v ≡ broken at 29)) ⊎ ExpressionBreaks (env_of word p) NeedsConstant t v → LabelBreaks (env_of word p) p.around (Case at after t) v
       to v (inl q) = subst (LabelBreaks (env_of word p) p.around (Case at after t)) (sym q.1) (LabelBreaks.case_outside (ap (λ a. a.switch) s.same ∙ not_true around.switch q.0))
       to v (inr q) = LabelBreaks.bad_case q
 
-      fro : (v : Fault) → LabelBreaks (env_of word p) p.around (Case at after t) v → ((not around.switch ≡ true) × (v ≡ broken at 29)) ⊎ Within (env_of word p) NeedsConstant t v
+      fro : (v : Fault) → LabelBreaks (env_of word p) p.around (Case at after t) v → ((not around.switch ≡ true) × (v ≡ broken at 29)) ⊎ ExpressionBreaks (env_of word p) NeedsConstant t v
       fro v (LabelBreaks.case_outside e) = inl (ap not (ap (λ a. a.switch) (sym s.same) ∙ e), refl)
       fro v (LabelBreaks.bad_case h) = inr h
 
@@ -204,16 +204,16 @@ module _ (word : ℕ → List ℕ) (notes : Anchor → List (List ℕ)) (names :
     only_some : (t : Term) (v : Fault) → StatementBreaks f p.around first (Return (Some t)) v → v ≡ broken first 25
     only_some t v (StatementBreaks.value_in_void g) = refl
 
-    by_result : (r : Option IntKind) → result ≡ r → (o : Option Term) → Finds (return_faults r (env_at ctx w) first o) (λ v. Own p first (Return o) v ⊎ WithinOption (env_of word p) (returned r) o v)
-    by_result (Some k) e (Some t) = in_front (value_faults (env_at ctx w) t) (λ v. Own p first (Return (Some t)) v) (λ v. Within (env_of word p) NeedsValue t v) (no_void k t e) (values w p s t)
+    by_result : (r : Option IntKind) → result ≡ r → (o : Option Term) → Finds (return_faults r (env_at ctx w) first o) (λ v. Own p first (Return o) v ⊎ OptionBreaks (env_of word p) (returned r) o v)
+    by_result (Some k) e (Some t) = in_front (value_faults (env_at ctx w) t) (λ v. Own p first (Return (Some t)) v) (λ v. ExpressionBreaks (env_of word p) NeedsValue t v) (no_void k t e) (values w p s t)
     by_result (Some k) e None = alone (fault first 25) (λ v. Own p first (Return None) v) (finds_one first 25 (λ v. Own p first (Return None) v) (StatementBreaks.no_value k e) only_none)
     by_result None e (Some t) =
-        swapped (λ vs. fault first 25 (faults (env_at ctx w) t vs)) (λ v. Within (env_of word p) MayBeAnything t v) (λ v. Own p first (Return (Some t)) v)
+        swapped (λ vs. fault first 25 (faults (env_at ctx w) t vs)) (λ v. ExpressionBreaks (env_of word p) IsJudgedElsewhere t v) (λ v. Own p first (Return (Some t)) v)
         (finds_both (faults (env_at ctx w) t) (fault first 25) _ _ (any_at word w.scopes p.scopes s.maps t)
         (finds_one first 25 (λ v. Own p first (Return (Some t)) v) (StatementBreaks.value_in_void e) (only_some t)))
     by_result None e None = in_front (λ vs. vs) (λ v. Own p first (Return None) v) (λ v. ⊥) (no_other e) finds_none
 
-    returns : (o : Option Term) → Finds (return_faults result (env_at ctx w) first o) (λ v. Own p first (Return o) v ⊎ WithinOption (env_of word p) (returned result) o v)
+    returns : (o : Option Term) → Finds (return_faults result (env_at ctx w) first o) (λ v. Own p first (Return o) v ⊎ OptionBreaks (env_of word p) (returned result) o v)
     returns o = by_result result refl o
 
   -- ---- what stands in a switch before its first section
@@ -358,7 +358,7 @@ module _ (word : ℕ → List ℕ) (notes : Anchor → List (List ℕ)) (names :
         (body (in_loop around) b inner (within_loop q) (at_loop around inner q k)))))
     statement around first (Switch t b) w p s =
         in_front (statement_faults ctx around first (Switch t b) w) (λ v. Own p first (Switch t b) v) _ (λ v h. elim h [ ])
-        (parted (λ v. Within (env_of word p) NeedsValue t v) (λ v. BodyBreaks typed f (within_switch p) b v) (λ v. IsLost (items_in b) v)
+        (parted (λ v. ExpressionBreaks (env_of word p) NeedsValue t v) (λ v. BodyBreaks typed f (within_switch p) b v) (λ v. IsLost (items_in b) v)
         (λ v. EntriesBreak (option_map (λ x. x.kind) (value_of (typed (env_of word p) t))) (body_entries typed word p b) v) (statement_faults ctx around first (Switch t b) w)
         (finds_both (value_faults (env_at ctx w) t)
         (λ vs. switch_faults (option_map (λ x. x.kind) (value_of (typed (env_at ctx w) t))) (walked.body_entries ctx b w []) (switch_body_faults ctx (in_switch around) b w vs)) _ _ (values w p s.stands t)

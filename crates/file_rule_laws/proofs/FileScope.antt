@@ -1,7 +1,6 @@
 -- What a walk finds at file scope, but in functions.
-use Rattle.std.proofs.Common.{◌≡◌, ◌⊎◌, inl, inr, ℕ, Bool, true, false, cond, not, ◌&&◌, List, [], ◌∷◌, codes, Option, Some, None, refl, sym, ap, subst, ◌∙◌, bytes_eq, option_map, true≢false}
+use Rattle.std.proofs.Common.{◌≡◌, ◌⊎◌, inl, inr, ℕ, Bool, true, false, not, List, [], ◌∷◌, codes, Option, Some, None, refl, sym, ap, subst, bytes_eq, true≢false}
 use Rattle.std.specs.Prelude.{ℤ}
-use Rattle.std.specs.Prelude.{option_and_then}
 use Rattle.c_types.specs.declared.kinds.IntKind.TheVariants.{Int}
 use Rattle.c_types.specs.Numbers.{is_in_range}
 use Rattle.c_types.specs.Words.{is_known}
@@ -10,30 +9,27 @@ use Rattle.c_layers.specs.Items.{Declarator}
 use Rattle.c_layers.specs.Tops.{Enumerator}
 use Rattle.c_kinds.specs.declared.binding.Binding.TheVariants.{Constant, Global}
 use Rattle.c_kinds.specs.declared.typed.Fault.{Fault}
-use Rattle.c_kinds.specs.Constants.{constant_of}
-use Rattle.c_kinds.specs.Scopes.{Env, Scope, Faults, fault_if, bind, bind_fault, is_bound}
+use Rattle.c_kinds.specs.Scopes.{Scope, fault_if, bind, bind_fault}
 use Rattle.c_kinds.specs.Typing.{typed, constant_faults}
 use Rattle.c_kinds.proofs.Entries.{same_names, names_same}
 use Rattle.c_statements.specs.declared.extents.Kinded.{Kinded}
 use Rattle.c_statements.specs.Declarations.{shape_of, is_bad_array, size_faults, initial_faults}
-use Rattle.c_scopes.specs.Enums.{number_of, value_of, or_zero, enumerated, int_fault, number_first, given_faults, value_faults, enum_faults, an_int}
+use Rattle.c_scopes.specs.Enums.{number_of, value_of, or_zero, enumerated, int_fault, number_first, given_faults, value_faults, enum_faults}
 use Rattle.c_scopes.specs.FileNames.{file_name_faults}
-use Rattle.c_scopes.specs.Globals.{global_declared, slot_faults, global_faults, globals_faults}
+use Rattle.c_scopes.specs.Globals.{global_declared, global_faults, globals_faults}
 use Rattle.rule_defs.specs.Written as written
-use Rattle.rule_defs.specs.Bindings.{IsDeclared, with_declaration}
-use Rattle.rule_defs.specs.Declared.{SizeBreaks, InitialiserBreaks}
-use Rattle.rule_defs.specs.Expressions.{NeedsConstant, Within}
+use Rattle.rule_defs.specs.Bindings.{IsDeclared}
+use Rattle.rule_defs.specs.Expressions.{NeedsConstant}
 use Rattle.rule_defs.specs.FilePlaces.{names_at, InEnum, value_in, behind_enumerator, behind_enumerators, global_named, behind_variables}
 use Rattle.rule_defs.specs.Behind.{SomeBehind}
-use Rattle.rule_defs.specs.Files.{NameBreaks, EnumeratorBreaks, GivenBreaks, ConstantBreaks, GlobalBreaks, VariableBreaks}
+use Rattle.rule_defs.specs.Files.{FileNameBreaks, EnumeratorBreaks, GivenBreaks, ConstantBreaks, GlobalBreaks, VariableBreaks}
 use Rattle.rule_defs.specs.Violations.{broken}
 use Rattle.rule_laws.specs.Finds.{Finds}
 use Rattle.rule_laws.proofs.Finding.{Rule, finds_none, finds_both, finds_same, finds_nothing, finds_if}
 use Rattle.place_laws.proofs.Standing.{AreMaps}
 use Rattle.place_laws.proofs.Scopes.{maps_bind}
-use Rattle.place_laws.proofs.AlikeTerms.{typed_alike}
 use Rattle.place_laws.proofs.FileStanding.{number_alike, value_alike}
-use Rattle.body_rule_laws.proofs.Declared.{constant_at, sizes, initialisers, bad_alike, twice}
+use Rattle.body_rule_laws.proofs.Declared.{constant_at, sizes, initialisers, bad_breaks, breaks_are_bad, twice}
 
 module _ (word : ℕ → List ℕ) where
   -- ---- names
@@ -45,22 +41,22 @@ module _ (word : ℕ → List ℕ) where
     abbrev Parts : Rule
     Parts v = ((is_known (word at) ≡ true) × (v ≡ broken at 21)) ⊎ (((main ≡ true) × (v ≡ broken at 36)) ⊎ (IsDeclared (word at) ss × (v ≡ broken at 21)))
 
-    pub name : Finds (file_name_faults at (names_at word ms)) (λ v. NameBreaks word ss at v)
+    pub name : Finds (file_name_faults at (names_at word ms)) (λ v. FileNameBreaks word ss at v)
     name =
-        finds_same (file_name_faults at (names_at word ms)) Parts (λ v. NameBreaks word ss at v)
+        finds_same (file_name_faults at (names_at word ms)) Parts (λ v. FileNameBreaks word ss at v)
         (finds_both (fault_if (is_known (word at)) at 21) (λ vs. bind_fault at (word at) ms (fault_if main at 36 vs)) _ _ (finds_if (is_known (word at)) at 21)
         (finds_both (fault_if main at 36) (bind_fault at (word at) ms) _ _ (finds_if main at 36) (twice word ms ss m (word at) at)))
         to fro
       where
-        to : (v : Fault) → ((is_known (word at) ≡ true) × (v ≡ broken at 21)) ⊎ (((bytes_eq (word at) (codes "main") ≡ true) × (v ≡ broken at 36)) ⊎ (IsDeclared (word at) ss × (v ≡ broken at 21))) → NameBreaks word ss at v
-        to v (inl q) = subst (NameBreaks word ss at) (sym q.1) (NameBreaks.known_function q.0)
-        to v (inr (inl q)) = subst (NameBreaks word ss at) (sym q.1) (NameBreaks.no_main (same_names (word at) (codes "main") q.0))
-        to v (inr (inr q)) = subst (NameBreaks word ss at) (sym q.1) (NameBreaks.declared_twice q.0)
+        to : (v : Fault) → ((is_known (word at) ≡ true) × (v ≡ broken at 21)) ⊎ (((bytes_eq (word at) (codes "main") ≡ true) × (v ≡ broken at 36)) ⊎ (IsDeclared (word at) ss × (v ≡ broken at 21))) → FileNameBreaks word ss at v
+        to v (inl q) = subst (FileNameBreaks word ss at) (sym q.1) (FileNameBreaks.known_function q.0)
+        to v (inr (inl q)) = subst (FileNameBreaks word ss at) (sym q.1) (FileNameBreaks.is_main (same_names (word at) (codes "main") q.0))
+        to v (inr (inr q)) = subst (FileNameBreaks word ss at) (sym q.1) (FileNameBreaks.declared_twice q.0)
 
-        fro : (v : Fault) → NameBreaks word ss at v → ((is_known (word at) ≡ true) × (v ≡ broken at 21)) ⊎ (((bytes_eq (word at) (codes "main") ≡ true) × (v ≡ broken at 36)) ⊎ (IsDeclared (word at) ss × (v ≡ broken at 21)))
-        fro v (NameBreaks.declared_twice h) = inr (inr (h, refl))
-        fro v (NameBreaks.known_function e) = inl (e, refl)
-        fro v (NameBreaks.no_main e) = inr (inl (names_same (word at) (codes "main") e, refl))
+        fro : (v : Fault) → FileNameBreaks word ss at v → ((is_known (word at) ≡ true) × (v ≡ broken at 21)) ⊎ (((bytes_eq (word at) (codes "main") ≡ true) × (v ≡ broken at 36)) ⊎ (IsDeclared (word at) ss × (v ≡ broken at 21)))
+        fro v (FileNameBreaks.declared_twice h) = inr (inr (h, refl))
+        fro v (FileNameBreaks.known_function e) = inl (e, refl)
+        fro v (FileNameBreaks.is_main e) = inr (inl (names_same (word at) (codes "main") e, refl))
 
   -- ---- enums
 
@@ -74,7 +70,7 @@ module _ (word : ℕ → List ℕ) where
       at = number_first e.name e.value
 
       abbrev number : Option ℤ
-      number = written.number_of typed (names_at word ss) e.value before
+      number = written.enumerator_number typed (names_at word ss) e.value before
 
       abbrev Breaks : Rule
       Breaks v = EnumeratorBreaks typed (names_at word ss) before e v
@@ -127,10 +123,10 @@ module _ (word : ℕ → List ℕ) where
     bad : (ms ss : List Scope) → AreMaps ms ss → (d : Declarator) → Finds (fault_if (is_bad_array false (names_at word ms) d) d.name 35) (λ v. GlobalBreaks typed (names_at word ss) d v)
     bad ms ss m d =
         finds_same (fault_if (is_bad_array false (names_at word ms) d) d.name 35) _ (λ v. GlobalBreaks typed (names_at word ss) d v) (finds_if (is_bad_array false (names_at word ms) d) d.name 35)
-        (λ v q. subst (GlobalBreaks typed (names_at word ss) d) (sym q.1) (GlobalBreaks.bad_array (sym (bad_alike word ms ss m false d) ∙ q.0))) fro
+        (λ v q. subst (GlobalBreaks typed (names_at word ss) d) (sym q.1) (GlobalBreaks.bad_array (bad_breaks word ms ss m false d q.0))) fro
       where
         fro : (v : Fault) → GlobalBreaks typed (names_at word ss) d v → (is_bad_array false (names_at word ms) d ≡ true) × (v ≡ broken d.name 35)
-        fro v (GlobalBreaks.bad_array e) = (bad_alike word ms ss m false d ∙ e, refl)
+        fro v (GlobalBreaks.bad_array e) = (breaks_are_bad word ms ss m false d e, refl)
 
     pub variables : (ds : List Declarator) (ms ss : List Scope) → AreMaps ms ss → Finds (globals_faults k ds (names_at word ms)) (λ v. SomeBehind (λ front d. VariableBreaks typed word k (behind_variables word k front ss) d v) ds)
     variables [] ms ss m = finds_none

@@ -5,15 +5,15 @@ use Rattle.std.specs.declared.cmp.Ordering.TheVariants.{Less, Equal, Greater}
 use Rattle.std.specs.Ordering.{match_ordering, is_eq}
 use Rattle.std.proofs.lemmas.Map.Text.{is_eq-slice_cmp}
 use Rattle.c_types.specs.Words.{is_known, name_cmp}
-use Rattle.c_layers.specs.Tops.{Function, Form, Line, Enum, Globals, Defines, Unread, Top, From}
+use Rattle.c_layers.specs.Tops.{Function, Line, Enum, Globals, Defines, Unread, Top, From}
 use Rattle.c_kinds.specs.declared.binding.Signature.{Signature}
 use Rattle.c_kinds.specs.declared.binding.Binding.{Binding}
 use Rattle.c_kinds.specs.declared.binding.Binding.TheVariants as binding
 use Rattle.c_kinds.specs.declared.typed.Fault.{Fault}
-use Rattle.c_kinds.specs.Scopes.{Env, Scope, Faults, fault, fault_if, bound, found}
+use Rattle.c_kinds.specs.Scopes.{Scope, fault_if, bound}
 use Rattle.c_kinds.proofs.Entries.{same_names, names_same}
 use Rattle.c_scopes.specs.Files.{File}
-use Rattle.c_scopes.specs.FunctionNames.{has_function, with_function, has_body, with_body, again_faults, is_main_form, same_signature, signature_in, name_faults, function_name_faults}
+use Rattle.c_scopes.specs.FunctionNames.{has_function, with_function, has_body, with_body, again_faults, is_main_form, same_signature, signature_in, function_name_faults}
 use Rattle.rule_defs.specs.Bindings.{IsDeclared, IsDeclaredAs}
 use Rattle.rule_defs.specs.FilePlaces.{names_at}
 use Rattle.rule_defs.specs.Files.{IsDefinedIn, FunctionNameBreaks}
@@ -168,7 +168,7 @@ module _ (file : File) (before : List Top) (bodies : List (List ℕ)) (defined :
   other : (b : Binding) → bound name ss ≡ Some b → ((s : Signature) → b ≡ binding.Function s → ⊥) → (v : Fault) → v ≡ broken f.name 21 → Breaks v
   other b e i v g =
       subst Breaks (sym g)
-      (FunctionNameBreaks.other_kind (is_declared name ss (ap is_some e)) (λ s h. let q : Some b ≡ Some (binding.Function s) = sym e ∙ as_declared name (binding.Function s) ss h in i s (cc)))
+      (FunctionNameBreaks.no_function (is_declared name ss (ap is_some e)) (λ s h. let q : Some b ≡ Some (binding.Function s) = sym e ∙ as_declared name (binding.Function s) ss h in i s (cc)))
 
   declared_before : (o : Option Binding) → bound name ss ≡ o → (v : Fault) → again_rule f.name again own o v → Breaks v
   declared_before None e v h = absurd h
@@ -201,7 +201,7 @@ module _ (file : File) (before : List Top) (bodies : List (List ℕ)) (defined :
 
   fro : (v : Fault) → FunctionNameBreaks file before ss f v → Parts v
   fro v (FunctionNameBreaks.known_function e) = inl (e, refl)
-  fro v (FunctionNameBreaks.other_kind d i) = inr (inr (other_rule (bound name ss) refl d i))
+  fro v (FunctionNameBreaks.no_function d i) = inr (inr (other_rule (bound name ss) refl d i))
   fro v (FunctionNameBreaks.second_body g h e d) = inr (inr (known (binding.Function g) (broken f.name 21) h (inr (and_both (has_body f) (has_function bodies name) e ((defined name).1 d), refl))))
   fro v (FunctionNameBreaks.other_main e g) = inr (inl (and_both (bytes_eq name (codes "main")) (not (is_main_form file.word f)) (names_same name (codes "main") e) (ap not g), refl))
   fro v (FunctionNameBreaks.disagrees g h e) = inr (inr (known (binding.Function g) (broken f.name 37) h (inl (ap not e, refl))))

@@ -1,18 +1,15 @@
 -- What a walk finds in a file, and what of that is reported.
-use Rattle.std.proofs.Common.{◌≡◌, ◌⊎◌, inl, inr, ℕ, List, [], ◌∷◌, ◌++◌, Option, Some, None, refl, subst, true≢false, sym}
-use Rattle.c_layers.specs.Tops.{Function, Form, Line, Enum, Globals, Defines, Unread, Top, From}
-use Rattle.c_kinds.specs.declared.typed.Fault.{Fault}
-use Rattle.c_kinds.specs.Scopes.{Scope, Faults, known_scope}
+use Rattle.std.proofs.Common.{List, [], ◌∷◌, ◌++◌, refl, subst, true≢false, sym}
+use Rattle.c_layers.specs.Tops.{Form, Line, Enum, Globals, Defines, Unread, Top, From}
+use Rattle.c_kinds.specs.Scopes.{Scope}
 use Rattle.c_statements.specs.Declarations.{kinded}
 use Rattle.c_statements.specs.Functions.{function_faults}
 use Rattle.c_scopes.specs.Files.{File, State, start, env_of, function_declared, form_faults, top_faults, file_faults}
 use Rattle.c_scopes.specs.Files as walked
-use Rattle.c_scopes.specs.FunctionNames.{with_body, function_name_faults}
-use Rattle.c_scopes.specs.Resolving.{violation_of}
+use Rattle.c_scopes.specs.FunctionNames.{function_name_faults}
 use Rattle.c_kinds.specs.Typing.{typed}
-use Rattle.rule_defs.specs.FilePlaces.{names_at, file_start, enum_start, function_named, scopes_behind}
-use Rattle.rule_defs.specs.Files.{IsDefinedIn, FormBreaks, TopBreaks, IsViolation}
-use Rattle.rule_defs.specs.Violations.{IsLeast, IsFaultless}
+use Rattle.rule_defs.specs.FilePlaces.{file_start, enum_start, function_named, scopes_behind}
+use Rattle.rule_defs.specs.Files.{FormBreaks, TopBreaks, IsViolation}
 use Rattle.rule_laws.specs.Finds.{Finds}
 use Rattle.rule_laws.proofs.Finding.{finds_none, finds_both}
 use Rattle.rule_laws.proofs.Behind.{Behind, finds_behind}

@@ -13,7 +13,7 @@ use Rattle.c_kinds.specs.Scopes.{Env, Scope, look_up}
 use Rattle.c_kinds.specs.Typing.{typed, target_of}
 use Rattle.rule_defs.specs.Bindings.{IsBoundTo, IsUnbound}
 use Rattle.rule_defs.specs.Formats.{IsFormat}
-use Rattle.rule_defs.specs.Meanings.{Means, IsTarget, IsConstant}
+use Rattle.rule_defs.specs.Meanings.{Means, IsTarget, IsConstantExpression}
 use Rattle.rule_defs.specs.Typings.{Typing, IsTyping}
 
 pub record MeaningLaws : Type 0 where
@@ -25,7 +25,7 @@ pub record MeaningLaws : Type 0 where
   -- an expression is what it means
   pub means : (env : Env) (t : Term) (x : Typed) → (typed env t ≡ x → x ≢ Wrong → Means env t x) × (Means env t x → typed env t ≡ x)
   -- so is a constant expression
-  pub constant : (env : Env) (t : Term) (e : Expression) (n : ℤ) → (constant_of (typed env t) ≡ Some (e, n) → IsConstant env t e n) × (IsConstant env t e n → constant_of (typed env t) ≡ Some (e, n))
+  pub constant : (env : Env) (t : Term) (e : Expression) (n : ℤ) → (constant_of (typed env t) ≡ Some (e, n) → IsConstantExpression env t e n) × (IsConstantExpression env t e n → constant_of (typed env t) ≡ Some (e, n))
   pub right : (env : Env) (t : Term) → Means env t Wrong → ⊥
   -- and so is a target
   pub target : (env : Env) (t : Term) (y : Target) → (target_of env t ≡ Some y → IsTarget env t y) × (IsTarget env t y → target_of env t ≡ Some y)

@@ -25,11 +25,11 @@ pub start_maps : AreMaps file_start file_start
 start_maps = alike file_start
 
 module _ (word : ℕ → List ℕ) where
-  pub number_alike : (ms ss : List Scope) → AreMaps ms ss → (t : Option Term) (before : Option ℤ) → number_of (names_at word ms) t before ≡ written.number_of typed (names_at word ss) t before
+  pub number_alike : (ms ss : List Scope) → AreMaps ms ss → (t : Option Term) (before : Option ℤ) → number_of (names_at word ms) t before ≡ written.enumerator_number typed (names_at word ss) t before
   number_alike ms ss h (Some t) before = λ i. option_map (λ c. c.1) (constant_of (typed_alike word ms ss h t i))
   number_alike ms ss h None before = refl
 
-  pub value_alike : (ms ss : List Scope) → AreMaps ms ss → (t : Option Term) (before : Option ℤ) → value_of (names_at word ms) t before ≡ written.value_of typed (names_at word ss) t before
+  pub value_alike : (ms ss : List Scope) → AreMaps ms ss → (t : Option Term) (before : Option ℤ) → value_of (names_at word ms) t before ≡ written.enumerator_value typed (names_at word ss) t before
   value_alike ms ss h t before = ap (option_and_then an_int) (number_alike ms ss h t before)
 
   -- behind an enumerator

@@ -27,7 +27,7 @@ use Rattle.rule_defs.specs.Written.{section_marks}
 use Rattle.rule_defs.specs.Written as written
 use Rattle.rule_defs.specs.Places.{Place, env_of, within, behind_name, behind_start}
 use Rattle.rule_defs.specs.Slots.{past_body, behind}
-use Rattle.rule_defs.specs.Items.{names, locals, declaration_items, declares_items, start_items, Parted, preceded, headed, item_items, plain_items, statement_items, body_items, list_items, switch_sections, outside_items, outside_item, parts, part}
+use Rattle.rule_defs.specs.Items.{names, locals, declares_items, start_items, Parted, preceded, headed, item_items, plain_items, statement_items, body_items, list_items, switch_sections, outside_items, outside_item, parts, part}
 use Rattle.place_laws.proofs.AlikeTerms.{typed_alike}
 use Rattle.place_laws.proofs.Standing.{Stands, past_plain, stands_within, stands_name, stands_start, stands_body, stands_plain, stands_item}
 use Rattle.program_laws.proofs.Sections.{sections_passed}

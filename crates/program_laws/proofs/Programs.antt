@@ -10,7 +10,7 @@ use Rattle.c_types.specs.Words.{name_cmp}
 use Rattle.c_tree.specs.declared.tree.Top as tree_top
 use Rattle.c_tree.specs.declared.tree.Top.TheVariants as top
 use Rattle.c_layers.specs.Items.{Declarator}
-use Rattle.c_layers.specs.Tops.{Enumerator, Function, Form, Line, Enum, Globals, Defines, Unread, Top, From}
+use Rattle.c_layers.specs.Tops.{Enumerator, Form, Line, Enum, Globals, Defines, Unread, Top, From}
 use Rattle.c_kinds.specs.declared.binding.Binding.TheVariants.{Constant, Global}
 use Rattle.c_kinds.specs.Scopes.{Scope, bind}
 use Rattle.c_kinds.proofs.Entries.{same_names}

@@ -1,4 +1,4 @@
--- Those of a list, each told with those in front of it; and a name that is one of some.
+-- Those of a list, each told with those in front of it, in text order; and a name that is one of some.
 use Rattle.std.specs.Prelude.{◌≡◌, ◌⊎◌, ℕ, List, [], ◌∷◌}
 
 -- P holds of one of these, with those in front of it

@@ -1,4 +1,5 @@
--- What a name is bound to (ISO/IEC 9899:2011, 6.2.1). A scope is the list of its declarations before a place, in text order.
+-- What a name is bound to (ISO/IEC 9899:2011, 6.2.1). A scope is the list of its declarations before a place, in text order;
+-- a name may stand in it twice.
 use Rattle.std.specs.Prelude.{◌≡◌, ◌≢◌, ◌⊎◌, ℕ, List, [], ◌∷◌, ◌++◌}
 use Rattle.c_kinds.specs.declared.binding.Binding.{Binding}
 use Rattle.c_kinds.specs.Scopes.{Scope}
@@ -28,7 +29,7 @@ abbrev pub with_declaration : List ℕ → Binding → List Scope → List Scope
 with_declaration name b [] = []
 with_declaration name b (s ∷ ss) = (s ++ (name, b) ∷ []) ∷ ss
 
--- the nearest scope declares the name, first so
+-- the first declaration of the name in the nearest scope binds it to b
 abbrev pub IsDeclaredAs : List ℕ → Binding → List Scope → Type 0
 IsDeclaredAs name b [] = ⊥
 IsDeclaredAs name b (s ∷ ss) = DeclaresAs name b s

@@ -19,7 +19,7 @@ use Rattle.rule_defs.specs.Items.{item_items, list_items}
 abbrev pub known : (ℕ → List ℕ) → (Anchor → List (List ℕ)) → Function → Body → InFunction
 known word notes f b = record { word = word; notes = notes; labels = labels_of word b; result = result_kind word f }
 
--- behind the parameters of a function, in whose scope it is
+-- behind the parameters of a function, where its outermost list begins
 abbrev pub inside : (ℕ → List ℕ) → Function → List Scope → Place
 inside word f ss = behind_parameters word f.parameters (entered ss)
 

@@ -65,10 +65,12 @@ HasNoFormat env (Then f xs) = (bytes : List ℕ) → Means env f (Text bytes) �
 pub data CalledBreaks (env : Env) (at : ℕ) : Binding → Terms → Fault → Type 0 where
   no_function : {b : Binding} {xs : Terms} → IsNoFunction b → CalledBreaks env at b xs (broken at 22)
   other_number : {s : Signature} {xs : Terms} → length s.wants ≢ count xs → CalledBreaks env at (Function s) xs (broken at 23)
+  -- the call fits, and an argument breaks a rule
   argument : {s : Signature} {xs : Terms} {v : Fault} → length s.wants ≡ count xs → SomeArgumentBreaks env s.wants xs v → CalledBreaks env at (Function s) xs v
   no_format : {xs : Terms} → HasNoFormat env xs → CalledBreaks env at Printf xs (broken at 40)
   other_conversion : {f : Term} {xs : Terms} (bytes : List ℕ) → Means env f (Text bytes) → ((ws : List Want) → IsFormat bytes ws → ⊥) → CalledBreaks env at Printf (Then f xs) (broken at 40)
   other_count : {f : Term} {xs : Terms} (bytes : List ℕ) (ws : List Want) → Means env f (Text bytes) → IsFormat bytes ws → length ws ≢ count xs → CalledBreaks env at Printf (Then f xs) (broken at 40)
+  -- the same of `printf`
   printed : {f : Term} {xs : Terms} {v : Fault} (bytes : List ℕ) (ws : List Want) → Means env f (Text bytes) → IsFormat bytes ws → length ws ≡ count xs → SomeArgumentBreaks env ws xs v
       → CalledBreaks env at Printf (Then f xs) v
   text_printed : {f : Term} {xs : Terms} {v : Fault} → HasText env xs v → CalledBreaks env at Printf (Then f xs) v

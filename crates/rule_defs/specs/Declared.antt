@@ -1,5 +1,5 @@
 -- The rules for declared variables (ISO/IEC 9899:2011, 6.7).
-use Rattle.std.specs.Prelude.{◌≡◌, ◌⊎◌, ℕ, true, List, [], ◌∷◌}
+use Rattle.std.specs.Prelude.{◌⊎◌, ℕ, true, List, [], ◌∷◌}
 use Rattle.c_layers.specs.Terms.{Term}
 use Rattle.c_layers.specs.Items.{Size, Sized, Initialiser, NoValue, OneValue, ValueList, Declarator, Declaration}
 use Rattle.c_kinds.specs.declared.typed.Fault.{Fault}
@@ -7,33 +7,33 @@ use Rattle.c_kinds.specs.Scopes.{Env}
 use Rattle.c_statements.specs.declared.extents.Kinded.{Kinded}
 use Rattle.c_statements.specs.Declarations.{kinded}
 use Rattle.rule_defs.specs.Typings.{Typing}
-use Rattle.rule_defs.specs.Written.{is_bad_array}
 use Rattle.rule_defs.specs.Bindings.{IsDeclared}
-use Rattle.rule_defs.specs.Expressions.{Role, NeedsValue, NeedsConstant, Within}
+use Rattle.rule_defs.specs.Arrays.{ArrayBreaks}
+use Rattle.rule_defs.specs.Expressions.{Role, NeedsValue, NeedsConstant, ExpressionBreaks}
 use Rattle.rule_defs.specs.Behind.{SomeBehind}
 use Rattle.rule_defs.specs.Places.{Place, env_of, behind_name, behind_names}
 use Rattle.rule_defs.specs.Violations.{broken}
 
 -- the length that is written is no constant expression, or breaks a rule itself
 abbrev pub SizeBreaks : Env → Size → Fault → Type 0
-SizeBreaks env (Sized t) v = Within env NeedsConstant t v
+SizeBreaks env (Sized t) v = ExpressionBreaks env NeedsConstant t v
 SizeBreaks env _ v = ⊥
 
 -- one of these values breaks a rule
 abbrev pub ValuesBreak : Env → Role → List Term → Fault → Type 0
 ValuesBreak env role [] v = ⊥
-ValuesBreak env role (t ∷ ts) v = Within env role t v ⊎ ValuesBreak env role ts v
+ValuesBreak env role (t ∷ ts) v = ExpressionBreaks env role t v ⊎ ValuesBreak env role ts v
 
 -- a value of an initialiser breaks a rule
 abbrev pub InitialiserBreaks : Env → Role → Initialiser → Fault → Type 0
 InitialiserBreaks env role NoValue v = ⊥
-InitialiserBreaks env role (OneValue t) v = Within env role t v
+InitialiserBreaks env role (OneValue t) v = ExpressionBreaks env role t v
 InitialiserBreaks env role (ValueList ts) v = ValuesBreak env role ts v
 
 -- a variable of a block, at the place of its declarator
 pub data LocalBreaks (typing : Typing) (word : ℕ → List ℕ) (p : Place) (d : Declarator) : Fault → Type 0 where
   declared_twice : IsDeclared (word d.name) p.scopes → LocalBreaks typing word p d (broken d.name 21)
-  bad_array : is_bad_array typing true (env_of word p) d ≡ true → LocalBreaks typing word p d (broken d.name 35)
+  bad_array : ArrayBreaks typing (env_of word p) true d.size d.value → LocalBreaks typing word p d (broken d.name 35)
 
 -- at one name: its length and its declarator at this place, its values behind the declarator
 abbrev pub DeclaratorBreaks : Typing → (ℕ → List ℕ) → Kinded → Place → Declarator → Fault → Type 0

@@ -13,7 +13,7 @@ use Rattle.c_kinds.specs.Marks.{step_of}
 use Rattle.c_kinds.specs.Scopes.{Env}
 use Rattle.rule_defs.specs.Bindings.{IsBoundTo, IsUnbound}
 use Rattle.rule_defs.specs.Calls.{CallBreaks}
-use Rattle.rule_defs.specs.Meanings.{Means, IsConstant}
+use Rattle.rule_defs.specs.Meanings.{Means, IsConstantExpression}
 use Rattle.rule_defs.specs.Violations.{broken}
 
 -- ---- names
@@ -30,10 +30,10 @@ is_array (Local slot shape) = shape.array
 is_array _ = false
 
 -- a variable that is a number
-abbrev pub is_number : Binding → Bool
-is_number (Global shape) = not shape.array
-is_number (Local slot shape) = not shape.array
-is_number _ = false
+abbrev pub is_number_variable : Binding → Bool
+is_number_variable (Global shape) = not shape.array
+is_number_variable (Local slot shape) = not shape.array
+is_number_variable _ = false
 
 abbrev pub is_const : Binding → Bool
 is_const (Global shape) = shape.constant
@@ -50,8 +50,8 @@ pub data ReadBreaks (env : Env) : Form → Fault → Type 0 where
 -- a name or a cell that is assigned or counted up or down
 pub data WriteBreaks (env : Env) : Form → Fault → Type 0 where
   undeclared : {at : ℕ} → IsUnbound (env.word at) env.scopes → WriteBreaks env (Variable at) (broken at 20)
-  no_number : {at : ℕ} (b : Binding) → IsBoundTo (env.word at) b env.scopes → is_number b ≡ false → WriteBreaks env (Variable at) (broken at 22)
-  const : {at : ℕ} (b : Binding) → IsBoundTo (env.word at) b env.scopes → is_number b ≡ true → is_const b ≡ true → WriteBreaks env (Variable at) (broken at 26)
+  no_number : {at : ℕ} (b : Binding) → IsBoundTo (env.word at) b env.scopes → is_number_variable b ≡ false → WriteBreaks env (Variable at) (broken at 22)
+  const : {at : ℕ} (b : Binding) → IsBoundTo (env.word at) b env.scopes → is_number_variable b ≡ true → is_const b ≡ true → WriteBreaks env (Variable at) (broken at 26)
   undeclared_array : {at : ℕ} {i : Term} → IsUnbound (env.word at) env.scopes → WriteBreaks env (Cell at i) (broken at 20)
   no_array : {at : ℕ} {i : Term} (b : Binding) → IsBoundTo (env.word at) b env.scopes → is_array b ≡ false → WriteBreaks env (Cell at i) (broken at 22)
   const_cell : {at : ℕ} {i : Term} (b : Binding) → IsBoundTo (env.word at) b env.scopes → is_array b ≡ true → is_const b ≡ true → WriteBreaks env (Cell at i) (broken at 26)
@@ -66,55 +66,56 @@ pub data Role : Type 0 where
   -- it may be void: a whole statement, the first or third part of a `for`, an operand of a comma, or one of a cast to void
   MayBeVoid : Role
   -- an argument, of which the call says what it has to be, or what a void function returns, which is wrong in any case
-  MayBeAnything : Role
+  IsJudgedElsewhere : Role
 
 -- a text or the name of an array is wrong there
-abbrev pub IsOperand : Role → Type 0
-IsOperand MayBeAnything = ⊥
-IsOperand _ = Unit {0}
+abbrev pub TakesNoArray : Role → Type 0
+TakesNoArray IsJudgedElsewhere = ⊥
+TakesNoArray _ = Unit {0}
 
 -- a void expression is wrong there
-abbrev pub IsNeeded : Role → Type 0
-IsNeeded NeedsValue = Unit {0}
-IsNeeded NeedsConstant = Unit {0}
-IsNeeded _ = ⊥
+abbrev pub NeedsSomeValue : Role → Type 0
+NeedsSomeValue NeedsValue = Unit {0}
+NeedsSomeValue NeedsConstant = Unit {0}
+NeedsSomeValue _ = ⊥
 
 -- an expression that can't be used so
 pub data UseBreaks (env : Env) (t : Term) : Role → Fault → Type 0 where
-  void : {role : Role} (n : Node) → IsNeeded role → Means env t (Void n) → UseBreaks env t role (broken (first_of t) 24)
+  void : {role : Role} (n : Node) → NeedsSomeValue role → Means env t (Void n) → UseBreaks env t role (broken (first_of t) 24)
   -- no file breaks this: the grammar has texts as arguments alone
-  text : {role : Role} (bytes : List ℕ) → IsOperand role → Means env t (Text bytes) → UseBreaks env t role (broken (first_of t) 40)
+  text : {role : Role} (bytes : List ℕ) → TakesNoArray role → Means env t (Text bytes) → UseBreaks env t role (broken (first_of t) 40)
   -- the name of an array
-  array : {role : Role} (a : ArrayName) → IsOperand role → Means env t (Array a) → UseBreaks env t role (broken a.token 22)
-  not_constant : ((e : Expression) (n : ℤ) → IsConstant env t e n → ⊥) → UseBreaks env t NeedsConstant (broken (first_of t) 34)
+  array : {role : Role} (a : ArrayName) → TakesNoArray role → Means env t (Array a) → UseBreaks env t role (broken a.token 22)
+  not_constant : ((e : Expression) (n : ℤ) → IsConstantExpression env t e n → ⊥) → UseBreaks env t NeedsConstant (broken (first_of t) 34)
 
 -- ---- in an expression
 
 abbrev mutual
   -- a rule is broken by an expression that is used so, or by one within it
-  pub Within : Env → Role → Term → Fault → Type 0
-  Within env role (At first form) v = WithinForm env form v ⊎ UseBreaks env (At first form) role v
+  pub ExpressionBreaks : Env → Role → Term → Fault → Type 0
+  ExpressionBreaks env role (At first form) v = InExpression env form v ⊎ UseBreaks env (At first form) role v
 
-  pub WithinForm : Env → Form → Fault → Type 0
-  WithinForm env (Variable at) v = ReadBreaks env (Variable at) v
-  WithinForm env (Cell at i) v = Within env NeedsValue i v ⊎ ReadBreaks env (Cell at i) v
-  WithinForm env (Prefix m a) v = elim (step_of (mark_of (env.word m))) [ Some up ↦ WithinTarget env a v | None ↦ Within env NeedsValue a v ]
-  WithinForm env (Suffix m a) v = WithinTarget env a v
-  WithinForm env (CastTo words a) v = Within env NeedsValue a v
-  WithinForm env (CastVoid a) v = Within env MayBeVoid a v
-  WithinForm env (Binary m a b) v = Within env NeedsValue a v ⊎ Within env NeedsValue b v
-  WithinForm env (Choice a b c) v = Within env NeedsValue a v ⊎ (Within env NeedsValue b v ⊎ Within env NeedsValue c v)
-  WithinForm env (Assign m t a) v = WithinTarget env t v ⊎ Within env NeedsValue a v
-  WithinForm env (Commas a bs) v = Within env MayBeVoid a v ⊎ WithinTerms env MayBeVoid bs v
-  WithinForm env (Call at xs) v = WithinTerms env MayBeAnything xs v ⊎ CallBreaks env at xs v
-  WithinForm env _ v = ⊥
+  pub InExpression : Env → Form → Fault → Type 0
+  InExpression env (Variable at) v = ReadBreaks env (Variable at) v
+  InExpression env (Cell at i) v = ExpressionBreaks env NeedsValue i v ⊎ ReadBreaks env (Cell at i) v
+  InExpression env (Prefix m a) v = elim (step_of (mark_of (env.word m))) [ Some up ↦ TargetBreaks env a v | None ↦ ExpressionBreaks env NeedsValue a v ]
+  InExpression env (Suffix m a) v = TargetBreaks env a v
+  InExpression env (CastTo words a) v = ExpressionBreaks env NeedsValue a v
+  InExpression env (CastVoid a) v = ExpressionBreaks env MayBeVoid a v
+  InExpression env (Binary m a b) v = ExpressionBreaks env NeedsValue a v ⊎ ExpressionBreaks env NeedsValue b v
+  InExpression env (Choice a b c) v = ExpressionBreaks env NeedsValue a v ⊎ (ExpressionBreaks env NeedsValue b v ⊎ ExpressionBreaks env NeedsValue c v)
+  InExpression env (Assign m t a) v = TargetBreaks env t v ⊎ ExpressionBreaks env NeedsValue a v
+  InExpression env (Commas a bs) v = ExpressionBreaks env MayBeVoid a v ⊎ ExpressionsBreak env MayBeVoid bs v
+  InExpression env (Call at xs) v = ExpressionsBreak env IsJudgedElsewhere xs v ⊎ CallBreaks env at xs v
+  InExpression env _ v = ⊥
 
   -- by what is written to, or in its index
-  pub WithinTarget : Env → Term → Fault → Type 0
-  WithinTarget env (At first (Variable at)) v = WriteBreaks env (Variable at) v
-  WithinTarget env (At first (Cell at i)) v = Within env NeedsValue i v ⊎ WriteBreaks env (Cell at i) v
-  WithinTarget env _ v = ⊥
+  pub TargetBreaks : Env → Term → Fault → Type 0
+  TargetBreaks env (At first (Variable at)) v = WriteBreaks env (Variable at) v
+  TargetBreaks env (At first (Cell at i)) v = ExpressionBreaks env NeedsValue i v ⊎ WriteBreaks env (Cell at i) v
+  -- the grammar has no other targets
+  TargetBreaks env _ v = ⊥
 
-  pub WithinTerms : Env → Role → Terms → Fault → Type 0
-  WithinTerms env role NoTerm v = ⊥
-  WithinTerms env role (Then x xs) v = Within env role x v ⊎ WithinTerms env role xs v
+  pub ExpressionsBreak : Env → Role → Terms → Fault → Type 0
+  ExpressionsBreak env role NoTerm v = ⊥
+  ExpressionsBreak env role (Then x xs) v = ExpressionBreaks env role x v ⊎ ExpressionsBreak env role xs v

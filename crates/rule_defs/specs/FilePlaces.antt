@@ -11,7 +11,7 @@ use Rattle.c_scopes.specs.Enums.{or_zero}
 use Rattle.c_scopes.specs.Files.{File}
 use Rattle.c_scopes.specs.FunctionNames.{signature_in}
 use Rattle.rule_defs.specs.Typings.{Typing}
-use Rattle.rule_defs.specs.Written.{value_of}
+use Rattle.rule_defs.specs.Written.{enumerator_value}
 use Rattle.rule_defs.specs.Bindings.{with_declaration}
 
 -- the names at a place
@@ -36,7 +36,7 @@ enum_start ss = record { scopes = ss; value = Some (negsuc 0) }
 
 -- the value of a constant at a place
 abbrev pub value_in : Typing → (ℕ → List ℕ) → Enumerator → InEnum → Option ℤ
-value_in typing word e p = value_of typing (names_at word p.scopes) e.value p.value
+value_in typing word e p = enumerator_value typing (names_at word p.scopes) e.value p.value
 
 abbrev pub behind_enumerator : Typing → (ℕ → List ℕ) → Enumerator → InEnum → InEnum
 behind_enumerator typing word e p =
@@ -73,6 +73,6 @@ abbrev pub behind_tops : Typing → File → List Top → List Scope → List Sc
 behind_tops typing file [] ss = ss
 behind_tops typing file (x ∷ xs) ss = behind_tops typing file xs (behind_top typing file x ss)
 
--- behind the first of a file
+-- the scopes behind these, with which a file begins
 abbrev pub scopes_behind : Typing → File → List Top → List Scope
 scopes_behind typing file before = behind_tops typing file before file_start

@@ -16,47 +16,50 @@ use Rattle.c_scopes.specs.Enums.{number_first}
 use Rattle.c_scopes.specs.Files.{File}
 use Rattle.c_scopes.specs.FunctionNames.{has_body, is_main_form, same_signature, signature_in}
 use Rattle.rule_defs.specs.Typings.{Typing}
-use Rattle.rule_defs.specs.Written.{is_bad_array, number_of}
+use Rattle.rule_defs.specs.Written.{enumerator_number}
 use Rattle.rule_defs.specs.Bindings.{IsDeclared, IsDeclaredAs}
+use Rattle.rule_defs.specs.Arrays.{ArrayBreaks}
 use Rattle.rule_defs.specs.Declared.{SizeBreaks, InitialiserBreaks}
-use Rattle.rule_defs.specs.Expressions.{NeedsConstant, Within}
+use Rattle.rule_defs.specs.Expressions.{NeedsConstant, ExpressionBreaks}
 use Rattle.rule_defs.specs.FilePlaces.{names_at, InEnum, enum_start, behind_enumerators, global_named, behind_variables, function_named, scopes_behind}
 use Rattle.rule_defs.specs.Behind.{SomeBehind}
 use Rattle.rule_defs.specs.Functions.{FunctionBreaks}
 use Rattle.rule_defs.specs.Violations.{broken}
 
 -- the name of an enum constant or a variable
-pub data NameBreaks (word : ℕ → List ℕ) (ss : List Scope) (at : ℕ) : Fault → Type 0 where
-  declared_twice : IsDeclared (word at) ss → NameBreaks word ss at (broken at 21)
-  known_function : is_known (word at) ≡ true → NameBreaks word ss at (broken at 21)
-  no_main : word at ≡ codes "main" → NameBreaks word ss at (broken at 36)
+pub data FileNameBreaks (word : ℕ → List ℕ) (ss : List Scope) (at : ℕ) : Fault → Type 0 where
+  declared_twice : IsDeclared (word at) ss → FileNameBreaks word ss at (broken at 21)
+  known_function : is_known (word at) ≡ true → FileNameBreaks word ss at (broken at 21)
+  is_main : word at ≡ codes "main" → FileNameBreaks word ss at (broken at 36)
 
 -- ---- enums
 
 -- a constant that follows one of the value `before`, None where that one has no value
 pub data EnumeratorBreaks (typing : Typing) (env : Env) (before : Option ℤ) (e : Enumerator) : Fault → Type 0 where
-  no_int : (n : ℤ) → number_of typing env e.value before ≡ Some n → is_in_range Int n ≡ false → EnumeratorBreaks typing env before e (broken (number_first e.name e.value) 34)
+  no_int : (n : ℤ) → enumerator_number typing env e.value before ≡ Some n → is_in_range Int n ≡ false → EnumeratorBreaks typing env before e (broken (number_first e.name e.value) 34)
 
+-- the value that is written for a constant, if one is
 abbrev pub GivenBreaks : Env → Option Term → Fault → Type 0
-GivenBreaks env (Some t) v = Within env NeedsConstant t v
+GivenBreaks env (Some t) v = ExpressionBreaks env NeedsConstant t v
 GivenBreaks env None v = ⊥
 
 -- at one constant: its value and its name at this place
 abbrev pub ConstantBreaks : Typing → (ℕ → List ℕ) → InEnum → Enumerator → Fault → Type 0
 ConstantBreaks typing word p e v =
-    GivenBreaks (names_at word p.scopes) e.value v ⊎ (EnumeratorBreaks typing (names_at word p.scopes) p.value e v ⊎ NameBreaks word p.scopes e.name v)
+    GivenBreaks (names_at word p.scopes) e.value v ⊎ (EnumeratorBreaks typing (names_at word p.scopes) p.value e v ⊎ FileNameBreaks word p.scopes e.name v)
 
 -- ---- variables
 
+-- the declarator of a variable of the file
 pub data GlobalBreaks (typing : Typing) (env : Env) (d : Declarator) : Fault → Type 0 where
-  bad_array : is_bad_array typing false env d ≡ true → GlobalBreaks typing env d (broken d.name 35)
+  bad_array : ArrayBreaks typing env false d.size d.value → GlobalBreaks typing env d (broken d.name 35)
 
 -- at one name: its length and its declarator at this place, its values behind the declarator
 abbrev pub VariableBreaks : Typing → (ℕ → List ℕ) → Kinded → List Scope → Declarator → Fault → Type 0
 VariableBreaks typing word k ss d v =
     SizeBreaks (names_at word ss) d.size v
     ⊎ (GlobalBreaks typing (names_at word ss) d v
-    ⊎ (NameBreaks word ss d.name v
+    ⊎ (FileNameBreaks word ss d.name v
     ⊎ InitialiserBreaks (names_at word (global_named word k d ss)) NeedsConstant d.value v))
 
 -- ---- names of functions
@@ -70,7 +73,7 @@ IsDefinedIn word name (From first after _ ∷ xs) = IsDefinedIn word name xs
 -- the name of a function, behind these of the file and in these scopes
 pub data FunctionNameBreaks (file : File) (before : List Top) (ss : List Scope) (f : Function) : Fault → Type 0 where
   known_function : is_known (file.word f.name) ≡ true → FunctionNameBreaks file before ss f (broken f.name 21)
-  other_kind : IsDeclared (file.word f.name) ss → ((s : Signature) → IsDeclaredAs (file.word f.name) (binding.Function s) ss → ⊥) → FunctionNameBreaks file before ss f (broken f.name 21)
+  no_function : IsDeclared (file.word f.name) ss → ((s : Signature) → IsDeclaredAs (file.word f.name) (binding.Function s) ss → ⊥) → FunctionNameBreaks file before ss f (broken f.name 21)
   second_body : (s : Signature) → IsDeclaredAs (file.word f.name) (binding.Function s) ss → has_body f ≡ true → IsDefinedIn file.word (file.word f.name) before → FunctionNameBreaks file before ss f (broken f.name 21)
   other_main : file.word f.name ≡ codes "main" → is_main_form file.word f ≡ false → FunctionNameBreaks file before ss f (broken f.name 36)
   disagrees : (s : Signature) → IsDeclaredAs (file.word f.name) (binding.Function s) ss → same_signature s (signature_in file.bodies file.word f) ≡ false → FunctionNameBreaks file before ss f (broken f.name 37)

@@ -40,15 +40,16 @@ abbrev pub OutermostBreaks : Typing → InFunction → Place → Body → Fault 
 OutermostBreaks typing f p (Braces first after xs) v = ListBreaks typing f p xs v
 OutermostBreaks typing f p (Lone first after x) v = ItemBreaks typing f p x v
 
--- a function with jumps that is too tangled; `flat` has counts of no other body
+-- a function that is too tangled; `flat` gives counts for a body with jumps, and none for another
 pub data Tangled (typing : Typing) (flat : FlatCounts) (word : ℕ → List ℕ) (notes : Anchor → List (List ℕ)) (f : Function) (b : Body) (scopes : List Scope) : Fault → Type 0 where
   tangled : (counts : ℕ × ℕ) → flat (body_items typing (known word notes f b) b (inside word f scopes)) ≡ Some counts → is_tangled (measures word f b counts) ≡ true → Tangled typing flat word notes f b scopes (broken f.name 39)
 
+-- the labels, the statements and the size of a function with a body
 abbrev pub DefinitionBreaks : Typing → FlatCounts → (ℕ → List ℕ) → (Anchor → List (List ℕ)) → Function → List Scope → Option Body → Fault → Type 0
 DefinitionBreaks typing flat word notes f scopes None v = ⊥
 DefinitionBreaks typing flat word notes f scopes (Some b) v =
     SomeBehind (λ before at. LabelTwice word before at v) (body_labels b)
-    ⊎ (OutermostBreaks typing (known word notes f b) (behind_parameters word f.parameters (entered scopes)) b v
+    ⊎ (OutermostBreaks typing (known word notes f b) (inside word f scopes) b v
     ⊎ Tangled typing flat word notes f b scopes v)
 
 -- in a function, which these scopes are round

@@ -6,6 +6,7 @@ pub mod Violations
 pub mod Calls
 pub mod Comments
 pub mod Expressions
+pub mod Arrays
 pub mod Declared
 pub mod Switches
 pub mod Statements

@@ -1,6 +1,6 @@
 -- What expressions mean (ISO/IEC 9899:2011, 6.5): one row for each form. Where a rule is broken in an expression, it means
 -- nothing.
-use Rattle.std.specs.Prelude.{◌≡◌, ◌⊎◌, ℕ, ℤ, Bool, true, false, List, [], ◌∷◌, ◌++◌, Some, None}
+use Rattle.std.specs.Prelude.{◌≡◌, ◌⊎◌, ℕ, ℤ, Bool, true, false, List, [], ◌∷◌, Some, None}
 use Rattle.c_types.specs.declared.kinds.IntKind.{IntKind}
 use Rattle.c_types.specs.declared.kinds.IntKind.TheVariants.{Int}
 use Rattle.c_types.specs.Numbers.{usual_kind}
@@ -129,5 +129,5 @@ abbrev mutual
   AreMeant env (Then t ts) xs = (y : Typed) × (ys : List Typed) × Means env t y × AreMeant env ts ys × (xs ≡ y ∷ ys)
 
 -- a constant expression (6.6) without a trap, and its value
-abbrev pub IsConstant : Env → Term → Expression → ℤ → Type 0
-IsConstant env t e n = (v : Valued) × Means env t (Value v) × (with_value (expression v) ≡ Some (e, n))
+abbrev pub IsConstantExpression : Env → Term → Expression → ℤ → Type 0
+IsConstantExpression env t e n = (v : Valued) × Means env t (Value v) × (with_value (expression v) ≡ Some (e, n))

@@ -13,7 +13,8 @@ use Rattle.rule_defs.specs.Bindings.{with_declaration}
 pub record Place : Type 0 where
   -- the scopes round it, the nearest first, each with its declarations before the place
   pub scopes : List Scope
-  -- how many variables the function has before it, with its parameters and those of nested lists
+  -- how many variables the function has before it, with its parameters and those of nested lists; no rule asks for it, the
+  -- program does
   pub variables : ℕ
   -- the constructs round it
   pub around : Around

@@ -8,7 +8,7 @@ use Rattle.c_lexer.specs.declared.token.Token.{Token}
 use Rattle.c_lexer.specs.declared.token.Span.{Span}
 use Rattle.c_layers.specs.Words.{word_of}
 use Rattle.c_layers.specs.Items.{Declarator}
-use Rattle.c_layers.specs.Tops.{Enumerator, Function, Form, Line, Enum, Globals, Defines, Unread, Top, From}
+use Rattle.c_layers.specs.Tops.{Enumerator, Form, Line, Enum, Globals, Defines, Unread, Top, From}
 use Rattle.c_kinds.specs.Scopes.{Scope}
 use Rattle.c_statements.specs.declared.extents.Kinded.{Kinded}
 use Rattle.c_statements.specs.declared.anchors.Anchor.TheVariants.{Before, Last}

@@ -11,7 +11,7 @@ use Rattle.rule_defs.specs.Typings.{Typing}
 use Rattle.rule_defs.specs.Labels.{InFunction}
 use Rattle.rule_defs.specs.Behind.{IsOne}
 use Rattle.rule_defs.specs.Declared.{DeclarationBreaks}
-use Rattle.rule_defs.specs.Expressions.{Role, NeedsValue, NeedsConstant, MayBeVoid, MayBeAnything, Within}
+use Rattle.rule_defs.specs.Expressions.{Role, NeedsValue, NeedsConstant, MayBeVoid, IsJudgedElsewhere, ExpressionBreaks}
 use Rattle.rule_defs.specs.Places.{Place, env_of, within, within_loop, within_switch, behind_start}
 use Rattle.rule_defs.specs.Slots.{past_body, behind}
 use Rattle.rule_defs.specs.Switches.{body_entries, EntriesBreak, IsLost}
@@ -19,10 +19,11 @@ use Rattle.rule_defs.specs.Violations.{broken}
 
 -- ---- one statement
 
+-- a label at a place with these constructs round it, and the constant of a case
 pub data LabelBreaks (env : Env) (around : Around) : Label → Fault → Type 0 where
   case_outside : {at after : ℕ} {t : Term} → around.switch ≡ false → LabelBreaks env around (Case at after t) (broken at 29)
   default_outside : {at after : ℕ} → around.switch ≡ false → LabelBreaks env around (Default at after) (broken at 29)
-  bad_case : {at after : ℕ} {t : Term} {v : Fault} → Within env NeedsConstant t v → LabelBreaks env around (Case at after t) v
+  bad_case : {at after : ℕ} {t : Term} {v : Fault} → ExpressionBreaks env NeedsConstant t v → LabelBreaks env around (Case at after t) v
 
 abbrev pub LabelsBreak : Env → Around → List Label → Fault → Type 0
 LabelsBreak env around [] v = ⊥
@@ -39,15 +40,17 @@ pub data StatementBreaks (f : InFunction) (around : Around) (first : ℕ) : Stat
 -- what a `return` in a function of this result needs
 abbrev pub returned : Option IntKind → Role
 returned (Some kind) = NeedsValue
-returned None = MayBeAnything
+returned None = IsJudgedElsewhere
 
-abbrev pub WithinOption : Env → Role → Option Term → Fault → Type 0
-WithinOption env role (Some t) v = Within env role t v
-WithinOption env role None v = ⊥
+-- an expression that may be left out
+abbrev pub OptionBreaks : Env → Role → Option Term → Fault → Type 0
+OptionBreaks env role (Some t) v = ExpressionBreaks env role t v
+OptionBreaks env role None v = ⊥
 
+-- the first part of a `for`
 abbrev pub StartBreaks : Typing → (ℕ → List ℕ) → Place → Start → Fault → Type 0
 StartBreaks typing word p NoStart v = ⊥
-StartBreaks typing word p (StartValue t) v = Within (env_of word p) MayBeVoid t v
+StartBreaks typing word p (StartValue t) v = ExpressionBreaks (env_of word p) MayBeVoid t v
 StartBreaks typing word p (StartNames d) v = DeclarationBreaks typing word p d v
 
 -- ---- a rule is broken by a statement at this place, or within it
@@ -61,21 +64,21 @@ abbrev mutual
   PlainBreaks typing f p (From first after s) v = StatementBreaks f p.around first s v ⊎ InStatement typing f p s v
 
   pub InStatement : Typing → InFunction → Place → Statement → Fault → Type 0
-  InStatement typing f p (Evaluate t) v = Within (env_of f.word p) MayBeVoid t v
-  InStatement typing f p (If t b) v = Within (env_of f.word p) NeedsValue t v ⊎ BodyBreaks typing f p b v
-  InStatement typing f p (IfElse t b c) v = Within (env_of f.word p) NeedsValue t v ⊎ (BodyBreaks typing f p b v ⊎ BodyBreaks typing f (past_body typing f.word b p) c v)
-  InStatement typing f p (While t b) v = Within (env_of f.word p) NeedsValue t v ⊎ BodyBreaks typing f (within_loop p) b v
-  InStatement typing f p (DoWhile b t) v = BodyBreaks typing f (within_loop p) b v ⊎ Within (env_of f.word p) NeedsValue t v
+  InStatement typing f p (Evaluate t) v = ExpressionBreaks (env_of f.word p) MayBeVoid t v
+  InStatement typing f p (If t b) v = ExpressionBreaks (env_of f.word p) NeedsValue t v ⊎ BodyBreaks typing f p b v
+  InStatement typing f p (IfElse t b c) v = ExpressionBreaks (env_of f.word p) NeedsValue t v ⊎ (BodyBreaks typing f p b v ⊎ BodyBreaks typing f (past_body typing f.word b p) c v)
+  InStatement typing f p (While t b) v = ExpressionBreaks (env_of f.word p) NeedsValue t v ⊎ BodyBreaks typing f (within_loop p) b v
+  InStatement typing f p (DoWhile b t) v = BodyBreaks typing f (within_loop p) b v ⊎ ExpressionBreaks (env_of f.word p) NeedsValue t v
   InStatement typing f p (For start t u b) v =
       let inner = behind_start f.word start (within p) in
-      StartBreaks typing f.word (within p) start v ⊎ (WithinOption (env_of f.word inner) NeedsValue t v ⊎ (WithinOption (env_of f.word inner) MayBeVoid u v ⊎ BodyBreaks typing f (within_loop inner) b v))
+      StartBreaks typing f.word (within p) start v ⊎ (OptionBreaks (env_of f.word inner) NeedsValue t v ⊎ (OptionBreaks (env_of f.word inner) MayBeVoid u v ⊎ BodyBreaks typing f (within_loop inner) b v))
   InStatement typing f p (Switch t b) v =
-      Within (env_of f.word p) NeedsValue t v
+      ExpressionBreaks (env_of f.word p) NeedsValue t v
       ⊎ (BodyBreaks typing f (within_switch p) b v
       ⊎ (IsLost (items_in b) v
       ⊎ EntriesBreak (option_map (λ x. x.kind) (value_of (typing (env_of f.word p) t))) (body_entries typing f.word p b) v))
   InStatement typing f p (Block b) v = BodyBreaks typing f p b v
-  InStatement typing f p (Return t) v = WithinOption (env_of f.word p) (returned f.result) t v
+  InStatement typing f p (Return t) v = OptionBreaks (env_of f.word p) (returned f.result) t v
   InStatement typing f p _ v = ⊥
 
   pub BodyBreaks : Typing → InFunction → Place → Body → Fault → Type 0

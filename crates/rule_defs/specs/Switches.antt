@@ -16,7 +16,7 @@ use Rattle.rule_defs.specs.Places.{Place, env_of, within, behind_start}
 use Rattle.rule_defs.specs.Slots.{past_body, behind}
 use Rattle.rule_defs.specs.Violations.{broken}
 
--- ---- the case and default labels that belong to a switch, in text order; one within has its own
+-- ---- the case and default labels that belong to a switch, in text order; a switch within it keeps its own
 
 -- none for a case without a value, which breaks a rule itself
 abbrev pub case_entry : ℕ → Option (Expression × ℤ) → List Entry

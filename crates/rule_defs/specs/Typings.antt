@@ -1,4 +1,5 @@
--- What all expressions are: each is what it means.
+-- What all expressions are: each is what it means. Where a rule or a program needs what an expression is as a function, it asks
+-- a typing.
 use Rattle.std.specs.Prelude.{◌≡◌, ◌⊎◌}
 use Rattle.c_layers.specs.Terms.{Term}
 use Rattle.c_kinds.specs.declared.typed.Typed.{Typed}

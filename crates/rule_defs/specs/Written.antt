@@ -1,5 +1,5 @@
 -- What is written with expressions, by what those are.
-use Rattle.std.specs.Prelude.{ℤ, Bool, List, [], ◌∷◌, ◌++◌, Option, Some, None, option_map, option_and_then}
+use Rattle.std.specs.Prelude.{ℤ, List, [], ◌∷◌, ◌++◌, Option, Some, None, option_map, option_and_then}
 use Rattle.c_tree.specs.declared.tree.Expression.{Expression}
 use Rattle.c_tree.specs.declared.tree.Item as item
 use Rattle.c_tree.specs.declared.tree.Slot.{Slot}
@@ -13,7 +13,7 @@ use Rattle.c_statements.specs.declared.extents.Kinded.{Kinded}
 use Rattle.c_statements.specs.declared.extents.Length.{Length}
 use Rattle.c_statements.specs.declared.extents.Length.TheVariants.{NoLength, OfList, Constant}
 use Rattle.c_statements.specs.declared.anchors.Anchor.TheVariants.{Before}
-use Rattle.c_statements.specs.Declarations.{or_placeholder, constant_or_placeholder, extent_of, is_bad_shape, slot, shape_of, cells_of}
+use Rattle.c_statements.specs.Declarations.{or_placeholder, constant_or_placeholder, extent_of, slot, shape_of, cells_of}
 use Rattle.c_statements.specs.Statements.{or_dropped}
 use Rattle.c_scopes.specs.Enums.{an_int, next_value}
 use Rattle.rule_defs.specs.Typings.{Typing}
@@ -46,9 +46,6 @@ abbrev pub length_in : Typing → Env → Size → Length
 length_in typing env NoSize = NoLength
 length_in typing env Unsized = OfList
 length_in typing env (Sized t) = Constant (worth typing env t)
-
-abbrev pub is_bad_array : Typing → Bool → Env → Declarator → Bool
-is_bad_array typing local env d = is_bad_shape local (length_in typing env d.size) d.value
 
 abbrev pub slot_of : Typing → Env → Kinded → Declarator → Slot
 slot_of typing env k d = slot (env.word d.name) (shape_of k d) (cells_of (extent_of (length_in typing env d.size) d.value))
@@ -83,10 +80,10 @@ section_cases typing env (l ∷ ls) = label_cases typing env l ++ section_cases 
 -- ---- enum constants
 
 -- the number that is written, or one more than the value of the constant before
-abbrev pub number_of : Typing → Env → Option Term → Option ℤ → Option ℤ
-number_of typing env (Some t) before = worth typing env t
-number_of typing env None before = next_value before
+abbrev pub enumerator_number : Typing → Env → Option Term → Option ℤ → Option ℤ
+enumerator_number typing env (Some t) before = worth typing env t
+enumerator_number typing env None before = next_value before
 
 -- none where the number is no int
-abbrev pub value_of : Typing → Env → Option Term → Option ℤ → Option ℤ
-value_of typing env t before = option_and_then an_int (number_of typing env t before)
+abbrev pub enumerator_value : Typing → Env → Option Term → Option ℤ → Option ℤ
+enumerator_value typing env t before = option_and_then an_int (enumerator_number typing env t before)

@@ -5,7 +5,7 @@ use Rattle.c_layers.specs.Terms.{Term, Form, Terms, At, Constant, Variable, Cell
 use Rattle.c_kinds.specs.Marks.{step_of}
 use Rattle.c_kinds.specs.Scopes.{Env}
 use Rattle.c_kinds.specs.Typing.{used, unused, faults, form_faults, target_faults, unused_faults, given_faults, constant_faults}
-use Rattle.rule_defs.specs.Expressions.{NeedsValue, NeedsConstant, MayBeVoid, MayBeAnything, Within, WithinForm, WithinTarget, WithinTerms}
+use Rattle.rule_defs.specs.Expressions.{NeedsValue, NeedsConstant, MayBeVoid, IsJudgedElsewhere, ExpressionBreaks, InExpression, TargetBreaks, ExpressionsBreak}
 use Rattle.rule_laws.specs.Finds.{Finds}
 use Rattle.rule_laws.proofs.Finding.{finds_none, finds_both}
 use Rattle.rule_laws.proofs.Uses.{read_name, read_cell, write_name, write_cell, needs_value, needs_constant, may_be_void, may_be_anything}
@@ -13,13 +13,13 @@ use Rattle.rule_laws.proofs.Calls.{call}
 
 module _ (env : Env) where
   -- `++` and `--` write to what stands behind them
-  prefixed : (o : Option Bool) (a : Term) → Finds (target_faults env a) (λ v. WithinTarget env a v) → Finds (λ vs. used env a (faults env a vs)) (λ v. Within env NeedsValue a v)
-      → Finds (λ vs. elim o [ Some up ↦ target_faults env a vs | None ↦ used env a (faults env a vs) ]) (λ v. elim o [ Some up ↦ WithinTarget env a v | None ↦ Within env NeedsValue a v ])
+  prefixed : (o : Option Bool) (a : Term) → Finds (target_faults env a) (λ v. TargetBreaks env a v) → Finds (λ vs. used env a (faults env a vs)) (λ v. ExpressionBreaks env NeedsValue a v)
+      → Finds (λ vs. elim o [ Some up ↦ target_faults env a vs | None ↦ used env a (faults env a vs) ]) (λ v. elim o [ Some up ↦ TargetBreaks env a v | None ↦ ExpressionBreaks env NeedsValue a v ])
   prefixed (Some up) a t u = t
   prefixed None a t u = u
 
   mutual
-    pub form : (x : Form) → Finds (form_faults env x) (λ v. WithinForm env x v)
+    pub form : (x : Form) → Finds (form_faults env x) (λ v. InExpression env x v)
     form (Constant at) = finds_none
     form (Variable at) = read_name env at
     form (Cell at i) = finds_both _ _ _ _ (value i) (read_cell env at i)
@@ -36,17 +36,17 @@ module _ (env : Env) where
     form Unknown = finds_none
 
     -- an expression of which the value is used
-    pub value : (t : Term) → Finds (λ vs. used env t (faults env t vs)) (λ v. Within env NeedsValue t v)
+    pub value : (t : Term) → Finds (λ vs. used env t (faults env t vs)) (λ v. ExpressionBreaks env NeedsValue t v)
     value (At first x) = finds_both _ _ _ _ (form x) (needs_value env (At first x))
 
     -- of which the value, if it has one, is dropped
-    pub dropped : (t : Term) → Finds (λ vs. unused env t (faults env t vs)) (λ v. Within env MayBeVoid t v)
+    pub dropped : (t : Term) → Finds (λ vs. unused env t (faults env t vs)) (λ v. ExpressionBreaks env MayBeVoid t v)
     dropped (At first x) = finds_both _ _ _ _ (form x) (may_be_void env (At first x))
 
-    pub argument : (t : Term) → Finds (faults env t) (λ v. Within env MayBeAnything t v)
+    pub argument : (t : Term) → Finds (faults env t) (λ v. ExpressionBreaks env IsJudgedElsewhere t v)
     argument (At first x) = finds_both _ _ _ _ (form x) (may_be_anything env (At first x))
 
-    target : (t : Term) → Finds (target_faults env t) (λ v. WithinTarget env t v)
+    target : (t : Term) → Finds (target_faults env t) (λ v. TargetBreaks env t v)
     target (At first (Variable at)) = write_name env at
     target (At first (Cell at i)) = finds_both _ _ _ _ (value i) (write_cell env at i)
     target (At first (Constant at)) = finds_none
@@ -62,14 +62,14 @@ module _ (env : Env) where
     target (At first (Texts ats)) = finds_none
     target (At first Unknown) = finds_none
 
-    all_dropped : (xs : Terms) → Finds (unused_faults env xs) (λ v. WithinTerms env MayBeVoid xs v)
+    all_dropped : (xs : Terms) → Finds (unused_faults env xs) (λ v. ExpressionsBreak env MayBeVoid xs v)
     all_dropped NoTerm = finds_none
     all_dropped (Then x xs) = finds_both _ _ _ _ (dropped x) (all_dropped xs)
 
-    arguments : (xs : Terms) → Finds (given_faults env xs) (λ v. WithinTerms env MayBeAnything xs v)
+    arguments : (xs : Terms) → Finds (given_faults env xs) (λ v. ExpressionsBreak env IsJudgedElsewhere xs v)
     arguments NoTerm = finds_none
     arguments (Then x xs) = finds_both _ _ _ _ (argument x) (arguments xs)
 
   -- a constant expression
-  pub constant : (t : Term) → Finds (constant_faults env t) (λ v. Within env NeedsConstant t v)
+  pub constant : (t : Term) → Finds (constant_faults env t) (λ v. ExpressionBreaks env NeedsConstant t v)
   constant (At first x) = finds_both _ _ _ _ (form x) (needs_constant env (At first x))

@@ -13,7 +13,7 @@ use Rattle.c_kinds.specs.Typing.{typed, used, unused}
 use Rattle.c_kinds.specs.Values.{use_fault, drop_fault}
 use Rattle.rule_defs.specs.Violations.{broken}
 use Rattle.rule_defs.specs.Bindings.{IsBoundTo, IsUnbound}
-use Rattle.rule_defs.specs.Expressions.{IsFunction, is_array, is_number, is_const, ReadBreaks, WriteBreaks, NeedsValue, NeedsConstant, MayBeVoid, MayBeAnything, UseBreaks}
+use Rattle.rule_defs.specs.Expressions.{IsFunction, is_array, is_number_variable, is_const, ReadBreaks, WriteBreaks, NeedsValue, NeedsConstant, MayBeVoid, IsJudgedElsewhere, UseBreaks}
 use Rattle.rule_defs.specs.Meanings.{Means}
 use Rattle.meaning_laws.proofs.Meanings.{is_typed, typed_is}
 use Rattle.meaning_laws.proofs.Constants.{constant_not, no_constant}
@@ -95,7 +95,7 @@ module _ (env : Env) (at : ℕ) where
   turned true x y = refl
   turned false x y = refl
 
-  a_number : (b : Binding) (vs : Faults) → target_fault true false at (Some b) vs ≡ cond (is_number b) (fault_if (is_const b) at 26 vs) (fault at 22 vs)
+  a_number : (b : Binding) (vs : Faults) → target_fault true false at (Some b) vs ≡ cond (is_number_variable b) (fault_if (is_const b) at 26 vs) (fault at 22 vs)
   a_number (Constant n) vs = refl
   a_number (Global shape) vs = turned shape.array (fault at 22 vs) (fault_if shape.constant at 26 vs)
   a_number (Local slot shape) vs = turned shape.array (fault at 22 vs) (fault_if shape.constant at 26 vs)
@@ -154,16 +154,16 @@ module _ (env : Env) (at : ℕ) where
       only v (WriteBreaks.no_number b h f) = absurd (not_bound b h e)
       only v (WriteBreaks.const b h f g) = absurd (not_bound b h e)
   write_name_by (Some c) e =
-      finds_as (target_fault true false at (Some c)) _ _ (a_number c) (finds_same _ _ (λ v. WriteBreaks env (Variable at) v) (shaped (is_number c) (is_const c)) to fro)
+      finds_as (target_fault true false at (Some c)) _ _ (a_number c) (finds_same _ _ (λ v. WriteBreaks env (Variable at) v) (shaped (is_number_variable c) (is_const c)) to fro)
     where
-      to : (v : Fault) → ((is_number c ≡ false) × (v ≡ broken at 22)) ⊎ ((is_number c ≡ true) × (is_const c ≡ true) × (v ≡ broken at 26)) → WriteBreaks env (Variable at) v
+      to : (v : Fault) → ((is_number_variable c ≡ false) × (v ≡ broken at 22)) ⊎ ((is_number_variable c ≡ true) × (is_const c ≡ true) × (v ≡ broken at 26)) → WriteBreaks env (Variable at) v
       to v (inl p) = subst (λ w. WriteBreaks env (Variable at) w) (sym p.1) (WriteBreaks.no_number c (bound c e) p.0)
       to v (inr p) = subst (λ w. WriteBreaks env (Variable at) w) (sym p.2) (WriteBreaks.const c (bound c e) p.0 p.1)
 
-      fro : (v : Fault) → WriteBreaks env (Variable at) v → ((is_number c ≡ false) × (v ≡ broken at 22)) ⊎ ((is_number c ≡ true) × (is_const c ≡ true) × (v ≡ broken at 26))
+      fro : (v : Fault) → WriteBreaks env (Variable at) v → ((is_number_variable c ≡ false) × (v ≡ broken at 22)) ⊎ ((is_number_variable c ≡ true) × (is_const c ≡ true) × (v ≡ broken at 26))
       fro v (WriteBreaks.undeclared u) = absurd (not_both c u e)
-      fro v (WriteBreaks.no_number b h f) = inl (subst (λ x. is_number x ≡ false) (same_bound b c h e) f, refl)
-      fro v (WriteBreaks.const b h f g) = inr (subst (λ x. is_number x ≡ true) (same_bound b c h e) f, subst (λ x. is_const x ≡ true) (same_bound b c h e) g, refl)
+      fro v (WriteBreaks.no_number b h f) = inl (subst (λ x. is_number_variable x ≡ false) (same_bound b c h e) f, refl)
+      fro v (WriteBreaks.const b h f g) = inr (subst (λ x. is_number_variable x ≡ true) (same_bound b c h e) f, subst (λ x. is_const x ≡ true) (same_bound b c h e) g, refl)
 
   pub write_name : Finds (target_fault true false at (meaning env at)) (λ v. WriteBreaks env (Variable at) v)
   write_name = write_name_by (meaning env at) refl
@@ -253,10 +253,10 @@ module _ (env : Env) (t : Term) where
   pub may_be_void : Finds (unused env t) (λ v. UseBreaks env t MayBeVoid v)
   may_be_void = drop_by (typed env t) refl
 
-  pub may_be_anything : Finds (λ vs. vs) (λ v. UseBreaks env t MayBeAnything v)
-  may_be_anything = finds_nothing (λ v. UseBreaks env t MayBeAnything v) only
+  pub may_be_anything : Finds (λ vs. vs) (λ v. UseBreaks env t IsJudgedElsewhere v)
+  may_be_anything = finds_nothing (λ v. UseBreaks env t IsJudgedElsewhere v) only
     where
-      only : (v : Fault) → UseBreaks env t MayBeAnything v → ⊥
+      only : (v : Fault) → UseBreaks env t IsJudgedElsewhere v → ⊥
       only v (UseBreaks.void n i f) = i
       only v (UseBreaks.text bytes i f) = i
       only v (UseBreaks.array a i f) = i
