@@ -6,3 +6,4 @@ pub mod StrayLists
 pub mod Totals
 pub mod Gathered
 pub mod Without
+pub mod CalmLaws

@@ -6,6 +6,7 @@ ghost use Rattle.flat_form.specs.Codes.{label_codes};
 ghost use Rattle.flat_names.specs.FlatNames.{flat_names_beside};
 ghost use Rattle.flat_form.specs.Flattened.{applied, IsBodyForm, IsFormBeside, IsFlattenedBeside};
 
+use crate::calm::is_calm;
 use crate::unlabelling::unlabelled;
 use crate::{FlatBody, flat_body};
 use c_tree::{Function, Item};
@@ -102,7 +103,8 @@ fn apply(alloc: Global, function: &mut Function, form: Form)
 }
 
 /// Puts a function into its flat form, where the names of its program are gathered. They are kept for the next function,
-/// also after `Memory`, the only failure. The body is made beside the old one, so that the function is as it was then.
+/// also after `Memory`, the only failure. The body is made beside the old one, so that the function is as it was then;
+/// one with neither jumps nor labels stays where it is.
 pub fn flatten_function(
     alloc: Global,
     names: &mut ProgramNames,
@@ -113,6 +115,10 @@ pub fn flatten_function(
     ensures used { names.new.used.file ≡ names.old.used.file }
     ensures taken { names.new.taken.file ≡ names.old.taken.file }
 {
+    if is_calm(function) {
+        drop(mem::replace(&mut function.labels, List::new(alloc)));
+        return Ok(());
+    }
     let form = form_of(alloc, names, function)?;
     apply(alloc, function, form);
     Ok(())

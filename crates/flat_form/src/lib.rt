@@ -2,6 +2,7 @@
 #![tactic(auto)]
 
 mod bodies;
+mod calm;
 mod counting;
 mod flat_bodies_labels;
 mod flat_counts_labels;
