@@ -26,6 +26,6 @@ pub fn tidy(alloc: Global, program: Program) -> Result<(Program, u64), Memory>
 {
     let mut program = program;
     let changes = change_tops(alloc, &mut program.tops)?;
-    let made = plain(alloc, &List::new(alloc), &program)?;
+    let made = plain(alloc, &List::new(alloc), program)?;
     Ok((made, changes))
 }

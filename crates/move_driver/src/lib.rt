@@ -5,6 +5,6 @@ mod counts;
 mod program;
 mod text;
 
-pub use counts::{Counts, count};
+pub use counts::{Counts, count, slot_counts};
 pub use program::{flatten_tops, restructure_program};
 pub use text::{Written, restructure_text};

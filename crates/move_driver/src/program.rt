@@ -12,7 +12,7 @@ ghost use Rattle.move_driver.specs.Restructured.{IsRestructured, IsOnly};
 ghost use Rattle.move_driver.specs.Settled.{IsSettled};
 ghost use Rattle.move_driver.specs.Flattened.{IsTopFlattenedBeside, AreFlattenedBeside};
 
-use crate::counts::{Counts, count};
+use crate::counts::{Counts, count, slot_counts};
 use c_copies::{file_names, names};
 use c_tree::{Program, Top};
 use c_types::{List, Memory};
@@ -89,8 +89,9 @@ pub fn rewrite(alloc: Global, program: Program) -> Result<Rewritten, Memory>
     let mut gathered = ProgramNames::new(alloc, &used, &of_file)?;
     flatten_tops(alloc, &mut gathered, &mut program.tops)?;
     let moves = move_program(alloc, &mut program)?;
-    let made = plain(alloc, &used, &program)?;
-    let counts = count(&moves, &program, &made);
+    let before = slot_counts(alloc, &program)?;
+    let made = plain(alloc, &used, program)?;
+    let counts = count(&moves, &before, &made);
     Ok(Rewritten {
         program: made,
         moves,

@@ -24,7 +24,7 @@ use c_copies::{file_names, names};
 use c_tree::{Program, Top};
 use c_types::{List, Memory, Name, ReadStop, Refusal};
 use flat_names::ProgramNames;
-use move_driver::{Counts, count, flatten_tops};
+use move_driver::{Counts, count, flatten_tops, slot_counts};
 use plain_form::plain;
 use print_limits::is_within_limits;
 use replay_moves::convert_tops;
@@ -51,16 +51,17 @@ fn finish(
     alloc: Global,
     used: &List<Name>,
     moves: &List<Move>,
-    program: &Program,
+    program: Program,
     report: &[u8],
 ) -> Result<(Program, Counts), ReadStop>
-    ensures ok { IfOk result (λ r. IsFinished used.now moves.now program.now r.0 r.1) }
-    ensures deep { (refusal : Refusal) → result ≡ Err (ReadStop.Refused refusal) → ¬ (IsWithinLimits (the_plain used.now program.now)) }
+    ensures ok { IfOk result (λ r. IsFinished used.now moves.now program r.0 r.1) }
+    ensures deep { (refusal : Refusal) → result ≡ Err (ReadStop.Refused refusal) → ¬ (IsWithinLimits (the_plain used.now program)) }
     ensures refused { (refusal : Refusal) → result ≡ Err (ReadStop.Refused refusal) → IsAt 53 (length moves.now + 1) (length report.now) refusal }
 {
+    let before = slot_counts(alloc, &program)?;
     let made = plain(alloc, used, program)?;
     if is_within_limits(&made) {
-        let counts = count(moves, program, &made);
+        let counts = count(moves, &before, &made);
         Ok((made, counts))
     } else {
         Err(refused(53, moves.len() as u64 + 1, report.len()))
@@ -86,7 +87,7 @@ fn made_by(
     let mut program = program;
     start(alloc, &used, &of_file, &mut program.tops)?;
     match make_all(alloc, &mut program.tops, moves, report) {
-        Ok(()) => finish(alloc, &used, moves, &program, report),
+        Ok(()) => finish(alloc, &used, moves, program, report),
         Err(stop) => Err(stop),
     }
 }

@@ -2,3 +2,4 @@ pub mod Few
 pub mod Made
 pub mod Marks
 pub mod Plain
+pub mod Staying

@@ -3,7 +3,6 @@ ghost use Rattle.c_types.specs.Numbers.{least as the_least};
 ghost use Rattle.plain_laws.specs.Plain.{expression as the_expression, number as the_number, guard as the_guard, guard_off as the_guard_off, guard_set as the_guard_set, is_truth as the_is_truth, is_truth_mark as the_is_truth_mark, truth as the_truth, least_constant as the_least_constant, constant as the_constant, promoted as the_promoted, plain_test as the_plain_test, selector_kind as the_selector_kind, picked as the_picked, plain_selector as the_plain_selector, armed as the_armed, slot_among};
 
 use crate::slots::Slots;
-use c_copies::copy_expression;
 use c_tree::{BinaryOp, Expression, Home, Item, Node, Place, Selector, Test, UnaryOp};
 use c_types::{ArithOp, Boxed, IntKind, Memory, promote};
 use std::alloc::Global;
@@ -91,21 +90,20 @@ fn compared_with_zero(alloc: Global, e: Expression) -> Result<Expression, Memory
     Ok(binary(IntKind::Int, BinaryOp::Unequal, e, zero))
 }
 
-/// The value of a condition as 0 or 1: a copy of it, compared with 0 unless it is 0 or 1 anyway.
-fn truth(alloc: Global, e: &Expression) -> Result<Expression, Memory>
-    ensures { IfOk result (λ it. it ≡ the_truth e.now) }
+/// The value of a condition as 0 or 1: compared with 0 unless it is 0 or 1 anyway.
+fn truth(alloc: Global, e: Expression) -> Result<Expression, Memory>
+    ensures { IfOk result (λ it. it ≡ the_truth e) }
 {
-    let copy = copy_expression(alloc, e)?;
-    if is_truth(e) {
-        Ok(copy)
+    if is_truth(&e) {
+        Ok(e)
     } else {
-        compared_with_zero(alloc, copy)
+        compared_with_zero(alloc, e)
     }
 }
 
 /// What the guard of a label is set to where its jump is taken.
-pub fn armed(alloc: Global, e: &Option<Expression>) -> Result<Expression, Memory>
-    ensures { IfOk result (λ it. it ≡ the_armed e.now) }
+pub fn armed(alloc: Global, e: Option<Expression>) -> Result<Expression, Memory>
+    ensures { IfOk result (λ it. it ≡ the_armed e) }
 {
     match e {
         None => Ok(number(IntKind::Int, 1)),
@@ -167,20 +165,20 @@ fn on_or(alloc: Global, slot: u32, rest: Expression) -> Result<Expression, Memor
 }
 
 /// A test in which guards are variables.
-pub fn plain_test(alloc: Global, slots: &Slots, test: &Test) -> Result<Expression, Memory>
-    ensures { IfOk result (λ it. it ≡ the_plain_test (slot_among slots.now.base slots.now.left) test.now) }
+pub fn plain_test(alloc: Global, slots: &Slots, test: Test) -> Result<Expression, Memory>
+    ensures { IfOk result (λ it. it ≡ the_plain_test (slot_among slots.now.base slots.now.left) test) }
 {
     match test {
-        Test::Source(e) => copy_expression(alloc, e),
-        Test::On(label) => Ok(guard(slots.slot(*label))),
-        Test::Off(label) => guard_off(alloc, slots.slot(*label)),
+        Test::Source(e) => Ok(e),
+        Test::On(label) => Ok(guard(slots.slot(label))),
+        Test::Off(label) => guard_off(alloc, slots.slot(label)),
         Test::AndOff(label, rest) => {
-            let rest = plain_test(alloc, slots, rest.get())?;
-            off_and(alloc, slots.slot(*label), rest)
+            let rest = plain_test(alloc, slots, rest.into_inner())?;
+            off_and(alloc, slots.slot(label), rest)
         }
         Test::OrOn(label, rest) => {
-            let rest = plain_test(alloc, slots, rest.get())?;
-            on_or(alloc, slots.slot(*label), rest)
+            let rest = plain_test(alloc, slots, rest.into_inner())?;
+            on_or(alloc, slots.slot(label), rest)
         }
     }
 }
@@ -223,15 +221,15 @@ fn picked(
     alloc: Global,
     slots: &Slots,
     kind: IntKind,
-    selector: &Selector,
+    selector: Selector,
 ) -> Result<Expression, Memory>
-    ensures { IfOk result (λ it. it ≡ the_picked (slot_among slots.now.base slots.now.left) kind selector.now) }
+    ensures { IfOk result (λ it. it ≡ the_picked (slot_among slots.now.base slots.now.left) kind selector) }
 {
     match selector {
-        Selector::Source(e) => copy_expression(alloc, e),
+        Selector::Source(e) => Ok(e),
         Selector::Pick(label, n, rest) => {
-            let rest = picked(alloc, slots, kind, rest.get())?;
-            number_or(alloc, kind, slots.slot(*label), *n, rest)
+            let rest = picked(alloc, slots, kind, rest.into_inner())?;
+            number_or(alloc, kind, slots.slot(label), n, rest)
         }
     }
 }
@@ -240,10 +238,10 @@ fn picked(
 pub fn plain_selector(
     alloc: Global,
     slots: &Slots,
-    selector: &Selector,
+    selector: Selector,
 ) -> Result<Expression, Memory>
-    ensures { IfOk result (λ it. it ≡ the_plain_selector (slot_among slots.now.base slots.now.left) selector.now) }
+    ensures { IfOk result (λ it. it ≡ the_plain_selector (slot_among slots.now.base slots.now.left) selector) }
 {
-    let kind = promoted(selector_kind(selector));
+    let kind = promoted(selector_kind(&selector));
     picked(alloc, slots, kind, selector)
 }

@@ -1,18 +1,19 @@
 ghost use Rattle.std.specs.Prelude.{◌≡◌, ◌≤◌, ◌+◌, ◌-◌, ◌++◌, length, map, Some, IfOk};
 ghost use Rattle.guard_vars.specs.GuardNames.{guard_names_beside as the_guard_names_beside};
-ghost use Rattle.plain_laws.specs.Plain.{guard_slot, numbers_from, variable_declared, guard_declared as the_guard_declared, declared as the_declared, guarded_body as the_guarded_body, with_guard_variables as the_with_guard_variables, tidied, plain_function as the_plain_function};
+ghost use Rattle.plain_laws.specs.Plain.{guard_slot, numbers_from, variable_declared, guard_declared as the_guard_declared, declared as the_declared, guarded_body as the_guarded_body, with_guard_variables as the_with_guard_variables, tidied, plain_body, plain_function as the_plain_function};
 
 use crate::expressions::number;
 use crate::items::{plain_items, tidied_items};
 use crate::left::{Left, guards_left};
 use crate::sections::joined;
 use crate::slots::Slots;
-use c_copies::{copy_function, copy_slots};
+use crate::staying::stays;
 use c_fresh_names::UsedNames;
 use c_tree::{Function, Item, Slot};
 use c_types::{IntKind, List, MOST, Memory, Name};
 use guard_vars::guard_names_beside;
 use std::alloc::Global;
+use std::mem;
 
 fn declare_variables(alloc: Global, from: u32, to: u32) -> Result<List<Item>, Memory>
     ensures { IfOk result (λ it. it ≡ map variable_declared (numbers_from from (to - from))) }
@@ -68,25 +69,13 @@ fn with_guard_slots(slots: List<Slot>, names: List<Name>) -> Result<List<Slot>, 
     Ok(out)
 }
 
-/// The slots of a function and behind them those of its guards, which have these names.
-fn guarded_slots(
-    alloc: Global,
-    function: &Function,
-    names: List<Name>,
-) -> Result<List<Slot>, Memory>
-    ensures { IfOk result (λ it. it ≡ function.now.slots ++ map guard_slot names) }
-{
-    let slots = copy_slots(alloc, function.slots.as_slice())?;
-    with_guard_slots(slots, names)
-}
-
 fn guarded_body(
     alloc: Global,
     function: &Function,
     left: List<u32>,
-    body: &List<Item>,
+    body: List<Item>,
 ) -> Result<List<Item>, Memory>
-    ensures { IfOk result (λ it. it ≡ the_guarded_body function.now left body.now) }
+    ensures { IfOk result (λ it. it ≡ the_guarded_body function.now left body) }
 {
     let base = function.slots.len();
     if left.len() > MOST - base {
@@ -104,22 +93,31 @@ fn guarded_body(
 fn with_guard_variables(
     alloc: Global,
     used: &mut UsedNames,
-    function: &Function,
-    body: &List<Item>,
+    function: Function,
+    body: List<Item>,
 ) -> Result<Function, Memory>
-    ensures value { IfOk result (λ it. it ≡ the_with_guard_variables (the_guard_names_beside used.old.file function.now) function.now body.now) }
+    ensures value { IfOk result (λ it. it ≡ the_with_guard_variables (the_guard_names_beside used.old.file function) function body) }
     ensures file { used.new.file ≡ used.old.file }
 {
-    let name = function.name.copy(alloc)?;
-    let guards = guard_names_beside(alloc, used, function)?;
-    let Left { labels, names } = guards_left(alloc, body, guards)?;
-    let slots = guarded_slots(alloc, function, names)?;
-    let body = guarded_body(alloc, function, labels, body)?;
+    let guards = guard_names_beside(alloc, used, &function)?;
+    let Left { labels, names } = guards_left(alloc, &body, guards)?;
+    let body = guarded_body(alloc, &function, labels, body)?;
+    let Function {
+        name,
+        result,
+        file_only,
+        params,
+        slots,
+        labels: _,
+        body: _,
+        flat: _,
+    } = function;
+    let slots = with_guard_slots(slots, names)?;
     Ok(Function {
         name,
-        result: function.result,
-        file_only: function.file_only,
-        params: function.params,
+        result,
+        file_only,
+        params,
         slots,
         labels: List::new(alloc),
         body: Some(body),
@@ -127,57 +125,48 @@ fn with_guard_variables(
     })
 }
 
-fn copy_labels(alloc: Global, labels: &[Name]) -> Result<List<Name>, Memory>
-    ensures { IfOk result (λ it. it ≡ labels.now) }
+/// The function with the sections of its switches in the plain form.
+fn with_tidied_body(alloc: Global, function: Function, body: List<Item>) -> Result<Function, Memory>
+    ensures { IfOk result (λ it. it ≡ record function { body = Some (tidied body) }) }
 {
-    let mut out = List::new(alloc);
-    for label in labels {
-        out.push(label.copy(alloc)?)?;
-    }
-    Ok(out)
+    let body = tidied_items(alloc, body)?;
+    let mut function = function;
+    drop(mem::replace(&mut function.body, Some(body)));
+    Ok(function)
 }
 
-/// The function with the sections of its switches in the plain form.
-fn with_tidied_body(
+/// The plain form of a function with this body, which is taken out of it, where the names of its file are gathered.
+fn with_plain_body(
     alloc: Global,
-    function: &Function,
-    body: &List<Item>,
+    used: &mut UsedNames,
+    function: Function,
+    body: List<Item>,
 ) -> Result<Function, Memory>
-    ensures { IfOk result (λ it. it ≡ record function.now { body = Some (tidied body.now) }) }
+    ensures value { IfOk result (λ it. it ≡ plain_body (the_guard_names_beside used.old.file function) function (Some body)) }
+    ensures file { used.new.file ≡ used.old.file }
 {
-    let name = function.name.copy(alloc)?;
-    let slots = copy_slots(alloc, function.slots.as_slice())?;
-    let labels = copy_labels(alloc, function.labels.as_slice())?;
-    let body = tidied_items(alloc, body)?;
-    Ok(Function {
-        name,
-        result: function.result,
-        file_only: function.file_only,
-        params: function.params,
-        slots,
-        labels,
-        body: Some(body),
-        flat: function.flat,
-    })
+    if function.flat {
+        with_guard_variables(alloc, used, function, body)
+    } else {
+        with_tidied_body(alloc, function, body)
+    }
 }
 
 /// The plain form of a function, where the names of its file are gathered.
 pub fn plain_function(
     alloc: Global,
     used: &mut UsedNames,
-    function: &Function,
+    function: Function,
 ) -> Result<Function, Memory>
-    ensures value { IfOk result (λ it. it ≡ the_plain_function (the_guard_names_beside used.old.file function.now) function.now) }
+    ensures value { IfOk result (λ it. it ≡ the_plain_function (the_guard_names_beside used.old.file function) function) }
     ensures file { used.new.file ≡ used.old.file }
 {
-    match &function.body {
-        None => copy_function(alloc, function),
-        Some(body) => {
-            if function.flat {
-                with_guard_variables(alloc, used, function, body)
-            } else {
-                with_tidied_body(alloc, function, body)
-            }
-        }
+    if stays(&function) {
+        return Ok(function);
+    }
+    let mut function = function;
+    match mem::replace(&mut function.body, None) {
+        Some(body) => with_plain_body(alloc, used, function, body),
+        None => Ok(function),
     }
 }

@@ -1,28 +1,26 @@
-ghost use Rattle.std.specs.Prelude.{◌≡◌, IfOk};
-ghost use Rattle.plain_laws.specs.Plain.{given as the_given, plain_items as the_plain_items, slot_among, tidied};
+ghost use Rattle.std.specs.Prelude.{◌≡◌, length, IfOk, OnOk};
+ghost use Rattle.plain_laws.specs.Plain.{given as the_given, ended as the_ended, plain_items as the_plain_items, slot_among, tidied};
+ghost use Rattle.c_tree.specs.declared.tree.Section.{out-Section};
 ghost use Rattle.plain_form.specs.Made.{test_made, selector_made, arm_made, land_made, made_item as the_made_item, made_section as the_made_section, made_items as the_made_items, made_sections as the_made_sections};
 
 use crate::expressions::{armed, guard_set, number, plain_selector, plain_test};
-use crate::sections::{ended, given};
+use crate::sections::{end, given};
 use crate::slots::{Guards, Slots};
-use c_copies::{
-    copy_expressions, copy_item, copy_option, make_do as kept_do, make_for, make_if as kept_if,
-    make_switch as kept_switch, make_while as kept_while,
-};
 use c_tree::{Expression, Item, Section, Selector, Test};
 use c_types::{IntKind, List, Memory};
 use std::alloc::Global;
+use std::mem;
 
 fn make_arm(
     alloc: Global,
     guards: &Guards,
     label: u32,
-    e: &Option<Expression>,
+    e: Option<Expression>,
 ) -> Result<Item, Memory>
-    ensures { IfOk result (λ it. it ≡ arm_made guards.now label e.now) }
+    ensures { IfOk result (λ it. it ≡ arm_made guards.now label e) }
 {
     match guards {
-        Guards::Kept => Ok(Item::Arm(label, copy_option(alloc, e)?)),
+        Guards::Kept => Ok(Item::Arm(label, e)),
         Guards::Variables(slots) => {
             let e = armed(alloc, e)?;
             guard_set(alloc, slots.slot(label), e)
@@ -39,156 +37,147 @@ fn make_land(alloc: Global, guards: &Guards, label: u32) -> Result<Item, Memory>
     }
 }
 
-fn make_if(
-    alloc: Global,
-    guards: &Guards,
-    test: &Test,
-    a: List<Item>,
-    b: List<Item>,
-) -> Result<Item, Memory>
-    ensures { IfOk result (λ it. it ≡ Item.If (test_made guards.now test.now) a b) }
+fn make_test(alloc: Global, guards: &Guards, test: &mut Test) -> Result<(), Memory>
+    ensures { OnOk result (test.new ≡ test_made guards.now test.old) }
 {
     match guards {
-        Guards::Kept => kept_if(alloc, test, a, b),
+        Guards::Kept => Ok(()),
         Guards::Variables(slots) => {
-            let test = plain_test(alloc, slots, test)?;
-            Ok(Item::If(Test::Source(test), a, b))
+            let taken = mem::replace(test, Test::On(0));
+            let e = plain_test(alloc, slots, taken)?;
+            drop(mem::replace(test, Test::Source(e)));
+            Ok(())
         }
     }
 }
 
-fn make_while(alloc: Global, guards: &Guards, test: &Test, a: List<Item>) -> Result<Item, Memory>
-    ensures { IfOk result (λ it. it ≡ Item.While (test_made guards.now test.now) a) }
+/// A selector that stands in the place of one that is taken out.
+fn placeholder() -> Selector {
+    Selector::Source(number(IntKind::Int, 0))
+}
+
+fn make_selector(alloc: Global, guards: &Guards, selector: &mut Selector) -> Result<(), Memory>
+    ensures { OnOk result (selector.new ≡ selector_made guards.now selector.old) }
 {
     match guards {
-        Guards::Kept => kept_while(alloc, test, a),
+        Guards::Kept => Ok(()),
         Guards::Variables(slots) => {
-            let test = plain_test(alloc, slots, test)?;
-            Ok(Item::While(Test::Source(test), a))
+            let taken = mem::replace(selector, placeholder());
+            let e = plain_selector(alloc, slots, taken)?;
+            drop(mem::replace(selector, Selector::Source(e)));
+            Ok(())
         }
     }
 }
 
-fn make_do(alloc: Global, guards: &Guards, a: List<Item>, test: &Test) -> Result<Item, Memory>
-    ensures { IfOk result (λ it. it ≡ Item.Do a (test_made guards.now test.now)) }
+/// Gives the sections their entries, each to the next.
+fn give(alloc: Global, sections: &mut List<Section>) -> Result<(), Memory>
+    ensures { OnOk result (sections.new ≡ the_given sections.old) }
 {
-    match guards {
-        Guards::Kept => kept_do(alloc, a, test),
-        Guards::Variables(slots) => {
-            let test = plain_test(alloc, slots, test)?;
-            Ok(Item::Do(a, Test::Source(test)))
-        }
-    }
-}
-
-fn make_switch(
-    alloc: Global,
-    guards: &Guards,
-    selector: &Selector,
-    sections: List<Section>,
-) -> Result<Item, Memory>
-    ensures { IfOk result (λ it. it ≡ Item.Switch (selector_made guards.now selector.now) (the_given sections)) }
-{
-    let sections = given(alloc, sections)?;
-    match guards {
-        Guards::Kept => kept_switch(alloc, selector, sections),
-        Guards::Variables(slots) => {
-            let selector = plain_selector(alloc, slots, selector)?;
-            Ok(Item::Switch(Selector::Source(selector), sections))
-        }
-    }
+    let taken = mem::replace(sections, List::new(alloc));
+    let made = given(alloc, taken)?;
+    drop(mem::replace(sections, made));
+    Ok(())
 }
 
 /// The items with their guards in variables, in which each switch has its sections in the plain form.
-pub fn plain_items(alloc: Global, slots: Slots, list: &List<Item>) -> Result<List<Item>, Memory>
-    ensures { IfOk result (λ it. it ≡ tidied (the_plain_items (slot_among slots.base slots.left) list.now)) }
+pub fn plain_items(alloc: Global, slots: Slots, list: List<Item>) -> Result<List<Item>, Memory>
+    ensures { IfOk result (λ it. it ≡ tidied (the_plain_items (slot_among slots.base slots.left) list)) }
 {
     let guards = Guards::Variables(slots);
-    made_items(alloc, &guards, list)
+    let mut list = list;
+    make_list(alloc, &guards, &mut list)?;
+    Ok(list)
 }
 
 /// The items, in which each switch has its sections in the plain form.
-pub fn tidied_items(alloc: Global, list: &List<Item>) -> Result<List<Item>, Memory>
-    ensures { IfOk result (λ it. it ≡ tidied list.now) }
+pub fn tidied_items(alloc: Global, list: List<Item>) -> Result<List<Item>, Memory>
+    ensures { IfOk result (λ it. it ≡ tidied list) }
 {
-    made_items(alloc, &Guards::Kept, list)
+    let mut list = list;
+    make_list(alloc, &Guards::Kept, &mut list)?;
+    Ok(list)
 }
 
-/// The items with their guards as they become, in which each switch has its sections in the plain form.
+/// Gives the items their guards as they become, and each switch its sections in the plain form.
 #[cycle(made_items)]
-fn made_items(alloc: Global, guards: &Guards, list: &List<Item>) -> Result<List<Item>, Memory>
-    ensures { IfOk result (λ it. it ≡ the_made_items guards.now list.now) }
+fn make_list(alloc: Global, guards: &Guards, list: &mut List<Item>) -> Result<(), Memory>
+    ensures { OnOk result (list.new ≡ the_made_items guards.now list.old) }
 {
-    made_slice(alloc, guards, list.as_slice())
+    make_items(alloc, guards, list.as_mut_slice())
 }
 
 #[cycle(made_items)]
-fn made_slice(alloc: Global, guards: &Guards, items: &[Item]) -> Result<List<Item>, Memory>
-    ensures { IfOk result (λ it. it ≡ the_made_items guards.now items.now) }
+fn make_items(alloc: Global, guards: &Guards, items: &mut [Item]) -> Result<(), Memory>
+    ensures as_long { length items.new ≡ length items.old }
+    ensures made { OnOk result (items.new ≡ the_made_items guards.now items.old) }
 {
-    let mut out = List::from_vec(Vec::with_capacity(alloc, items.len())?);
-    for item in items {
-        out.push(made_item(alloc, guards, item)?)?;
+    for i in 0..items.len() {
+        make_item(alloc, guards, &mut items[i])?;
     }
-    Ok(out)
+    Ok(())
 }
 
 #[cycle(made_items)]
-fn made_sections(alloc: Global, guards: &Guards, items: &[Section]) -> Result<List<Section>, Memory>
-    ensures { IfOk result (λ it. it ≡ the_made_sections guards.now items.now) }
+fn make_sections(alloc: Global, guards: &Guards, items: &mut [Section]) -> Result<(), Memory>
+    ensures as_long { length items.new ≡ length items.old }
+    ensures made { OnOk result (items.new ≡ the_made_sections guards.now items.old) }
 {
-    let mut out = List::new(alloc);
-    for item in items {
-        out.push(made_section(alloc, guards, item)?)?;
+    for i in 0..items.len() {
+        make_section(alloc, guards, &mut items[i])?;
     }
-    Ok(out)
+    Ok(())
 }
 
 #[cycle(made_items)]
-fn made_section(alloc: Global, guards: &Guards, section: &Section) -> Result<Section, Memory>
-    ensures { IfOk result (λ it. it ≡ the_made_section guards.now section.now) }
+fn make_section(alloc: Global, guards: &Guards, section: &mut Section) -> Result<(), Memory>
+    ensures { OnOk result (section.new ≡ the_made_section guards.now section.old) }
 {
-    let cases = copy_expressions(alloc, section.cases.as_slice())?;
-    let list = made_items(alloc, guards, &section.list)?;
-    Ok(ended(Section {
-        cases,
-        default: section.default,
-        list,
-        ends: section.ends,
-    }))
+    make_list(alloc, guards, &mut section.list)?;
+    end(section);
+    Ok(())
 }
 
 #[cycle(made_items)]
-fn made_item(alloc: Global, guards: &Guards, item: &Item) -> Result<Item, Memory>
-    ensures { IfOk result (λ it. it ≡ the_made_item guards.now item.now) }
+fn make_item(alloc: Global, guards: &Guards, item: &mut Item) -> Result<(), Memory>
+    ensures { OnOk result (item.new ≡ the_made_item guards.now item.old) }
 {
     match item {
         Item::If(test, a, b) => {
-            let a = made_items(alloc, guards, a)?;
-            let b = made_items(alloc, guards, b)?;
-            make_if(alloc, guards, test, a, b)
+            make_list(alloc, guards, a)?;
+            make_list(alloc, guards, b)?;
+            make_test(alloc, guards, test)
         }
         Item::While(test, a) => {
-            let a = made_items(alloc, guards, a)?;
-            make_while(alloc, guards, test, a)
+            make_list(alloc, guards, a)?;
+            make_test(alloc, guards, test)
         }
         Item::Do(a, test) => {
-            let a = made_items(alloc, guards, a)?;
-            make_do(alloc, guards, a, test)
+            make_list(alloc, guards, a)?;
+            make_test(alloc, guards, test)
         }
-        Item::For(first, test, third, a) => {
-            let first = made_items(alloc, guards, first)?;
-            let a = made_items(alloc, guards, a)?;
-            make_for(alloc, first, test, third, a)
+        Item::For(first, _, _, a) => {
+            make_list(alloc, guards, first)?;
+            make_list(alloc, guards, a)
         }
         Item::Switch(selector, sections) => {
-            let sections = made_sections(alloc, guards, sections.as_slice())?;
-            make_switch(alloc, guards, selector, sections)
+            make_sections(alloc, guards, sections.as_mut_slice())?;
+            give(alloc, sections)?;
+            make_selector(alloc, guards, selector)
         }
-        Item::Block(a) => Ok(Item::Block(made_items(alloc, guards, a)?)),
-        Item::Arm(at, e) => make_arm(alloc, guards, *at, e),
-        Item::Land(at) => make_land(alloc, guards, *at),
+        Item::Block(a) => make_list(alloc, guards, a),
+        Item::Arm(at, e) => {
+            let taken = mem::replace(e, None);
+            let made = make_arm(alloc, guards, *at, taken)?;
+            drop(mem::replace(item, made));
+            Ok(())
+        }
+        Item::Land(at) => {
+            let made = make_land(alloc, guards, *at)?;
+            drop(mem::replace(item, made));
+            Ok(())
+        }
         // Any other item stays as it is.
-        _ => copy_item(alloc, item),
+        _ => Ok(()),
     }
 }

@@ -8,6 +8,7 @@ mod items;
 mod left;
 mod sections;
 mod slots;
+mod staying;
 mod tops;
 
 pub use tops::plain;

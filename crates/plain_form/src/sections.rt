@@ -60,26 +60,13 @@ fn takes_end(section: &Section) -> bool
     !section.ends && last_is_break(section.list.as_slice())
 }
 
-/// The section with its end in the place of a last `break`, if it has no end.
-pub fn ended(section: Section) -> Section
-    ensures { result ≡ the_ended (out-Section section) }
+/// Gives a section its end in the place of a last `break`, if it has no end.
+pub fn end(section: &mut Section)
+    ensures { section.new ≡ the_ended (out-Section section.old) }
 {
-    if !takes_end(&section) {
-        return section;
-    }
-    let Section {
-        cases,
-        default,
-        list,
-        ends: _,
-    } = section;
-    let mut list = list;
-    list.pop();
-    Section {
-        cases,
-        default,
-        list,
-        ends: true,
+    if takes_end(section) {
+        section.list.pop();
+        section.ends = true;
     }
 }
 

@@ -9,30 +9,26 @@ ghost use Rattle.plain_form.specs.Few.{AreFewInTops};
 ghost use Rattle.plain_form.specs.Plain.{plain as the_plain};
 
 use crate::functions::plain_function;
-use c_copies::copy_top;
 use c_fresh_names::UsedNames;
 use c_tree::{Program, Top};
 use c_types::{List, Memory, Name};
 use std::alloc::Global;
 
-fn plain_top(alloc: Global, used: &mut UsedNames, top: &Top) -> Result<Top, Memory>
-    ensures value { IfOk result (λ it. it ≡ the_plain_top (guard_names_beside used.old.file) top.now) }
+fn plain_top(alloc: Global, used: &mut UsedNames, top: Top) -> Result<Top, Memory>
+    ensures value { IfOk result (λ it. it ≡ the_plain_top (guard_names_beside used.old.file) top) }
     ensures file { used.new.file ≡ used.old.file }
 {
     match top {
-        Top::Include(_) => copy_top(alloc, top),
-        Top::Enum(_) => copy_top(alloc, top),
-        Top::Global(_) => copy_top(alloc, top),
         Top::Function(function) => Ok(Top::Function(plain_function(alloc, used, function)?)),
-        Top::Note(_) => copy_top(alloc, top),
+        other => Ok(other),
     }
 }
 
-fn plain_tops(alloc: Global, used: &mut UsedNames, tops: &[Top]) -> Result<List<Top>, Memory>
-    ensures { IfOk result (λ it. it ≡ map (the_plain_top (guard_names_beside used.old.file)) tops.now) }
+fn plain_tops(alloc: Global, used: &mut UsedNames, tops: List<Top>) -> Result<List<Top>, Memory>
+    ensures { IfOk result (λ it. it ≡ map (the_plain_top (guard_names_beside used.old.file)) tops) }
 {
-    let mut out = List::new(alloc);
-    for top in tops {
+    let mut out = List::from_vec(Vec::with_capacity(alloc, tops.len())?);
+    for top in tops.into_vec() {
         out.push(plain_top(alloc, used, top)?)?;
     }
     Ok(out)
@@ -56,16 +52,16 @@ fn plain_tops(alloc: Global, used: &mut UsedNames, tops: &[Top]) -> Result<List<
 ///
 /// A program whose functions are ready (each body in range, its kinds agree, and in a flat function it is
 /// well made and without Leap) behaves as its plain form does. Want of memory is the only failure; variables
-/// that no `u32` numbers count as that.
-pub fn plain(alloc: Global, names: &List<Name>, program: &Program) -> Result<Program, Memory>
-    ensures value { IfOk result (λ it. it ≡ the_plain names.now program.now) }
-    ensures no_jumps { is_jump_free_program program.now ≡ true → IfOk result (λ it. is_plain_program it ≡ true) }
-    ensures few { IfOk result (λ it. AreFewInTops program.now.tops it.tops) }
-    ensures ranged { IsProgramReady (guard_names names.now) program.now → IfOk result (λ it. IsProgramInRange it) }
-    ensures behaves { IsProgramReady (guard_names names.now) program.now → IfOk result (λ it. BehaveTheSame program.now it) }
-    ensures structured { IsProgramReady (guard_names names.now) program.now → is_jump_free_program program.now ≡ true → IfOk result (λ it. BehavesAsStructured program.now it) }
+/// that no `u32` numbers count as that. The program is given up then.
+pub fn plain(alloc: Global, names: &List<Name>, program: Program) -> Result<Program, Memory>
+    ensures value { IfOk result (λ it. it ≡ the_plain names.now program) }
+    ensures no_jumps { is_jump_free_program program ≡ true → IfOk result (λ it. is_plain_program it ≡ true) }
+    ensures few { IfOk result (λ it. AreFewInTops program.tops it.tops) }
+    ensures ranged { IsProgramReady (guard_names names.now) program → IfOk result (λ it. IsProgramInRange it) }
+    ensures behaves { IsProgramReady (guard_names names.now) program → IfOk result (λ it. BehaveTheSame program it) }
+    ensures structured { IsProgramReady (guard_names names.now) program → is_jump_free_program program ≡ true → IfOk result (λ it. BehavesAsStructured program it) }
 {
     let mut used = UsedNames::new(alloc, names.as_slice())?;
-    let tops = plain_tops(alloc, &mut used, program.tops.as_slice())?;
+    let tops = plain_tops(alloc, &mut used, program.tops)?;
     Ok(Program { tops })
 }

@@ -224,9 +224,8 @@ fn plain_of(alloc: Global, words: &str) -> Result<Program, Memory> {
     let program = program_of(alloc, words)?;
     match names(alloc, &program) {
         Ok(names) => {
-            let made = plain(alloc, &names, &program);
+            let made = plain(alloc, &names, program);
             drop(names);
-            drop(program);
             made
         }
         Err(e) => {

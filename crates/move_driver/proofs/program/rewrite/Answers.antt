@@ -11,7 +11,7 @@ move_program-requires c = movable c.args.program c.in_ok-used.used c.in_ok-of_fi
 pub returns-clause-value : goal.returns-clause-value
 returns-clause-value c =
     restructured c.args.program c.in_ok-used.used c.in_ok-of_file.of_file c.flatten_tops.new.tops c.move_program.new.program c.in_ok-made.made c.in_ok-moves.moves c.requires c.in_ok-used.ensures.value c.in_ok-of_file.ensures.value
-    c.as_slice.ensures.bound (c.in_ok-flatten_tops.ensures c.in_ok-used.used c.in_ok-of_file.of_file c.in_ok-gathered.ensures) c.in_ok-moves.ensures c.in_ok-made.ensures.value c.count-counts.result c.count-counts.ensures
+    c.as_slice.ensures.bound (c.in_ok-flatten_tops.ensures c.in_ok-used.used c.in_ok-of_file.of_file c.in_ok-gathered.ensures) c.in_ok-moves.ensures c.in_ok-made.ensures.value c.count-counts.result (c.count-counts.ensures c.move_program.new.program c.in_ok-before.ensures)
 
 pub returns-clause-plain : goal.returns-clause-plain
 returns-clause-plain c = (reads_back c.args.program c.in_ok-made.made c.in_ok-moves.moves c.count-counts.result c.requires (returns-clause-value c)).plain

@@ -1,9 +1,9 @@
-use Rattle.std.proofs.Common.{◌≡◌, take}
-use Rattle.plain_form.specs.Made.{made_items, made_sections}
+use Rattle.plain_form.specs.Made.{made_item, made_section}
+use Rattle.plain_form.proofs.InPlace.{DoneTo}
 use Rattle.plain_form.proofs.items.+made_items.Given as goal
 
-abbrev pub invariant-made_slice-loop-item : goal.invariant-made_slice-loop-item
-invariant-made_slice-loop-item l = l.out ≡ made_items l.guards (take l.item-index l.items)
+abbrev pub invariant-make_items-loop-i : goal.invariant-make_items-loop-i
+invariant-make_items-loop-i l = goal.unvisited-make_items-loop-i l × DoneTo (made_item l.guards) l.i l.initial.items l.items
 
-abbrev pub invariant-made_sections-loop-item : goal.invariant-made_sections-loop-item
-invariant-made_sections-loop-item l = l.out ≡ made_sections l.guards (take l.item-index l.items)
+abbrev pub invariant-make_sections-loop-i : goal.invariant-make_sections-loop-i
+invariant-make_sections-loop-i l = goal.unvisited-make_sections-loop-i l × DoneTo (made_section l.guards) l.i l.initial.items l.items
