@@ -13,7 +13,8 @@ use Rattle.c_lexer.specs.Answers.{scanning, IsReading}
 use Rattle.c_lexer.proofs.Theorem.{scan_reading, scan_read_back, scan_fault_back}
 use Rattle.c_grammar.specs.declared.syntax.Syntax.{Syntax}
 use Rattle.c_grammar.specs.TokenClasses.{classes_of}
-use Rattle.c_grammar.specs.Derives.{Derives, IsUnexpected, IsTooMany}
+use Rattle.c_grammar.specs.Derives.{Derives}
+use Rattle.c_grammar.specs.Derives as grammar
 use Rattle.c_parser.specs.Answers.{parsed, answer as answer_of}
 use Rattle.c_parser.specs.Reads.{IsRefusedAt}
 use Rattle.c_parser.proofs.Reading.{reads, parses}
@@ -24,6 +25,8 @@ use Rattle.c_kinds.specs.declared.typed.Fault.{Fault}
 use Rattle.c_layers.specs.Tops.{Top}
 use Rattle.c_scopes.specs.Files.{File}
 use Rattle.c_kinds.specs.Typing.{typed}
+use Rattle.source_defs.specs.Derivations.{DeriveFile, IsUnexpected, IsTooMany}
+use Rattle.source_laws.proofs.TheLaws.{source_laws}
 use Rattle.rule_defs.specs.Violations.{IsLeast, IsFaultless}
 use Rattle.rule_defs.specs.Typings.{Typing}
 use Rattle.rule_defs.specs.Files.{IsViolation}
@@ -74,12 +77,18 @@ scanned_as t scanned e =
 first_fault : (t : List ℕ) (refusal : Refusal) → scanning t ≡ Err refusal → IsFirstFault t refusal
 first_fault t refusal e = subst (λ (o : Result Scanned Refusal). IsReading scanned_of t o) e (scan_reading t)
 
+-- the token at fault, by derivations of the grammar and by those of its file
+at_fault : (t : List ℕ) (tokens : List Token) (refusal : Refusal) → IsRefusedAt grammar.IsUnexpected 10 t tokens refusal ⊎ IsRefusedAt grammar.IsTooMany 11 t tokens refusal
+    → IsRefusedAt IsUnexpected 10 t tokens refusal ⊎ IsRefusedAt IsTooMany 11 t tokens refusal
+at_fault t tokens refusal (inl f) = inl (record { number = f.number; fault = source_laws.unexpected _ f.number f.fault; named = f.named })
+at_fault t tokens refusal (inr f) = inr (record { number = f.number; fault = source_laws.too_many _ f.number f.fault; named = f.named })
+
 faulty_token : (t : List ℕ) (refusal : Refusal) (scanned : Scanned) → IsScanned t scanned → parsed t scanned.tokens ≡ Err refusal → HasFaultyToken t refusal
 faulty_token t refusal scanned s e = record {
   pieces = s.pieces;
   spells = s.spells;
   fault = subst (λ (z : Scanned). IsRefusedAt IsUnexpected 10 t z.tokens refusal ⊎ IsRefusedAt IsTooMany 11 t z.tokens refusal) s.is
-      (reads t scanned.tokens (Err (stops.Refused refusal)) e);
+      (at_fault t scanned.tokens refusal (reads t scanned.tokens (Err (stops.Refused refusal)) e));
 }
 
 -- ---- what resolving says
@@ -105,7 +114,7 @@ violation t refusal pieces x spells derives e =
     let xs = file_of (word_of t (tokens_of pieces)) x in
     let file = file_at counts_of t (tokens_of pieces) (comments_of pieces) xs in
     let v = violated t (tokens_of pieces) (program_of file xs) (violation_of file xs) refusal e in
-    record { pieces = pieces; spells = spells; syntax_of = x; derives = derives; typing = typed; types = typed_typing; violation = v.0; least = (file_laws.least (written t pieces xs) xs v.0).0 (sym (same_violation t pieces xs) ∙ v.1); place = v.2 }
+    record { pieces = pieces; spells = spells; file = xs; derives = source_laws.file t pieces spells x derives; typing = typed; types = typed_typing; violation = v.0; least = (file_laws.least (written t pieces xs) xs v.0).0 (sym (same_violation t pieces xs) ∙ v.1); place = v.2 }
 
 -- ---- the whole
 
@@ -156,7 +165,7 @@ program_as t p e =
     let xs = file_of (word_of t (tokens_of a.pieces)) a.syntax_of in
     let file = file_at counts_of t (tokens_of a.pieces) (comments_of a.pieces) xs in
     let g = answered t (tokens_of a.pieces) (program_of file xs) p (violation_of file xs) a.resolves in
-    record { pieces = a.pieces; spells = a.spells; syntax_of = a.syntax_of; derives = a.derives; typing = typed; types = typed_typing; faultless = (file_laws.faultless (written t a.pieces xs) xs).0 (sym (same_violation t a.pieces xs) ∙ g.0); is = g.1 ∙ same_program t a.pieces xs }
+    record { pieces = a.pieces; spells = a.spells; file = xs; derives = source_laws.file t a.pieces a.spells a.syntax_of a.derives; typing = typed; types = typed_typing; faultless = (file_laws.faultless (written t a.pieces xs) xs).0 (sym (same_violation t a.pieces xs) ∙ g.0); is = g.1 ∙ same_program t a.pieces xs }
 
 -- ---- and back: with such a fault, and with no other, it is refused
 
@@ -166,8 +175,20 @@ scanned_back t pieces spells = ap (of_tokens counts_of t) (scan_read_back t piec
 
 faulty_back : (t : List ℕ) (tokens : List Token) (refusal : Refusal) → IsRefusedAt IsUnexpected 10 t tokens refusal ⊎ IsRefusedAt IsTooMany 11 t tokens refusal
     → parsed t tokens ≡ Err refusal
-faulty_back t tokens refusal (inl f) = ap (answer_of t tokens) (refuses (classes_of t tokens) f.number f.fault) ∙ ap Err (sym f.named)
-faulty_back t tokens refusal (inr f) = ap (answer_of t tokens) (limits (classes_of t tokens) f.number f.fault) ∙ ap Err (sym f.named)
+faulty_back t tokens refusal (inl f) = ap (answer_of t tokens) (refuses (classes_of t tokens) f.number (source_laws.unexpected_back _ f.number f.fault)) ∙ ap Err (sym f.named)
+faulty_back t tokens refusal (inr f) = ap (answer_of t tokens) (limits (classes_of t tokens) f.number (source_laws.too_many_back _ f.number f.fault)) ∙ ap Err (sym f.named)
+
+-- what a file is answered
+abbrev answered_of : List ℕ → List Piece → List Top → Result Program Refusal
+answered_of t pieces xs =
+    let file = file_at counts_of t (tokens_of pieces) (comments_of pieces) xs in
+    answer t (tokens_of pieces) (program_of file xs) (violation_of file xs)
+
+-- a text whose tokens derive this file is answered so
+pub derived_back : (t : List ℕ) (pieces : List Piece) (xs : List Top) → Spells pieces t → DeriveFile (classes_of t (tokens_of pieces)) xs → reading t ≡ answered_of t pieces xs
+derived_back t pieces xs spells derives =
+    let x = source_laws.syntax_of t pieces spells xs derives in
+    scanned_back t pieces spells ∙ ap (of_syntax counts_of t (scanned_of pieces)) (parses t (tokens_of pieces) x.syntax_of x.derives) ∙ ap (answered_of t pieces) x.writes
 
 pub refused_back : (t : List ℕ) (refusal : Refusal) → IsRefusedFor t refusal → reading t ≡ Err refusal
 refused_back t refusal (inl first) = ap (of_tokens counts_of t) (scan_fault_back t refusal first)
@@ -175,10 +196,9 @@ refused_back t refusal (inr (inl token)) =
     scanned_back t token.pieces token.spells ∙ ap (of_syntax counts_of t (scanned_of token.pieces)) (faulty_back t (tokens_of token.pieces) refusal token.fault)
 refused_back t refusal (inr (inr rule)) =
     let tokens = tokens_of rule.pieces in
-    let xs = file_of (word_of t tokens) rule.syntax_of in
+    let xs = rule.file in
     let file = file_at counts_of t tokens (comments_of rule.pieces) xs in
-    scanned_back t rule.pieces rule.spells
-    ∙ ap (of_syntax counts_of t (scanned_of rule.pieces)) (parses t tokens rule.syntax_of rule.derives)
+    derived_back t rule.pieces xs rule.spells rule.derives
     ∙ ap (answer t tokens (program_of file xs)) (same_violation t rule.pieces xs ∙ (file_laws.least (written t rule.pieces xs) xs rule.violation).1 (subst (λ (typing : Typing). IsLeast (IsViolation typing (written t rule.pieces xs) xs) rule.violation) (sole_typing rule.typing rule.types) rule.least))
     ∙ ap Err (sym rule.place)
 
@@ -186,10 +206,9 @@ refused_back t refusal (inr (inr rule)) =
 pub program_back : (t : List ℕ) (p : Program) → IsProgramOf t p → reading t ≡ Ok p
 program_back t p h =
     let tokens = tokens_of h.pieces in
-    let xs = file_of (word_of t tokens) h.syntax_of in
+    let xs = h.file in
     let file = file_at counts_of t tokens (comments_of h.pieces) xs in
-    scanned_back t h.pieces h.spells
-    ∙ ap (of_syntax counts_of t (scanned_of h.pieces)) (parses t tokens h.syntax_of h.derives)
+    derived_back t h.pieces xs h.spells h.derives
     ∙ ap (answer t tokens (program_of file xs)) (same_violation t h.pieces xs ∙ (file_laws.faultless (written t h.pieces xs) xs).1 (subst (λ (typing : Typing). IsFaultless (IsViolation typing (written t h.pieces xs) xs)) (sole_typing h.typing h.types) h.faultless))
     ∙ ap Ok (same_program t h.pieces xs ∙ ap (λ (typing : Typing). program typing (written t h.pieces xs) xs) (sym (sole_typing h.typing h.types)) ∙ sym h.is)
 

@@ -3,16 +3,14 @@ use Rattle.std.specs.Prelude.{◌≡◌, ◌⊎◌, ℕ, List, Result}
 use Rattle.c_types.specs.declared.refusal.Refusal.{Refusal}
 use Rattle.c_lexer.specs.Pieces.{Piece, Spells, tokens_of, comments_of}
 use Rattle.c_lexer.specs.Faults.{IsFirstFault}
-use Rattle.c_grammar.specs.declared.syntax.Syntax.{Syntax}
 use Rattle.c_grammar.specs.TokenClasses.{classes_of}
-use Rattle.c_grammar.specs.Derives.{Derives, IsUnexpected, IsTooMany}
 use Rattle.c_parser.specs.Reads.{IsRefusedAt}
-use Rattle.c_layers.specs.Words.{word_of}
-use Rattle.c_layers.specs.Parts.{file_of}
+use Rattle.c_layers.specs.Tops.{Top}
 use Rattle.c_kinds.specs.declared.typed.Fault.{Fault}
 use Rattle.c_statements.specs.Functions.{FlatCounts}
 use Rattle.c_reading.specs.Reading.{reading as reading_with}
 use Rattle.c_scopes.specs.Resolving.{refused}
+use Rattle.source_defs.specs.Derivations.{DeriveFile, IsUnexpected, IsTooMany}
 use Rattle.rule_defs.specs.Violations.{IsLeast, IsFaultless}
 use Rattle.rule_defs.specs.Typings.{Typing, IsTyping}
 use Rattle.rule_defs.specs.Files.{IsViolation}
@@ -42,12 +40,12 @@ pub record HasFaultyToken (t : List ℕ) (refusal : Refusal) : Type 0 where
 pub record HasViolation (t : List ℕ) (refusal : Refusal) : Type 0 where
   pub pieces : List Piece
   pub spells : Spells pieces t
-  pub syntax_of : Syntax
-  pub derives : Derives (classes_of t (tokens_of pieces)) syntax_of
+  pub file : List Top
+  pub derives : DeriveFile (classes_of t (tokens_of pieces)) file
   pub typing : Typing
   pub types : IsTyping typing
   pub violation : Fault
-  pub least : IsLeast (IsViolation typing (file_written counts_of t (tokens_of pieces) (comments_of pieces) (file_of (word_of t (tokens_of pieces)) syntax_of)) (file_of (word_of t (tokens_of pieces)) syntax_of)) violation
+  pub least : IsLeast (IsViolation typing (file_written counts_of t (tokens_of pieces) (comments_of pieces) file) file) violation
   pub place : refusal ≡ refused t (tokens_of pieces) violation
 
 -- the first fault of a text: of its bytes, else of its tokens, else of the rules for names, kinds and statements; a text that is
@@ -62,12 +60,12 @@ IsRefusedFor t refusal = IsFirstFault t refusal ⊎ (HasFaultyToken t refusal �
 pub record IsProgramOf (t : List ℕ) (p : Program) : Type 0 where
   pub pieces : List Piece
   pub spells : Spells pieces t
-  pub syntax_of : Syntax
-  pub derives : Derives (classes_of t (tokens_of pieces)) syntax_of
+  pub file : List Top
+  pub derives : DeriveFile (classes_of t (tokens_of pieces)) file
   pub typing : Typing
   pub types : IsTyping typing
-  pub faultless : IsFaultless (IsViolation typing (file_written counts_of t (tokens_of pieces) (comments_of pieces) (file_of (word_of t (tokens_of pieces)) syntax_of)) (file_of (word_of t (tokens_of pieces)) syntax_of))
-  pub is : p ≡ program typing (file_written counts_of t (tokens_of pieces) (comments_of pieces) (file_of (word_of t (tokens_of pieces)) syntax_of)) (file_of (word_of t (tokens_of pieces)) syntax_of)
+  pub faultless : IsFaultless (IsViolation typing (file_written counts_of t (tokens_of pieces) (comments_of pieces) file) file)
+  pub is : p ≡ program typing (file_written counts_of t (tokens_of pieces) (comments_of pieces) file) file
 
 -- a text without fault
 abbrev pub IsInSubset : List ℕ → Type 0

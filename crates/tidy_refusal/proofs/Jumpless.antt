@@ -6,8 +6,7 @@ use Rattle.c_lexer.specs.Pieces.{tokens_of, comments_of}
 use Rattle.c_lexer.proofs.Theorem.{scan_read_back}
 use Rattle.c_grammar.specs.TokenClasses.{offset_of}
 use Rattle.c_parser.proofs.Reading.{parses}
-use Rattle.c_layers.specs.Words.{word_of}
-use Rattle.c_layers.specs.Parts.{file_of}
+use Rattle.c_layers.specs.Tops.{Top}
 use Rattle.c_tree.specs.declared.tree.Program.{Program}
 use Rattle.c_scopes.specs.Files.{start}
 use Rattle.c_scopes.specs.Resolving.{file_at}
@@ -16,6 +15,7 @@ use Rattle.tidy_refusal.specs.JumplessLaws.{TopLacksJumps}
 use Rattle.tidy_refusal.proofs.Files.{jumpless_sources}
 use Rattle.rule_defs.specs.Typings.{Typing}
 use Rattle.rule_defs.specs.Programs.{program, file_written}
+use Rattle.source_laws.proofs.TheLaws.{source_laws}
 use Rattle.meaning_laws.proofs.Typings.{sole_typing}
 use Rattle.c_text.specs.Reading.{counts_of, IsProgramOf}
 use Rattle.c_text.proofs.Readings.{faultless, same_program}
@@ -30,8 +30,10 @@ none_before f (Some x) e = cc
 pub lacks_jumps : (t : List ℕ) (p : Program) → IsProgramOf t p → text_jump t ≡ None → All TopLacksJumps p.tops
 lacks_jumps t p h e =
     let tokens = tokens_of h.pieces in
-    let xs = file_of (word_of t tokens) h.syntax_of in
-    let found = sym (ap (jump_of_tokens t) (scan_read_back t h.pieces h.spells) ∙ ap (jump_of_syntax t tokens) (parses t tokens h.syntax_of h.derives)) ∙ e in
+    let xs = h.file in
+    let x = source_laws.syntax_of t h.pieces h.spells xs h.derives in
+    let jump = λ (ys : List Top). option_map (λ at. refusal_of 60 t (offset_of t tokens at)) (first_jump ys) in
+    let found = sym (ap (jump_of_tokens t) (scan_read_back t h.pieces h.spells) ∙ ap (jump_of_syntax t tokens) (parses t tokens x.syntax_of x.derives) ∙ ap jump x.writes) ∙ e in
     let none : first_jump xs ≡ None = none_before (λ at. refusal_of 60 t (offset_of t tokens at)) (first_jump xs) found in
     subst (λ (z : Program). All TopLacksJumps z.tops) (same_program t h.pieces xs
     ∙ ap (λ (typing : Typing). program typing (file_written counts_of t tokens (comments_of h.pieces) xs) xs) (sym (sole_typing h.typing h.types)) ∙ sym h.is) (jumpless_sources (file_at counts_of t tokens (comments_of h.pieces) xs) xs start none)

@@ -4,7 +4,7 @@ use Rattle.c_tree.specs.declared.tree.Item as item
 use Rattle.c_tree.specs.declared.tree.Section.{Section}
 use Rattle.c_tree.specs.ExpressionTrees.{ExpressionTree}
 use Rattle.c_tree.specs.Everywhere.{EverywhereIn}
-use Rattle.c_tree.specs.Trees.{Forest, Nil, Then, Sections, SectionTree, expression_trees, trees_of, section_tree, sections, sections_of}
+use Rattle.c_tree.specs.Trees.{Forest, Nil, Then, SectionTree, expression_trees, trees_of, section_tree, sections, sections_of}
 use Rattle.c_tree.proofs.TreeLaws.{trees-append, trees-none, trees-more, tree-Evaluate}
 use Rattle.c_tree.proofs.KeptLemmas.{everywhere_join}
 use Rattle.c_statements.specs.Sections.{Reading, extended, closed, passed_on, front}

@@ -1,0 +1,5 @@
+pub mod Entries
+pub mod DerivedTerms
+pub mod DerivedItems
+pub mod DerivedTops
+pub mod Derivations
