@@ -2,7 +2,6 @@
 
 from __future__ import annotations
 
-import os
 import re
 from pathlib import Path
 from typing import Callable
@@ -11,6 +10,7 @@ from .forms import Items, skeleton_lines
 from .messages import Fault
 from .pieces import Form, Piece
 from .records import dataclass, field
+from .running import Running
 
 CORE_NAMES = ("goto_", "switch_")  # how its variables begin
 _LONGEST = 1_000_000
@@ -120,61 +120,22 @@ def _text(skeletons: list[Skeleton]) -> tuple[str, list[int]]:
 
 def _call(core: Core, text: str) -> tuple[str, str, tuple[int, str] | None]:
     """Run the core on a text; return the result and the report, or the line and the reason of a refusal."""
-    folder = _new_folder()
-    try:
-        _write(f"{folder}/in.c", text)
-        words = [str(core.program), "restructure", f"{folder}/in.c", f"{folder}/out.c"]
+    with Running() as running:
+        given, result, moves = running.write("in.c", text), f"{running.folder}/out.c", f"{running.folder}/moves"
+        running.begin([str(core.program), "restructure", given, result, *(["--report", moves] if core.reports else [])])
         meanwhile, core.meanwhile = core.meanwhile, _nothing
-        status, said = _run(folder, words + (["--report", f"{folder}/moves"] if core.reports else []), meanwhile)
+        meanwhile()
+        status, said = running.end(), running.said.strip()
         refusal = _REFUSAL.search(said)
         if status == 1 and refusal and refusal.group(2) in _OVER_LIMITS:
             return "", "", (int(refusal.group(1)), refusal.group(3))
-        result = f"{folder}/out.c"
         if status == 0 and core.tidy:
-            result = f"{folder}/tidied.c"
-            status, said = _run(folder, [str(core.program), "tidy", f"{folder}/out.c", result], _nothing)
+            running.begin([str(core.program), "tidy", result, f"{running.folder}/tidied.c"])
+            status, said = running.end(), running.said.strip()
         if status:
             raise Fault(f"the core ended with status {status}: {said}")
-        return _read(result), _read(f"{folder}/moves") if core.reports else "", None
-    finally:
-        for name in os.listdir(folder):
-            os.unlink(f"{folder}/{name}")
-        os.rmdir(folder)
-
-
-def _new_folder() -> str:
-    """Make a folder that only its owner may read; the modules tempfile and subprocess take long to load."""
-    while True:
-        folder = os.path.join(os.environ.get("TMPDIR") or "/tmp", f"regoto-c-{os.urandom(6).hex()}")
-        try:
-            os.mkdir(folder, 0o700)
-        except FileExistsError:
-            continue
-        return folder
+        return running.read("tidied.c" if core.tidy else "out.c"), running.read("moves") if core.reports else "", None
 
 
 def _nothing() -> None:
     pass
-
-
-def _run(folder: str, words: list[str], meanwhile: Callable[[], None]) -> tuple[int, str]:
-    """Run a program; return its exit status, less than 0 where a signal ended it, and what it said."""
-    said = f"{folder}/said"
-    out = (os.POSIX_SPAWN_OPEN, 1, os.devnull, os.O_WRONLY, 0)
-    errors = (os.POSIX_SPAWN_OPEN, 2, said, os.O_WRONLY | os.O_CREAT, 0o600)
-    child = os.posix_spawn(words[0], words, os.environ, file_actions=[out, errors])
-    try:
-        meanwhile()
-    finally:
-        _, status = os.waitpid(child, 0)
-    return os.waitstatus_to_exitcode(status), _read(said).strip()
-
-
-def _write(path: str, text: str) -> None:
-    with open(path, "w", encoding="latin-1", newline="") as file:
-        file.write(text)
-
-
-def _read(path: str) -> str:
-    with open(path, encoding="latin-1", newline="") as file:
-        return file.read()

@@ -2,22 +2,21 @@
 
 from __future__ import annotations
 
-from dataclasses import dataclass, field
 from pathlib import Path
-from typing import Callable, Iterator, Sequence
+from typing import Callable, Iterator, NamedTuple, Sequence
 
 from . import preprocessing
 from .lexing import TokenKind, tokens_of
 from .preprocessing import Definition, Definitions, Failed
 from .reading import Edit, edited
+from .records import dataclass, field
 from .words import NAMES, Token, closing, words
 
 ROUNDS = 40
 LOST_LINE = "\v"  # stands for a line end of an invocation, so that the lines can be kept where that matters
 
 
-@dataclass(frozen=True)
-class Use:
+class Use(NamedTuple):
     """A macro's use: its name, the indices of its first and last token, its text, and the definitions it reaches."""
 
     name: str
@@ -88,9 +87,6 @@ class Body:
     why: str = ""
     fault: str = ""
 
-    def __post_init__(self) -> None:
-        self.segments = [Segment(0, len(self.text), self.text)]
-
     def fail(self, name: str, why: str) -> None:
         """Keep the first reason why this body can't be expanded."""
         if not self.why:
@@ -115,17 +111,21 @@ class Expander:
     def __init__(self, program: str, path: Path, text: str, flags: Sequence[str]) -> None:
         self.program, self.path, self.flags, self.text = program, path, flags, text
         self.before = preprocessing.preprocessed(program, path, text, flags)
+        self.definitions = Definitions(self.before.events)
 
     def body(self, start: int, end: int, wanted: frozenset[str] = frozenset()) -> Body:
         """Return the body at a place of the file."""
-        return Body(self.text.count("\n", 0, start) + 1, start, end, self.text[start:end], wanted)
+        text = self.text[start:end]
+        segments = [Segment(0, len(text), text)]
+        return Body(self.text.count("\n", 0, start) + 1, start, end, text, wanted, segments=segments)
 
     def look(self, bodies: Sequence[Body]) -> None:
         """Find the uses in the bodies (in the order of the file), and what they are wholly expanded."""
-        definitions = Definitions(self.before.events)
         for body in bodies:
+            if body.line < self.definitions.line:
+                self.definitions = Definitions(self.before.events)
             body.sequence = words(body.text)
-            body.uses = find_uses(body, definitions)
+            body.uses = find_uses(body, self.definitions)
         uses = [use for body in bodies for use in body.uses]
         try:  # what may be asked for next is found in the same run
             self._find([*((use, False) for use in uses), *((use, True) for use in uses)])
@@ -219,11 +219,14 @@ def find_uses(body: Body, definitions: Definitions) -> list[Use]:
     """
     uses, index, seen, line = [], 0, 0, body.line
     sequence, text = body.sequence, body.text
+    definitions.go_to(line)
+    changes = definitions.change_before(line + text.count("\n") + text.count(LOST_LINE))
     while index < len(sequence):
         token = sequence[index]
-        line += text.count("\n", seen, token.start) + text.count(LOST_LINE, seen, token.start)
-        seen = token.start
-        definitions.go_to(line)
+        if changes:
+            line += text.count("\n", seen, token.start) + text.count(LOST_LINE, seen, token.start)
+            seen = token.start
+            definitions.go_to(line)
         last = _last(sequence, index, definitions.now) if token.is_name else None
         if last is None:
             index += 1

@@ -130,9 +130,8 @@ def prepare(file: SourceFile, jobs: list[Job], options: Options, trail: Trail) -
             return file
         trail.append((file.text, edits))
         file = read_again(file, edits, [job.number for job in jobs if job.refusal is None])
-        for job in jobs:
+        for job in jobs:  # those that were cut stay so, in the file in which they were
             job.function = file.functions[job.number]
-            job.cutter = None
     for job in jobs:
         if job.cutter is None and job.refusal is None:
             job.leave(Refused(job.function.body, "macros in macros without an end"), trail)

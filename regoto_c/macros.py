@@ -6,8 +6,7 @@ that, and one without jumps is an ordinary part of a statement. Each other is ex
 
 from __future__ import annotations
 
-from dataclasses import dataclass
-from typing import Any, Collection, Sequence
+from typing import Any, Collection, NamedTuple, Sequence
 
 from . import preprocessing, shapes
 from .expanding import Body, Expander, Use
@@ -19,8 +18,7 @@ from .shapes import End
 from .words import JUMPS, Token, texts
 
 
-@dataclass(frozen=True)
-class Meaning:
+class Meaning(NamedTuple):
     """What an invocation stands for: its place in the file, its tokens when wholly expanded, and a kind.
 
     The kind is 'plain' (a part of a statement, or whole statements without jumps), 'nothing', 'label', 'case',

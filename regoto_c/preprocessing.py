@@ -4,17 +4,15 @@ from __future__ import annotations
 
 import os
 import re
-import shutil
-import subprocess
-import tempfile
-from concurrent.futures import ThreadPoolExecutor
-from dataclasses import dataclass
-from functools import cached_property, lru_cache
+from contextlib import ExitStack
+from functools import cached_property
 from pathlib import Path
-from typing import Sequence
+from typing import NamedTuple, Sequence
 
 from .lexing import tokens_of
 from .plain_macros import is_more_than_expression
+from .records import dataclass
+from .running import Running
 from .words import HEADS, JUMPS, NAMES
 
 MARKER = re.compile(r'#(?:line)? (\d+) "((?:[^"\\]|\\.)*)"')
@@ -35,8 +33,7 @@ class Failed(Exception):
     """The preprocessor found an error; its message is what it wrote."""
 
 
-@dataclass(frozen=True)
-class Definition:
+class Definition(NamedTuple):
     """A macro: its name, its parameters with their brackets or None, and its body."""
 
     name: str
@@ -63,8 +60,8 @@ class Preprocessed:
     @cached_property
     def lines(self) -> list[str]:
         """The lines that are neither empty, nor markers, nor changes of macros."""
-        return [each for each in self.output.split("\n") if each and not each.isspace()
-                and (each[0] != "#" or not (each.startswith(_CHANGES) or MARKER.match(each)))]
+        return [each for each in self.output.split("\n") if each
+                and (each[0] != "#" or not (each.startswith(_CHANGES) or MARKER.match(each))) and not each.isspace()]
 
     @cached_property
     def events(self) -> list[Event]:
@@ -89,11 +86,13 @@ class Definitions:
     def __init__(self, events: Sequence[Event]) -> None:
         self.events = events
         self.at = 0
+        self.line = 0
         self.now: dict[str, Definition] = {}
         self.closures: dict[str, frozenset[str]] = {}
 
     def go_to(self, line: int) -> None:
         """Bring in force what stands on the lines above."""
+        self.line = line
         while self.at < len(self.events) and self.events[self.at][0] < line:
             _, name, definition = self.events[self.at]
             if definition is None:
@@ -102,6 +101,10 @@ class Definitions:
                 self.now[name] = definition
             self.closures.clear()
             self.at += 1
+
+    def change_before(self, line: int) -> bool:
+        """Return whether something changes from here up to a line."""
+        return self.at < len(self.events) and self.events[self.at][0] < line
 
     def closure(self, name: str) -> frozenset[str]:
         """Return the names that the expansion of a name may hold, itself among them."""
@@ -138,58 +141,93 @@ def names_with(events: Sequence[Event], word: str) -> frozenset[str]:
 
 def programs() -> list[str]:
     """Return the compilers at hand, first the one that reads as libclang does."""
+    folders = os.get_exec_path()
     found: dict[str, str] = {}
     for name in ("clang", "clang-14", "gcc", "cc"):
-        path = shutil.which(name)
+        paths = (os.path.join(folder, name) for folder in folders)
+        path = next((path for path in paths if os.path.isfile(path) and os.access(path, os.X_OK)), None)
         if path:
-            found.setdefault(os.path.realpath(path), path)
+            found.setdefault(os.path.realpath(path), os.path.abspath(path))
     return list(found.values())
 
 
-def run(program: str, path: Path, text: str, flags: Sequence[str]) -> str:
-    """Return the preprocessor's text, with the changes of macros, for a file at `path` that holds `text` (latin-1).
+class _Run(Running):
+    """A preprocessor's run on a file at `path` that holds `text` (latin-1), with the changes of macros.
 
-    No line has a number: so texts whose lines are moved compare. Raises Failed with the compiler's messages.
+    No line has a number: so texts whose lines are moved compare.
     """
-    with tempfile.TemporaryDirectory(prefix="regoto-c-") as folder:
-        place = Path(folder, path.name)
-        place.write_bytes(text.encode("latin-1"))
-        working = [flag.split("=", 1)[1] for flag in flags if flag.startswith("-working-directory=")]
-        taken = [flag for flag in flags if not flag.startswith("-working-directory=")]
-        command = [program, "-E", "-dD", "-w", "-D__LINE__=0", "-x", "c", "-iquote", str(path.parent.resolve()), *taken,
-                   str(place)]
-        ended = subprocess.run(command, capture_output=True, check=False, stdin=subprocess.DEVNULL,
-                               cwd=working[-1] if working else None)
-        if ended.returncode:
-            raise Failed(ended.stderr.decode("latin-1").replace(str(place), str(path)))
-        return ended.stdout.decode("latin-1").replace(folder, "")
+
+    def __init__(self, program: str, path: Path, text: str, flags: Sequence[str]) -> None:
+        super().__init__()
+        self.program, self.path, self.text, self.flags = program, path, text, flags
+        self.place = f"{self.folder}/{path.name}"
+
+    def start(self) -> None:
+        """Begin it."""
+        self.write(self.path.name, self.text)
+        working = [flag.split("=", 1)[1] for flag in self.flags if flag.startswith("-working-directory=")]
+        taken = [flag for flag in self.flags if not flag.startswith("-working-directory=")]
+        inside = ["/usr/bin/env", "-C", working[-1]] if working else []
+        self.begin([*inside, self.program, "-E", "-dD", "-w", "-D__LINE__=0", "-x", "c", "-iquote",
+                    str(self.path.parent.resolve()), *taken, self.place])
+
+    def result(self) -> Preprocessed:
+        """Return what it makes of the file. Raises Failed with the compiler's messages."""
+        if self.end():
+            raise Failed(self.said.replace(self.place, str(self.path)))
+        return Preprocessed(self.wrote.replace(self.folder, ""), self.path.name)
 
 
-@lru_cache(maxsize=8)
-def _preprocessed(program: str, path: Path, text: str, flags: tuple[str, ...]) -> Preprocessed:
-    return Preprocessed(run(program, path, text, flags), path.name)
+_Asked = tuple[str, Path, str, tuple[str, ...]]  # a program, and the path, the text and the flags of a file
+_found: dict[_Asked, Preprocessed | Failed] = {}  # for the last of them
+_MOST_FOUND = 8
+
+
+def _find(asked: Sequence[_Asked]) -> list[Preprocessed | Failed]:
+    """Return what preprocessors make of files, or why they don't; all of them run at once."""
+    with ExitStack() as stack:
+        runs = {one: stack.enter_context(_Run(*one)) for one in dict.fromkeys(asked) if one not in _found}
+        for run in runs.values():
+            run.start()
+        for one, run in runs.items():
+            try:
+                _found[one] = run.result()
+            except Failed as failed:
+                _found[one] = failed
+    results = [_found[one] for one in asked]
+    for one in list(_found)[:-_MOST_FOUND]:
+        del _found[one]
+    return results
 
 
 def preprocessed(program: str, path: Path, text: str, flags: Sequence[str]) -> Preprocessed:
-    """Return what a preprocessor makes of a file at `path` that holds `text`; raises Failed as `run` does."""
-    return _preprocessed(program, path, text, tuple(flags))
+    """Return what a preprocessor makes of a file at `path` that holds `text`.
+
+    Raises Failed with the compiler's messages.
+    """
+    result = _find([(program, path, text, tuple(flags))])[0]
+    if isinstance(result, Failed):
+        raise result
+    return result
 
 
 def differs(path: Path, before: str, after: str, flags: Sequence[str]) -> str | None:
     """Return the name of a compiler at hand for which two texts of a file aren't the same tokens.
 
-    A compiler that doesn't take the first text with these flags doesn't count; without any, Failed is raised.
+    A compiler that doesn't take the first text with these flags doesn't count; without any, Failed is raised. Failed is
+    raised too where one doesn't take the second text.
     """
     compared = False
-    with ThreadPoolExecutor() as pool:
-        runs = [(program, pool.submit(preprocessed, program, path, before, flags),
-                 pool.submit(preprocessed, program, path, after, flags)) for program in programs()]
-        for program, first, second in runs:
-            if isinstance(first.exception(), Failed):
-                continue
-            compared = True
-            if not _same_tokens(first.result(), second.result()):
-                return Path(program).name
+    all_programs = programs()
+    found = iter(_find([(program, path, text, tuple(flags)) for program in all_programs for text in (before, after)]))
+    for program, first, second in zip(all_programs, found, found):
+        if isinstance(first, Failed):
+            continue
+        if isinstance(second, Failed):
+            raise second
+        compared = True
+        if not _same_tokens(first, second):
+            return os.path.basename(program)
     if not compared:
         raise Failed("no compiler (clang or gcc) takes the file")
     return None
@@ -224,10 +262,11 @@ def expand(program: str, batch: Sequence[tuple[Sequence[str], str]], flags: Sequ
     for index, (directives, text) in enumerate(batch):
         parts += [*directives, f"regoto_mark_{index}", hide(text)]
     standard = [flag for flag in flags if flag.startswith(("-std=", "-ansi", "-fdollars", "-fno-dollars"))]
-    source = "\n".join([*parts, "regoto_mark_end", ""]).encode("latin-1")
-    command = [program, "-E", "-P", "-CC", "-w", "-undef", "-nostdinc", "-x", "c", *standard, "-"]
-    ended = subprocess.run(command, input=source, capture_output=True, check=False)
-    pieces = re.split(r"\s*\bregoto_mark_(?:\d+|end)\b[ \t]*\n?", ended.stdout.decode("latin-1"))[1:-1]
-    if ended.returncode or len(pieces) != len(batch):
-        raise Failed(ended.stderr.decode("latin-1"))
+    with Running() as running:
+        source = running.write("in", "\n".join([*parts, "regoto_mark_end", ""]))
+        running.begin([program, "-E", "-P", "-CC", "-w", "-undef", "-nostdinc", "-x", "c", *standard, "-"], source)
+        status, said, wrote = running.end(), running.said, running.wrote
+    pieces = re.split(r"\s*\bregoto_mark_(?:\d+|end)\b[ \t]*\n?", wrote)[1:-1]
+    if status or len(pieces) != len(batch):
+        raise Failed(said)
     return [SHOWN.sub(r"\1", piece.strip()) for piece in pieces]

@@ -2,9 +2,9 @@
 
 from __future__ import annotations
 
-from dataclasses import dataclass, field
 from enum import Enum
 
+from .records import dataclass, field
 from .words import HEADS, JUMPS, Token, closing
 
 TYPES = frozenset('''auto char const double enum extern float inline int long register restrict short signed static
