@@ -102,14 +102,16 @@ class Cutter(StatementCutter):
             raise Refused(self.syntax.computed[0], "a computed goto, or the address of a label")
         for offset in self.syntax.assemblies:
             at = self.units.at(offset)
-            words = {word for text in self.units.words[at: self.scan(at, ";", len(self.units.starts))]
+            named = {word for text in self.units.words[at: self.scan(at, ";", len(self.units.starts))]
                      for word in words_of(text)}
-            if "goto" in words or "goto" in self.file.words_behind(words):
+            if "goto" in named or "goto" in self.file.words_behind(named):
                 raise Refused(offset, "an asm goto")
         twice = returns_twice(self.file, self.syntax, self.file.words_in(self.function))
         if twice is not None:
-            at = self.units.at(twice)
-            raise Refused(twice, f"{words_of(self.units.words[at], 1)[0]} may return twice")
+            offset, name = twice
+            words = words_of(self.units.words[self.units.at(offset)])  # of a macro, perhaps
+            shown = next((word for word in words if word.strip("_") == name.strip("_")), words[0])
+            raise Refused(offset, f"{shown} may return twice")
         for start, word in zip(self.units.starts, self.units.words):
             if "__label__" in word:
                 raise Refused(start, "a local label")

@@ -60,8 +60,8 @@ _CONCERNS = {
 }
 
 
-def returns_twice(file: SourceFile, tree: Syntax, words: set[str]) -> int | None:
-    """Return where a function of these words names another that may return twice, or None if it names none."""
+def returns_twice(file: SourceFile, tree: Syntax, words: set[str]) -> tuple[int, str] | None:
+    """Return where a function of these words names another that may return twice, and which; None if it names none."""
     looks_at_all = file.mentions("returns_twice")
     if not looks_at_all and not (words | file.words_behind(words)) & _RETURNS_TWICE:
         return None
@@ -73,7 +73,7 @@ def returns_twice(file: SourceFile, tree: Syntax, words: set[str]) -> int | None
         if number not in file.returning_twice:
             file.returning_twice[number] = _does_return_twice(entity)
         if file.returning_twice[number]:
-            return libclang.name_offset(cursor)
+            return libclang.name_offset(cursor), libclang.spelling(entity)
     return None
 
 
@@ -85,10 +85,9 @@ def _does_return_twice(function: Any) -> bool:
     return has_attribute and "returns_twice" in libclang.printed(function)
 
 
-def words_of(text: str, most: int = 0) -> list[str]:
-    """Return the names and keywords in a text, or as many of them as `most` says."""
-    found = _WORDS.findall(text)
-    return found[:most] if most else found
+def words_of(text: str) -> list[str]:
+    """Return the names and keywords in a text."""
+    return _WORDS.findall(text)
 
 
 def check_statement(node: Node) -> None:

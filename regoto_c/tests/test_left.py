@@ -26,6 +26,8 @@ LEFT = [
      'while (n) { if (({ if (n-- > 4) continue; n; })) goto a; } a: return n;', 'statement expression'),
     ('setjmp', '#include <setjmp.h>\nstatic jmp_buf b;',
      'if (n) goto a; if (|setjmp(b)) n = 2; a: return n;', 'setjmp'),
+    ('setjmp in the argument of a macro', '#include <setjmp.h>\nstatic jmp_buf b;\n#define NOT_ZERO(x) ((x) != 0)',
+     'if (n) goto a; if (NOT_ZERO(setjmp(b))) n = 2; a: return n;', 'setjmp may return twice'),
     ('sigsetjmp', '#include <setjmp.h>\nstatic sigjmp_buf b;',
      'if (n) goto a; if (sigsetjmp(b, 1)) n = 2; a: return n;', 'sigsetjmp'),
     ('vfork', '#include <unistd.h>', 'if (n) goto a; n = |vfork(); a: return n;', 'vfork'),
