@@ -10,7 +10,7 @@ from pathlib import Path
 from typing import Iterator
 
 from . import loading
-from .core_program import NoCore, find_core
+from .core_program import NoCore, find_core, is_tried
 from .flags import Database
 from .messages import Message
 from .options import Options
@@ -26,6 +26,10 @@ exit status:
   3   a file can't be read, clang finds errors in it, or there is no proved program
   70  a fault of regoto-c itself; nothing was written
 """
+_TRIED = ("the program runs before its proofs, which takes a minute or more for each file; what comes out isn't proved "
+          "(./regoto --build proves and builds it)")
+_FLAGS = ("a file that is included isn't found: the compiler's flags stand behind --, as in `regoto-c -d FILE -- -Iinclude`, "
+          "or in BUILD/compile_commands.json for -p BUILD")
 
 
 def parser() -> argparse.ArgumentParser:
@@ -79,6 +83,8 @@ def main(words: list[str]) -> int:
     except NoCore as why:
         print(f"regoto-c: {why}", file=sys.stderr)
         return UNREADABLE
+    if is_tried(core):
+        print(f"regoto-c: {_TRIED}", file=sys.stderr, flush=True)
     functions = frozenset(name for name in asked.functions.split(",") if name)
     share = asked.jobs if len(asked.files) == 1 else 1  # of several files each has one process
     options = Options(core, functions, asked.configured, asked.tidy, share, asked.report is not None)
@@ -196,6 +202,8 @@ def _write(asked: argparse.Namespace, results: list[Result]) -> None:
 def _say(asked: argparse.Namespace, results: list[Result], writes: bool) -> None:
     """Say what was done, or what would be done."""
     only_says = not (asked.out or asked.in_place or asked.diff)
+    if any(message.text.endswith(" file not found") for result in results for message in result.messages):
+        print(f"regoto-c: {_FLAGS}", file=sys.stderr)
     for result in results:
         if only_says:
             for note in result.notes:

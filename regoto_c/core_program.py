@@ -6,6 +6,7 @@ import os
 from pathlib import Path
 
 _TOP = Path(__file__).resolve().parent.parent
+_SCRIPT = _TOP / "regoto"
 _BUILT = _TOP / "crates" / "regoto_cli" / "out" / "regoto_cli"
 _OTHERS = "--try-core runs its sources, --core names another program"
 
@@ -23,16 +24,27 @@ def find_core(given: Path | None, may_try: bool = False) -> Path:
         if not given.is_file():
             raise NoCore(f"no program {given}")
         return given.resolve()
-    if not (_TOP / "crates").is_dir() and (_TOP / "regoto").is_file():
-        return _TOP / "regoto"
-    if may_try:
-        return _TOP / "regoto"
+    if not (_TOP / "crates").is_dir() and _SCRIPT.is_file():
+        return _SCRIPT
+    why = _why_not_built()
+    if why and not may_try:
+        raise NoCore(f"{why} ({_OTHERS})")
+    if why and not any(os.access(os.path.join(folder, "rt"), os.X_OK) for folder in os.get_exec_path()):
+        raise NoCore("--try-core needs Rattle's toolchain, whose command rt isn't on the path")
+    return _SCRIPT if why else _BUILT
+
+
+def is_tried(core: Path) -> bool:
+    """Return whether this core runs its sources before any proof."""
+    return core == _SCRIPT and (_TOP / "crates").is_dir()
+
+
+def _why_not_built() -> str:
+    """Return why there is no proved program of these sources, and what to do about it; '' where there is one."""
     if not _BUILT.is_file():
-        raise NoCore(f"the proved program isn't built; ./regoto --build proves and builds it ({_OTHERS})")
+        return "the proved program isn't built; ./regoto --build proves and builds it"
     newer = _newer_source(_BUILT.stat().st_mtime)
-    if newer:
-        raise NoCore(f"{newer} is newer than the proved program; ./regoto --build builds it ({_OTHERS})")
-    return _BUILT
+    return f"{newer} is newer than the proved program; ./regoto --build builds it" if newer else ""
 
 
 def _newer_source(built: float) -> str:

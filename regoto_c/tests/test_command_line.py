@@ -245,6 +245,18 @@ def test_errors_of_clang(command: Command, tmp_path: Path) -> None:
     assert not (tmp_path / 'out.c').exists()
 
 
+def test_missing_header(command: Command, tmp_path: Path) -> None:
+    """Where an included file isn't found, a line says where the flags of the compiler stand."""
+    source = tmp_path / 'far.c'
+    source.write_text('#include "far.h"\n' + GOOD)
+    assert 'flags stand behind --' in command(source).error
+    (tmp_path / 'include').mkdir()
+    (tmp_path / 'include' / 'far.h').write_text('')
+    ran = command(source, '--', '-Iinclude')
+    assert ran.status == 0
+    assert 'flags' not in ran.error
+
+
 def test_missing_file(command: Command) -> None:
     """A file that isn't there has status 3 and its name in the message."""
     ran = command('nowhere.c')
@@ -291,14 +303,6 @@ def test_jobs(command: Command, tmp_path: Path) -> None:
     one, four = command('--jobs', '1', *files), command('--jobs', '4', *files)
     assert one == four
     assert one.error.splitlines()[-1] == '7 files, 10 functions with goto: 7 could be restructured, 3 refused'
-
-
-def test_no_core(tmp_path: Path, files: dict[str, Path]) -> None:
-    """A core that isn't there is said, with how to build it."""
-    words = [str(TOP / 'regoto-c'), '--core', str(tmp_path / 'nothing'), str(files['good'])]
-    ran = subprocess.run(words, capture_output=True, text=True, check=False)
-    assert ran.returncode not in (0, 1)
-    assert 'nothing' in ran.stderr
 
 
 def test_script(files: dict[str, Path], tmp_path: Path) -> None:
