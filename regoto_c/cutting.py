@@ -105,7 +105,7 @@ class Cutter(StatementCutter):
             named = {word for text in self.units.words[at: self.scan(at, ";", len(self.units.starts))]
                      for word in words_of(text)}
             if "goto" in named or "goto" in self.file.words_behind(named):
-                raise Refused(offset, "an asm goto")
+                raise self.units.faults.get(at) or Refused(offset, "an asm goto")
         twice = returns_twice(self.file, self.syntax, self.file.words_in(self.function))
         if twice is not None:
             offset, name = twice
