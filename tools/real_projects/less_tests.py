@@ -6,6 +6,7 @@ from __future__ import annotations
 
 import os
 import pty
+import re
 import select
 import subprocess
 import sys
@@ -19,17 +20,25 @@ KEYS = {
     'regular expressions': '/^[0-9]+.*(fix|add)\nn', 'wrong': '/[\n\x1bz:z%~G'}
 
 
-def rests(process: int) -> bool:
-    """Whether a process waits, for keys or for the room to write."""
-    return Path(f'/proc/{process}/stat').read_text(encoding='ascii').rpartition(')')[2].split()[0] in 'SZ'
+def rests(process: int, slept: int) -> bool:
+    """Whether a process waits, for keys or for the room to write, and has fallen asleep since; or has ended."""
+    state = Path(f'/proc/{process}/stat').read_text(encoding='ascii').rpartition(')')[2].split()[0]
+    return state == 'Z' or state == 'S' and sleeps(process) > slept
 
 
-def read_until_rest(process: int, terminal: int) -> bytes:
-    """What a process writes until it waits for keys, or until it ended; at most what it writes in five seconds."""
-    written, end = b'', time.monotonic() + 5
+def sleeps(process: int) -> int:
+    """How often a process has fallen asleep by itself; on a busy machine a key reaches it a while after it was typed."""
+    status = Path(f'/proc/{process}/status').read_text(encoding='utf-8')
+    found = re.search(r'^voluntary_ctxt_switches:\s*(\d+)', status, re.MULTILINE)
+    return int(found[1]) if found else 0
+
+
+def read_until_rest(process: int, terminal: int, slept: int) -> bytes:
+    """What a process writes until it rests again; at most what it writes in a minute."""
+    written, end = b'', time.monotonic() + 60
     while time.monotonic() < end:
         if not select.select([terminal], [], [], 0.03)[0]:
-            if rests(process):
+            if rests(process, slept) and (written or slept):
                 break
             continue
         try:
@@ -45,14 +54,14 @@ def screens(words: list[str], keys: str) -> bytes:
     if process == 0:
         os.environ.update(TERM='xterm', LINES='24', COLUMNS='80', LESSHISTFILE='-', LC_ALL='C.UTF-8')
         os.execv(words[0], words)
-    time.sleep(0.2)
-    written = read_until_rest(process, terminal)
+    written = read_until_rest(process, terminal, 0)
     for key in [*keys, 'q']:
+        slept = sleeps(process)
         try:
             os.write(terminal, key.encode())
         except OSError:
             break
-        written += read_until_rest(process, terminal)
+        written += read_until_rest(process, terminal, slept)
     os.close(terminal)
     status = os.waitpid(process, 0)[1]
     return written + b'\nstatus %d' % status
