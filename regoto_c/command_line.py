@@ -23,8 +23,10 @@ exit status:
   0   each function with a goto was restructured
   1   a function was left as it is; with --check, a function has a goto that could go
   2   the words fit no use
-  3   a file can't be read, clang finds errors in it, or there is no proved program
+  3   a file can't be read or written, clang finds errors in it, or there is no proved program
   70  a fault of regoto-c itself; nothing was written
+  with --cc it is the compiler's own: 128 and the signal's number where a signal ended it, 127 where it can't be
+  started; 2 and 3 are regoto-c's only where it doesn't get so far as to start it
 """
 _TRIED = ("the program runs before its proofs, which takes a minute or more for each file; what comes out isn't proved "
           "(./regoto --build proves and builds it)")

@@ -276,3 +276,15 @@ def asked(value: Value | None) -> str | None:
         case Chain(_, parts):
             return next((piece for piece in map(asked, parts) if piece), None)
     return None
+
+
+def asked_by(item: Item) -> str | None:
+    """Return the first piece whose value an `if`, a loop or a `switch` asks for, or None."""
+    match item:
+        case If() | While() | DoWhile():
+            return asked(item.test)
+        case For():
+            return item.test
+        case Switch():
+            return asked(item.selector)
+    return None

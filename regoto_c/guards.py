@@ -15,6 +15,11 @@ def white_before(text: str, offset: int) -> str:
     return line[:len(line) - len(line.lstrip(" \t"))]
 
 
+def further_in(white: str, step: str, count: int) -> str:
+    """Return white space so many steps further in; spaces go behind it and tabs before it, since a tab may take spaces in."""
+    return step * count + white if step == "\t" else white + step * count
+
+
 Part = tuple[int, int, str]
 
 
@@ -31,7 +36,7 @@ def guards(text: str, tokens: Sequence[Token], parts: Sequence[Part], step: str)
     for first, last, head in parts:
         depth = sum(low < first and last <= high for low, high, _ in parts)
         start, end = tokens[first].start, tokens[last].end
-        white = _white(text, tokens, first) + step * depth
+        white = further_in(_white(text, tokens, first), step, depth)
         line = text.rfind("\n", 0, start) + 1
         begins = tokens[first].is_directive or not text[line:start].strip()
         if begins:
@@ -45,13 +50,22 @@ def guards(text: str, tokens: Sequence[Token], parts: Sequence[Part], step: str)
         lines.update(_lines(text, line if begins else start, end))
     inside = {at for token in tokens for at in _lines(text, token.start + 1, token.end)}
     for line in sorted({*heads, *lines}):
-        moves = line not in inside and text[line:].lstrip(" \t")[:1] not in ("#", "\n", "\r")
-        edits.append(Edit(line, line, "".join(heads.get(line, [])) + (step * lines[line] if moves else "")))
+        moved = _moved(text, line, step, 0 if line in inside else lines[line])
+        edits.append(Edit(line, moved.end, "".join(heads.get(line, [])) + moved.text))
     return edits + [Edit(one.start, one.start, one.text) for one in _innermost_first(parts, ends)]
 
 
 def _innermost_first(parts: Sequence[Part], ends: Sequence[Edit]) -> list[Edit]:
     return [end for _, end in sorted(zip(parts, ends), key=lambda each: -each[0][0])]
+
+
+def _moved(text: str, line: int, step: str, count: int) -> Edit:
+    """Return the edit of the front of a line that moves it so many steps; a directive and an empty line stay."""
+    behind = line
+    while text[behind:behind + 1] in (" ", "\t"):
+        behind += 1
+    white, stays = text[line:behind], text[behind:behind + 1] in ("#", "\n", "\r")
+    return Edit(line, behind, white if stays else further_in(white, step, count))
 
 
 def _white(text: str, tokens: Sequence[Token], at: int) -> str:

@@ -147,6 +147,8 @@ class Renderer:
         self.renames = renames
         self.offsets = sorted(renames)
         self.replacements = sorted(cutter.declarations.replacements, key=lambda one: one.start)
+        self.trailing = dict(cutter.trailing)
+        self.full = 0  # how many lines there were when the last one got a comment that ends with it
         self.shift = 0
 
     def plain(self, start: int, end: int, edits: list[Edit]) -> str:
@@ -171,6 +173,16 @@ class Renderer:
         text = self.piece(start, end)
         self.shift = 0
         return text
+
+    def put_behind(self, asked: str | None, lines: list[str], columns: int) -> None:
+        """Put the comments behind the bracket of what asks for a piece behind the last line, or below a comment with //."""
+        for span in self.trailing.pop(asked or "", []):
+            text = self.shifted(*span, columns)
+            if self.full == len(lines):
+                lines.append(self.layout.white(columns) + text)
+            else:
+                lines[-1] += " " + text
+            self.full = len(lines) if text.startswith("//") else 0
 
     def _names(self, start: int, end: int) -> list[Edit]:
         low, high = bisect_left(self.offsets, start), bisect_left(self.offsets, end)

@@ -122,11 +122,8 @@ class ListCutter:
 
     def _falls(self, node: Node) -> None:
         """Take the comments that say that what stands before a label falls through to it."""
-        text = self.cutter.file.text
-        while node.kind == syntax.LABEL:
-            node = node.children[-1]
-        is_section = self.is_body and node.kind in (syntax.CASE, syntax.DEFAULT)
-        while self.waiting and _FALLS.search(text, self.waiting[0].start, self.waiting[0].end):
+        is_section = self._is_section(node)
+        while self.waiting and self._is_on_falling(self.waiting[0]):
             if is_section:  # it is written before the case label
                 comment = self.waiting.pop(0)
                 self.falling.append((comment.start, comment.end))
@@ -134,6 +131,15 @@ class ListCutter:
                 self.run.end = self.waiting.pop(0).end
             else:
                 break
+
+    def _is_section(self, node: Node) -> bool:
+        """Return whether a label is a case label of the `switch` whose body this is, or stands before one."""
+        while node.kind == syntax.LABEL:
+            node = node.children[-1]
+        return self.is_body and node.kind in (syntax.CASE, syntax.DEFAULT)
+
+    def _is_on_falling(self, comment: Comment) -> bool:
+        return _FALLS.search(self.cutter.file.text, comment.start, comment.end) is not None
 
     def _declaration(self, node: Node, limit: int) -> None:
         behind = self.cutter.finish(node, self.at, limit)
@@ -201,9 +207,29 @@ class ListCutter:
         items, behind = self.cutter.statement(node, self.at, limit)
         self._advance(behind)
         if self.is_closed and self.cutter.is_token(behind - 1, ";"):
-            self.waiting += self._comments(self.cutter.behind_comments(self.offset))
+            self.waiting += self._comments(self._behind_own_comments(items))
+        elif self.is_closed and self.cutter.is_token(behind - 1, "}"):
+            self._trail(self._comments(self._behind_own_comments(items)), items)
         self._emit_waiting()
         self.out += items
+
+    def _trail(self, comments: list[Comment], items: Items) -> None:
+        """Keep comments behind the bracket of a statement; where it asks for nothing they go before it."""
+        asked = forms.asked_by(items[-1]) if items else None
+        if asked is None:
+            self.waiting += comments
+        elif comments:
+            self.cutter.trailing.setdefault(asked, []).extend((comment.start, comment.end) for comment in comments)
+
+    def _behind_own_comments(self, items: Items) -> int:
+        """Return the end of the comments on the line behind a statement; one on falling through is the next label's."""
+        end = self.cutter.behind_comments(self.offset)
+        if not self.nodes or self.cutter.unit_of(self.nodes[0]) != self.at or items and isinstance(items[-1], _JUMPS):
+            return end
+        if self._is_section(self.nodes[0]):
+            falling = filter(self._is_on_falling, self.cutter.comments_between(self.offset, end))
+            end = next((comment.start for comment in falling), end)
+        return end
 
     # -- runs
 

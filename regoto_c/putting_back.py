@@ -39,7 +39,8 @@ class Writer:
         if text[self.cutter.kept_end:].lstrip(" \t\r").startswith("\n") and self._gap_follows():
             self.lines.append("")
         self.items(rest)
-        for start, end in [span for spans in self.falls.values() for span in spans]:  # of labels that aren't there
+        left = [*self.falls.values(), *self.renderer.trailing.values()]
+        for start, end in [span for spans in left for span in spans]:  # of labels that aren't there
             self.line(self.renderer.shifted(start, end, self.columns))
         self.columns = self.layout.base
         self.line("}")
@@ -56,6 +57,11 @@ class Writer:
     def line(self, text: str) -> None:
         """Write a line; a directive begins at its own first column."""
         self.lines.append(text if text.startswith("#") else self.layout.white(self.columns) + text)
+
+    def close(self, asked_for: str | None, text: str = "}") -> None:
+        """Write the end of a statement that asks for a piece, with the comments that stand behind its bracket."""
+        self.line(text)
+        self.renderer.put_behind(asked_for, self.lines, self.columns)
 
     def between_lines(self, text: str) -> str:
         """Return the text of an expression; a directive at its front or end gets a line of its own."""
@@ -125,17 +131,17 @@ class Writer:
             case forms.While(test, body):
                 self.line(f"while ({self.test(test)}) {{")
                 self.block(body)
-                self.line("}")
+                self.close(asked(test))
             case forms.DoWhile(body, test):
                 self.line("do {")
                 self.block(body)
-                self.line(f"}} while ({self.test(test)});")
+                self.close(asked(test), f"}} while ({self.test(test)});")
             case forms.For():
                 self.for_loop(item)
             case forms.Switch(selector, body):
                 self.switch(selector, body)
             case _:
-                self.line(self.simple(item))
+                self.close(asked(item.value) if isinstance(item, forms.Set) else None, self.simple(item))
 
     def simple(self, item: forms.Item) -> str:
         """Return an item of one line."""
@@ -171,12 +177,12 @@ class Writer:
         self.block(item.then)
         if len(item.other) == 1 and isinstance(item.other[0], forms.If):
             self.choice(item.other[0], "} else ")
-        elif item.other:
-            self.line("} else {")
-            self.block(item.other)
-            self.line("}")
+            self.renderer.put_behind(asked(item.test), self.lines, self.columns)
         else:
-            self.line("}")
+            if item.other:
+                self.line("} else {")
+                self.block(item.other)
+            self.close(asked(item.test))
 
     def for_loop(self, item: forms.For) -> None:
         """Write a `for`."""
@@ -184,7 +190,7 @@ class Writer:
             item.first, item.test, item.third))
         self.line(f"for ({first}; {test}; {third}) {{")
         self.block(item.body)
-        self.line("}")
+        self.close(item.test)
 
     # -- switches
 
@@ -197,7 +203,7 @@ class Writer:
         self.columns += self.layout.case_step
         self.sections(body)
         self.columns -= self.layout.case_step
-        self.line("}")
+        self.close(piece)
         self.switches.pop()
 
     def sections(self, body: Items) -> None:

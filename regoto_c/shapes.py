@@ -101,10 +101,24 @@ class _Reader:
         self.scan(close + 1)
 
     def scan(self, to: int) -> None:
+        """Note the jumps up to an index, but for those that stay within a statement expression."""
         while self.at < to:
+            if self.text() == "(" and self.text(1) == "{":
+                self.statement_expression()
             if self.text() in JUMPS:
                 self.jump()
             self.at += 1
+
+    def statement_expression(self) -> None:
+        """Read a statement expression up to its last bracket, and note a jump in it where one may leave it."""
+        close = closing(self.tokens, self.at + 1)
+        if close is None:
+            return
+        inside = self.tokens[self.at + 2:close]
+        found = shape(inside)
+        if found.jump is not None or not found.whole:
+            self.shape.jump = self.shape.jump or next((token for token in inside if token.text in JUMPS), None)
+        self.at = close
 
     def statements(self, loop: bool, switch: bool, top: bool) -> None:
         row = Row(self.at, len(self.tokens), [])

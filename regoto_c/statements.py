@@ -43,6 +43,7 @@ class StatementCutter(Ground):
         self.selectors: list[Piece] = []
         self.sections: set[int] = set()
         self.falls: dict[tuple[str, int | None], list[tuple[int, int]]] = {}
+        self.trailing: dict[str, list[tuple[int, int]]] = {}  # comments, by what is asked in the statement before them
         self.labels: set[str] = set()
         self.spans: list[tuple[int, int]] = []
         self.hidden: Counter[str] = Counter()

@@ -55,6 +55,15 @@ def pytest_collection_modifyitems(items: list[pytest.Item]) -> None:
             item.add_marker(pytest.mark.skip(reason='no core: REGOTO_CORE names none, and none is built'))
 
 
+def check_text(command: Command, folder: Path, before: str, after: str) -> None:
+    """A file with the first text becomes the second."""
+    source = folder / 'a.c'
+    source.write_text(before)
+    ran = command('-o', '-', source)
+    assert ran.status == 0, ran.error
+    assert ran.out == after
+
+
 def has(*programs: str) -> bool:
     """Whether programs are installed."""
     return all(shutil.which(program) for program in programs)

@@ -285,6 +285,9 @@ def test_help(command: Command) -> None:
     for word in ('-o', '-i', '--in-place', '-d', '--diff', '-p', '--functions', '--configured', '--tidy', '--report',
                  '--cc', '--check', '--strict', '--jobs', '--quiet', '--version', '--core', 'exit status'):
         assert word in ran.out.lower() or word in ran.out, word
+    statuses = ran.out[ran.out.index('exit status'):]
+    for word in ('--check', '--cc', '127', '128'):
+        assert word in statuses, word
 
 
 def test_version(command: Command) -> None:

@@ -88,6 +88,9 @@ UNITS = [
      [("#ifdef X\n#pragma omp parallel for\n#endif\n  for (int i = 0; i < a; i++) b++;", "statements")]),
     ("b = 1;\n#ifdef X\n#pragma omp parallel for\n#endif\n  for (int i = 0; i < a; i++) if (i == 7) goto out;",
      [("#ifdef X", "a #pragma for")]),
+    ("b = 1;\n#ifdef X\n  b = ({ while (a) if (a-- == 3) break; a; });\n#endif\n  b++;",
+     [("#ifdef X\n  b = ({ while (a) if (a-- == 3) break; a; });\n#endif", "statements")]),
+    ("while (a--) {\n#ifdef X\n  b = ({ if (a == 3) break; a; });\n#endif\n  if (b) goto out;\n  }", [("#ifdef X", "a jump")]),
     ("b = 1; /* # */ b = '#';\n  g(a); // #if\n", []),
 ]
 

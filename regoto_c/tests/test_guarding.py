@@ -105,3 +105,15 @@ def test_not_among_statements(tmp_path: Path, before: str, behind: str) -> None:
     middle = group if 'else' not in behind else '#ifdef X\n  goto out;\n#endif'
     file = read(tmp_path / 'a.c', HEAD + before + middle + behind + TAIL, [])
     assert guarding.guarded(file, file.functions[-1]) == []
+
+
+@pytest.mark.parametrize('before, after', [
+    ('  if (a) goto out;\n  b--;\n \tb++;\n  b = g(\n  \t a);',
+     '  if (!leave) {\n      b--;\n \t    b++;\n      b = g(\n  \t     a);\n  }'),
+    ('\tif (a) goto out;\n    if (b) goto out;\n    b++;',
+     '    if (!leave) {\n\t    if (b) leave = 1;\n\t    if (!leave) {\n\t\t    b++;\n\t    }\n    }')])
+def test_tabs(tmp_path: Path, before: str, after: str) -> None:
+    """A line moves by a whole step where spaces stand before a tab, and none are put there."""
+    file = read(tmp_path / 'a.c', HEAD + f'#ifdef X\n{before}\n#endif' + TAIL, [])
+    text = edited(file.text, guarding.guarded(file, file.functions[-1]))
+    assert after in text

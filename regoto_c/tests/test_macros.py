@@ -19,6 +19,10 @@ KINDS = [
     ("x + 1", "plain"), ("", "nothing"), ("x ? y : z", "plain"), ("{ x++; }", "plain"),
     ("do { x++; } while (0)", "plain"), ("for (;;) { if (x) break; }", "plain"),
     ("switch (x) { case 1: break; default: x++; }", "plain"), ("({ int y = x; y; })", "plain"),
+    ("({ for (;;) if (x) break; x; }) + 1", "plain"),
+    ("f(({ switch (x) { case 1: break; } ({ while (x--) continue; 1; }); }))", "plain"),
+    ("({ if (x) break; x; })", "mixed"), ("({ for (;;) break; ({ break; 1; }); })", "mixed"),
+    ("({ while (x) return; x; })", "mixed"), ("({ for (;;) break; if (x) })", "mixed"),
     ("goto out", "goto"), ("goto out;", "goto"), ("goto *p", "mixed"), ("break", "break"), ("continue;", "continue"),
     ("return", "return"), ("return x ? 1 : 2;", "return"), ("return ({ goto l; 1; })", "mixed"),
     ("return 1; x++", "mixed"), ("case 1:", "case"), ("case 1 ? 2 : 3:", "case"), ("case 1: case 2:", "mixed"),
@@ -75,6 +79,7 @@ EXPANSIONS = [
     ("#define RUN(x) { x; }", "  RUN(if (a) goto out)" + END, "{ if (a) goto out; }"),
     ("#include <errno.h>\n#define TRY(x) do { errno = 0; if ((x) < 0 || errno) goto out; } while (0)",
      "  TRY(a - 1);" + END, "errno = 0; if ((a - 1) < 0 || errno) goto out;"),
+    ("#define C(x) ({ int i_ = 0; for (; i_ < 9; i_++) if (i_ == (x)) break; i_; })", "  if (C(a) > 3) goto out;" + END, None),
     ('#define C(x) _Pragma("GCC diagnostic push") if (x) goto out', "  C(a);" + END,
      '_Pragma("GCC diagnostic push") if (a) goto out;'),
 ]

@@ -5,7 +5,7 @@ from pathlib import Path
 
 import pytest
 
-from .conftest import Command
+from .conftest import Command, check_text
 
 # a name, the file before, the file after
 TEXTS = [
@@ -89,11 +89,7 @@ out:
 @pytest.mark.parametrize('before, after', [row[1:] for row in TEXTS], ids=[row[0].replace(' ', '-') for row in TEXTS])
 def test_text(command: Command, tmp_path: Path, before: str, after: str) -> None:
     """The result is this text."""
-    source = tmp_path / 'a.c'
-    source.write_text(before)
-    ran = command('-o', '-', source)
-    assert ran.status == 0, ran.error
-    assert ran.out == after
+    check_text(command, tmp_path, before, after)
 
 
 def result_of(command: Command, folder: Path, text: bytes, *flags: str) -> bytes:

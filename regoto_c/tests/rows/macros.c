@@ -152,3 +152,19 @@ a:
     SHOWS(kept);
     return n + KEEPS;
 }
+
+static int first(int k, int from) { return k + from; }
+#define first(k, from) \
+    (__extension__ ((k) < 5 ? ({ int at_; for (at_ = (from); at_ < 9; at_++) if (at_ * at_ > (k)) break; at_; }) : first(k, from)))
+
+/* a macro that names itself, with a `break` out of a loop of its own */
+int loops_in_expressions(int n) {
+    while (n > 0) {
+        if (first(n, 0) == 2)
+            goto end;
+        n -= first(n, 1) - ({ int k = 0; switch (n) { case 6: k = 3; break; default: k = 1; } t(k); k; });
+    }
+    t(n);
+end:
+    return n;
+}
