@@ -10,10 +10,10 @@ ghost use Rattle.c_layers.specs.Views.{words_of};
 ghost use Rattle.c_statements.specs.Violations.{is_null as the_null};
 
 use crate::labels::{first_label, has_case};
-use c_grammar::{Production, Syntax};
+use c_grammar::{Production, SyntaxNode};
 use c_layers::{ItemLayer, StatementLayer, Words, item_layer, statement_layer};
 
-fn begins(words: &Words, x: &Syntax) -> bool
+fn begins(words: &Words, x: &SyntaxNode) -> bool
     ensures { result ≡ steps.begins (item_of (words_of words.now) x.now) }
 {
     match item_layer(words, x) {
@@ -24,7 +24,7 @@ fn begins(words: &Words, x: &Syntax) -> bool
 }
 
 /// Whether a statement is a null statement.
-fn is_null(words: &Words, x: &Syntax) -> bool
+fn is_null(words: &Words, x: &SyntaxNode) -> bool
     ensures { result ≡ the_null [] (plain_of (words_of words.now) x.now) }
 {
     match statement_layer(words, x) {
@@ -47,7 +47,7 @@ fn is_null(words: &Words, x: &Syntax) -> bool
 
 /// Whether an item is an element in front of the first section: a null statement without labels is none.
 #[tactic(auto, using(crate::proofs::FirstTokens::firsts))]
-pub fn is_element(words: &Words, x: &Syntax) -> bool
+pub fn is_element(words: &Words, x: &SyntaxNode) -> bool
     ensures { result ≡ steps.is_element (item_of (words_of words.now) x.now) }
 {
     match item_layer(words, x) {
@@ -60,23 +60,23 @@ pub fn is_element(words: &Words, x: &Syntax) -> bool
 }
 
 /// Whether an item stands in front of the first section, where a section was begun or not.
-pub fn is_outside(words: &Words, begun: bool, x: &Syntax) -> bool
+pub fn is_outside(words: &Words, begun: bool, x: &SyntaxNode) -> bool
     ensures { result ≡ steps.is_outside begun (item_of (words_of words.now) x.now) }
 {
     !begun && !begins(words, x) && is_element(words, x)
 }
 
 /// The first token of a statement without its labels.
-fn first_of_plain(words: &Words, x: &Syntax) -> u32
+fn first_of_plain(words: &Words, x: &SyntaxNode) -> u32
     ensures { result ≡ items.plain_first (plain_of (words_of words.now) x.now) }
 {
     let _layer = statement_layer(words, x);
-    x.first
+    x.first()
 }
 
 /// The first token of an item.
 #[tactic(auto, using(crate::proofs::FirstTokens::firsts))]
-pub fn first_of_item(words: &Words, x: &Syntax) -> u32
+pub fn first_of_item(words: &Words, x: &SyntaxNode) -> u32
     ensures { result ≡ items.item_first (item_of (words_of words.now) x.now) }
 {
     match item_layer(words, x) {
@@ -90,8 +90,8 @@ pub fn first_of_item(words: &Words, x: &Syntax) -> u32
 }
 
 /// Whether a node is one token.
-pub fn is_token(x: &Syntax) -> bool
+pub fn is_token(x: &SyntaxNode) -> bool
     ensures { result ≡ the_token (out-Syntax x.now).rule }
 {
-    matches!(x.rule, Production::Token)
+    matches!(x.rule(), Production::Token)
 }

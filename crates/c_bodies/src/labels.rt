@@ -18,7 +18,7 @@ use crate::notes::add_notes;
 use crate::reading::Reading;
 use crate::state::{Around, FunctionContext, State, add_case, report_at};
 use crate::values::constant;
-use c_grammar::Syntax;
+use c_grammar::SyntaxNode;
 use c_layers::{LabelLayer, Words, label_layer};
 use c_statements::{Anchor, Entry, or_placeholder};
 use c_tree::{Expression, Item};
@@ -68,7 +68,7 @@ fn case<'n, 'a>(
     around: Around,
     state: &mut State<'a>,
     at: u32,
-    x: &Syntax,
+    x: &SyntaxNode,
 ) -> Result<Expression, Memory>
     ensures value { IfOk result (λ e. e ≡ declarations.constant_at (views.env ctx.now state.old) (term_of (words_of ctx.now.words) x.now)) }
     ensures walk { OnOk result (views.walk_of state.new ≡ views.walk_of state.old) }
@@ -104,7 +104,7 @@ fn add_arrival<'n, 'a>(
     around: Around,
     state: &mut State<'a>,
     at: u32,
-    x: &Syntax,
+    x: &SyntaxNode,
     out: &mut List<Item>,
 ) -> Result<(), Memory>
     ensures walk { OnOk result (views.walk_of state.new ≡ views.walk_of state.old) }
@@ -150,7 +150,7 @@ fn add_node<'n, 'a>(
     ctx: &FunctionContext<'n, 'a>,
     around: Around,
     state: &mut State<'a>,
-    x: &Syntax,
+    x: &SyntaxNode,
     out: &mut List<Item>,
 ) -> Result<(), Memory>
     ensures walk { OnOk result (views.walk_of state.new ≡ views.walk_of state.old) }
@@ -171,7 +171,7 @@ pub fn add_labels<'n, 'a>(
     ctx: &FunctionContext<'n, 'a>,
     around: Around,
     state: &mut State<'a>,
-    nodes: &[Syntax],
+    nodes: &[SyntaxNode],
     out: &mut List<Item>,
 ) -> Result<(), Memory>
     ensures walk { OnOk result (views.walk_of state.new ≡ views.walk_of state.old) }
@@ -192,7 +192,7 @@ fn read_case<'n, 'a>(
     around: Around,
     state: &mut State<'a>,
     at: u32,
-    x: &Syntax,
+    x: &SyntaxNode,
     heads: &mut List<Expression>,
 ) -> Result<(), Memory>
     ensures heads { OnOk result (heads.new ≡ heads.old ++ spec.label_cases (views.env ctx.now state.old) (the_case at 0 (term_of (words_of ctx.now.words) x.now))) }
@@ -242,7 +242,7 @@ fn read_node<'n, 'a>(
     ctx: &FunctionContext<'n, 'a>,
     around: Around,
     state: &mut State<'a>,
-    x: &Syntax,
+    x: &SyntaxNode,
     section: &mut Reading,
 ) -> Result<(), Memory>
     ensures begun { OnOk result (section.new.begun ≡ section.old.begun) }
@@ -266,7 +266,7 @@ pub fn read_labels<'n, 'a>(
     ctx: &FunctionContext<'n, 'a>,
     around: Around,
     state: &mut State<'a>,
-    nodes: &[Syntax],
+    nodes: &[SyntaxNode],
     section: &mut Reading,
 ) -> Result<(), Memory>
     ensures begun { OnOk result (section.new.begun ≡ section.old.begun) }
@@ -290,7 +290,7 @@ pub fn begin<'n, 'a>(
     ctx: &FunctionContext<'n, 'a>,
     around: Around,
     state: &mut State<'a>,
-    nodes: &[Syntax],
+    nodes: &[SyntaxNode],
     section: &mut Reading,
 ) -> Result<(), Memory>
     ensures begun { OnOk result (section.new.begun ≡ section.old.begun) }
@@ -308,7 +308,7 @@ pub fn begin<'n, 'a>(
 
 /// The first token of the labels among these nodes, and 0 where there are none.
 #[tactic(auto, using(crate::proofs::Walks::beginnings))]
-fn first_or_none(words: &Words, nodes: &[Syntax]) -> u32
+fn first_or_none(words: &Words, nodes: &[SyntaxNode]) -> u32
     ensures { result ≡ items.first_label (labels_of (words_of words.now) nodes.now) }
 {
     match first_label(words, nodes) {
@@ -318,7 +318,7 @@ fn first_or_none(words: &Words, nodes: &[Syntax]) -> u32
 }
 
 /// Whether a node is a case or default label.
-fn is_case(words: &Words, x: &Syntax) -> bool
+fn is_case(words: &Words, x: &SyntaxNode) -> bool
     ensures { result ≡ spec.has_case (labels_of (words_of words.now) (x.now ∷ [])) }
 {
     match label_layer(words, x) {
@@ -331,7 +331,7 @@ fn is_case(words: &Words, x: &Syntax) -> bool
 
 /// Whether a case or default label is among these nodes.
 #[tactic(auto, using(crate::proofs::Walks::any_case))]
-pub fn has_case(words: &Words, nodes: &[Syntax]) -> bool
+pub fn has_case(words: &Words, nodes: &[SyntaxNode]) -> bool
     ensures { result ≡ spec.has_case (labels_of (words_of words.now) nodes.now) }
 {
     for x in nodes {
@@ -343,7 +343,7 @@ pub fn has_case(words: &Words, nodes: &[Syntax]) -> bool
 }
 
 /// The first token of a label, if a node is one.
-fn label_first(words: &Words, x: &Syntax) -> Option<u32>
+fn label_first(words: &Words, x: &SyntaxNode) -> Option<u32>
     ensures { result ≡ steps.first_of (labels_of (words_of words.now) (x.now ∷ [])) }
 {
     match label_layer(words, x) {
@@ -356,7 +356,7 @@ fn label_first(words: &Words, x: &Syntax) -> Option<u32>
 
 /// The first token of the labels among these nodes, if there are any.
 #[tactic(auto, using(crate::proofs::Walks::first_label))]
-pub fn first_label(words: &Words, nodes: &[Syntax]) -> Option<u32>
+pub fn first_label(words: &Words, nodes: &[SyntaxNode]) -> Option<u32>
     ensures { result ≡ steps.first_of (labels_of (words_of words.now) nodes.now) }
 {
     for x in nodes {

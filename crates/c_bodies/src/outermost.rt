@@ -11,7 +11,7 @@ ghost use Rattle.c_statements.specs.Nodes.{items_of};
 use crate::notes::add_notes;
 use crate::state::{Around, FunctionContext, State, put_cases, set_words, take_cases};
 use crate::walk::{add_item, add_list};
-use c_grammar::Syntax;
+use c_grammar::SyntaxNode;
 use c_layers::BodyLayer;
 use c_statements::Anchor;
 use c_tree::Item;
@@ -24,7 +24,7 @@ fn braces<'n, 'a>(
     ctx: &FunctionContext<'n, 'a>,
     state: &mut State<'a>,
     first: u32,
-    nodes: &[Syntax],
+    nodes: &[SyntaxNode],
 ) -> Result<List<Item>, Memory>
     ensures value { IfOk result (λ xs. xs ≡ spec.body_items (views.context_of ctx.now) (items.Braces first 0 (items_of (words_of ctx.now.words) nodes.now)) (views.walk_of state.old)) }
     ensures walk { OnOk result (views.walk_of state.new ≡ spec.behind_body (views.context_of ctx.now) (items.Braces first 0 (items_of (words_of ctx.now.words) nodes.now)) (views.walk_of state.old)) }
@@ -46,7 +46,7 @@ fn lone<'n, 'a>(
     ctx: &FunctionContext<'n, 'a>,
     state: &mut State<'a>,
     first: u32,
-    x: &Syntax,
+    x: &SyntaxNode,
 ) -> Result<List<Item>, Memory>
     ensures value { IfOk result (λ xs. xs ≡ spec.body_items (views.context_of ctx.now) (items.Lone first 0 (item_of (words_of ctx.now.words) x.now)) (views.walk_of state.old)) }
     ensures walk { OnOk result (views.walk_of state.new ≡ spec.behind_body (views.context_of ctx.now) (items.Lone first 0 (item_of (words_of ctx.now.words) x.now)) (views.walk_of state.old)) }

@@ -14,7 +14,7 @@ ghost use Rattle.c_statements.specs.Violations as violations;
 use crate::items::Heads;
 use crate::state::{Around, FunctionContext, State, enter, report_at};
 use crate::values::{add_variables, dropped, optional_dropped, optional_used, returned};
-use c_grammar::Syntax;
+use c_grammar::SyntaxNode;
 use c_layers::StartLayer;
 use c_tree::Item;
 use c_types::{List, Memory};
@@ -25,7 +25,7 @@ pub fn add_evaluation<'n, 'a>(
     alloc: Global,
     ctx: &FunctionContext<'n, 'a>,
     state: &mut State<'a>,
-    x: &Syntax,
+    x: &SyntaxNode,
     out: &mut List<Item>,
 ) -> Result<(), Memory>
     ensures walk { OnOk result (views.walk_of state.new ≡ views.walk_of state.old) }
@@ -94,7 +94,7 @@ fn add_returned<'n, 'a>(
     ctx: &FunctionContext<'n, 'a>,
     state: &mut State<'a>,
     first: u32,
-    x: &Syntax,
+    x: &SyntaxNode,
     out: &mut List<Item>,
 ) -> Result<(), Memory>
     ensures walk { OnOk result (views.walk_of state.new ≡ views.walk_of state.old) }
@@ -127,7 +127,7 @@ pub fn add_return<'n, 'a>(
     ctx: &FunctionContext<'n, 'a>,
     state: &mut State<'a>,
     first: u32,
-    x: Option<&Syntax>,
+    x: Option<&SyntaxNode>,
     out: &mut List<Item>,
 ) -> Result<(), Memory>
     ensures walk { OnOk result (views.walk_of state.new ≡ views.walk_of state.old) }
@@ -167,8 +167,8 @@ pub fn read_heads<'n, 'a>(
     ctx: &FunctionContext<'n, 'a>,
     state: &mut State<'a>,
     start: StartLayer,
-    test: Option<&Syntax>,
-    third: Option<&Syntax>,
+    test: Option<&SyntaxNode>,
+    third: Option<&SyntaxNode>,
 ) -> Result<Heads, Memory>
     ensures start { IfOk result (λ h. h.start ≡ spec.start_items (views.context_of ctx.now) (start_form (words_of ctx.now.words) start.entry) (context.enter (views.walk_of state.old))) }
     ensures test { IfOk result (λ h. h.test ≡ option_map (declarations.value_at (context.env_at (views.context_of ctx.now) (spec.behind_start (views.context_of ctx.now) (start_form (words_of ctx.now.words) start.entry) (context.enter (views.walk_of state.old))))) (option_map (λ y. term_of (words_of ctx.now.words) y.now) test.entry)) }

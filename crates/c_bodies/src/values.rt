@@ -13,7 +13,7 @@ ghost use Rattle.c_statements.specs.Statements as spec;
 ghost use Rattle.c_statements.specs.Violations as violations;
 
 use crate::state::{FunctionContext, State, report_at};
-use c_grammar::Syntax;
+use c_grammar::SyntaxNode;
 use c_kinds::{
     Valued, constant_expression, dropped_value, expression_of, typed_of, used_value, value_of,
 };
@@ -28,7 +28,7 @@ pub fn used<'n, 'a>(
     alloc: Global,
     ctx: &FunctionContext<'n, 'a>,
     state: &mut State<'a>,
-    x: &Syntax,
+    x: &SyntaxNode,
 ) -> Result<Expression, Memory>
     ensures value { IfOk result (λ e. e ≡ declarations.value_at (views.env ctx.now state.old) (term_of (words_of ctx.now.words) x.now)) }
     ensures walk { OnOk result (views.walk_of state.new ≡ views.walk_of state.old) }
@@ -54,7 +54,7 @@ pub fn dropped<'n, 'a>(
     alloc: Global,
     ctx: &FunctionContext<'n, 'a>,
     state: &mut State<'a>,
-    x: &Syntax,
+    x: &SyntaxNode,
 ) -> Result<Expression, Memory>
     ensures value { IfOk result (λ e. e ≡ spec.dropped_at (views.env ctx.now state.old) (term_of (words_of ctx.now.words) x.now)) }
     ensures walk { OnOk result (views.walk_of state.new ≡ views.walk_of state.old) }
@@ -71,7 +71,7 @@ pub fn constant<'n, 'a>(
     alloc: Global,
     ctx: &FunctionContext<'n, 'a>,
     state: &mut State<'a>,
-    x: &Syntax,
+    x: &SyntaxNode,
 ) -> Result<Option<(Expression, i128)>, Memory>
     ensures value { IfOk result (λ c. c ≡ constant_of (typed (views.env ctx.now state.old) (term_of (words_of ctx.now.words) x.now))) }
     ensures walk { OnOk result (views.walk_of state.new ≡ views.walk_of state.old) }
@@ -104,7 +104,7 @@ pub fn selector<'n, 'a>(
     alloc: Global,
     ctx: &FunctionContext<'n, 'a>,
     state: &mut State<'a>,
-    x: &Syntax,
+    x: &SyntaxNode,
 ) -> Result<Selected, Memory>
     ensures value { IfOk result (λ s. s.expression ≡ declarations.value_at (views.env ctx.now state.old) (term_of (words_of ctx.now.words) x.now)) }
     ensures kind { IfOk result (λ s. s.kind ≡ option_map (λ v. v.kind) (the_value (typed (views.env ctx.now state.old) (term_of (words_of ctx.now.words) x.now)))) }
@@ -127,7 +127,7 @@ pub fn add_variables<'n, 'a>(
     alloc: Global,
     ctx: &FunctionContext<'n, 'a>,
     state: &mut State<'a>,
-    x: &Syntax,
+    x: &SyntaxNode,
     out: &mut List<Item>,
 ) -> Result<(), Memory>
     ensures walk { OnOk result (views.walk_of state.new ≡ spec.declared_by (views.context_of ctx.now) (declaration_of (words_of ctx.now.words) x.now) (views.walk_of state.old)) }
@@ -152,7 +152,7 @@ fn unwanted<'n, 'a>(
     alloc: Global,
     ctx: &FunctionContext<'n, 'a>,
     state: &mut State<'a>,
-    x: &Syntax,
+    x: &SyntaxNode,
 ) -> Result<Expression, Memory>
     ensures value { IfOk result (λ e. e ≡ declarations.value_at (views.env ctx.now state.old) (term_of (words_of ctx.now.words) x.now)) }
     ensures walk { OnOk result (views.walk_of state.new ≡ views.walk_of state.old) }
@@ -170,7 +170,7 @@ pub fn returned<'n, 'a>(
     ctx: &FunctionContext<'n, 'a>,
     state: &mut State<'a>,
     first: u32,
-    x: &Syntax,
+    x: &SyntaxNode,
 ) -> Result<Expression, Memory>
     ensures value { IfOk result (λ e. e ≡ declarations.value_at (views.env ctx.now state.old) (term_of (words_of ctx.now.words) x.now)) }
     ensures walk { OnOk result (views.walk_of state.new ≡ views.walk_of state.old) }
@@ -195,7 +195,7 @@ pub fn optional_used<'n, 'a>(
     alloc: Global,
     ctx: &FunctionContext<'n, 'a>,
     state: &mut State<'a>,
-    x: Option<&Syntax>,
+    x: Option<&SyntaxNode>,
 ) -> Result<Option<Expression>, Memory>
     ensures value { IfOk result (λ e. e ≡ option_map (declarations.value_at (views.env ctx.now state.old)) (option_map (λ y. term_of (words_of ctx.now.words) y.now) x.entry)) }
     ensures walk { OnOk result (views.walk_of state.new ≡ views.walk_of state.old) }
@@ -213,7 +213,7 @@ pub fn optional_dropped<'n, 'a>(
     alloc: Global,
     ctx: &FunctionContext<'n, 'a>,
     state: &mut State<'a>,
-    x: Option<&Syntax>,
+    x: Option<&SyntaxNode>,
 ) -> Result<Option<Expression>, Memory>
     ensures value { IfOk result (λ e. e ≡ option_map (spec.dropped_at (views.env ctx.now state.old)) (option_map (λ y. term_of (words_of ctx.now.words) y.now) x.entry)) }
     ensures walk { OnOk result (views.walk_of state.new ≡ views.walk_of state.old) }

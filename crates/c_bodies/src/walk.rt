@@ -30,7 +30,7 @@ use crate::state::{
     Around, FunctionContext, State, enter, leave, put_cases, report_at, report_switch, take_cases,
 };
 use crate::values::{add_variables, selector, used};
-use c_grammar::Syntax;
+use c_grammar::SyntaxNode;
 use c_layers::{
     BodyLayer, ItemLayer, StartLayer, StatementLayer, body_layer, item_layer, statement_layer,
 };
@@ -48,7 +48,7 @@ pub fn add_item<'n, 'a>(
     ctx: &FunctionContext<'n, 'a>,
     around: Around,
     state: &mut State<'a>,
-    x: &Syntax,
+    x: &SyntaxNode,
     out: &mut List<Item>,
 ) -> Result<(), Memory>
     ensures walk { OnOk result (views.walk_of state.new ≡ spec.behind_item (views.context_of ctx.now) (item_of (words_of ctx.now.words) x.now) (views.walk_of state.old)) }
@@ -77,7 +77,7 @@ fn add_plain<'n, 'a>(
     ctx: &FunctionContext<'n, 'a>,
     around: Around,
     state: &mut State<'a>,
-    x: &Syntax,
+    x: &SyntaxNode,
     out: &mut List<Item>,
 ) -> Result<(), Memory>
     ensures walk { OnOk result (views.walk_of state.new ≡ spec.behind_plain (views.context_of ctx.now) (plain_of (words_of ctx.now.words) x.now) (views.walk_of state.old)) }
@@ -85,7 +85,7 @@ fn add_plain<'n, 'a>(
     ensures cases { OnOk result (state.new.cases ≡ cases.plain_entries (views.context_of ctx.now) (plain_of (words_of ctx.now.words) x.now) (views.walk_of state.old) state.old.cases) }
     ensures faults { OnOk result (state.new.faults ≡ violations.plain_faults (views.context_of ctx.now) (views.around_of around) (plain_of (words_of ctx.now.words) x.now) (views.walk_of state.old) state.old.faults) }
 {
-    let first = x.first;
+    let first = x.first();
     add_notes(alloc, ctx, Anchor::Before(first), out)?;
     let layer = statement_layer(&ctx.words, x);
     add_statement(alloc, ctx, around, state, first, layer, out)
@@ -135,8 +135,8 @@ fn add_if<'n, 'a>(
     ctx: &FunctionContext<'n, 'a>,
     around: Around,
     state: &mut State<'a>,
-    t: &Syntax,
-    b: &Syntax,
+    t: &SyntaxNode,
+    b: &SyntaxNode,
     out: &mut List<Item>,
 ) -> Result<(), Memory>
     ensures walk { OnOk result (views.walk_of state.new ≡ spec.behind_statement (views.context_of ctx.now) (items.If (term_of (words_of ctx.now.words) t.now) (body_of (words_of ctx.now.words) b.now)) (views.walk_of state.old)) }
@@ -160,9 +160,9 @@ fn add_choice<'n, 'a>(
     ctx: &FunctionContext<'n, 'a>,
     around: Around,
     state: &mut State<'a>,
-    t: &Syntax,
-    b: &Syntax,
-    c: &Syntax,
+    t: &SyntaxNode,
+    b: &SyntaxNode,
+    c: &SyntaxNode,
     out: &mut List<Item>,
 ) -> Result<(), Memory>
     ensures walk { OnOk result (views.walk_of state.new ≡ spec.behind_statement (views.context_of ctx.now) (items.IfElse (term_of (words_of ctx.now.words) t.now) (body_of (words_of ctx.now.words) b.now) (body_of (words_of ctx.now.words) c.now)) (views.walk_of state.old)) }
@@ -187,8 +187,8 @@ fn bodies<'n, 'a>(
     ctx: &FunctionContext<'n, 'a>,
     around: Around,
     state: &mut State<'a>,
-    b: &Syntax,
-    c: &Syntax,
+    b: &SyntaxNode,
+    c: &SyntaxNode,
 ) -> Result<Lists, Memory>
     ensures walk { OnOk result (views.walk_of state.new ≡ spec.behind_body (views.context_of ctx.now) (body_of (words_of ctx.now.words) c.now) (spec.behind_body (views.context_of ctx.now) (body_of (words_of ctx.now.words) b.now) (views.walk_of state.old))) }
     ensures then { IfOk result (λ xs. xs.then ≡ spec.body_items (views.context_of ctx.now) (body_of (words_of ctx.now.words) b.now) (views.walk_of state.old)) }
@@ -207,8 +207,8 @@ fn add_while<'n, 'a>(
     ctx: &FunctionContext<'n, 'a>,
     around: Around,
     state: &mut State<'a>,
-    t: &Syntax,
-    b: &Syntax,
+    t: &SyntaxNode,
+    b: &SyntaxNode,
     out: &mut List<Item>,
 ) -> Result<(), Memory>
     ensures walk { OnOk result (views.walk_of state.new ≡ spec.behind_statement (views.context_of ctx.now) (items.While (term_of (words_of ctx.now.words) t.now) (body_of (words_of ctx.now.words) b.now)) (views.walk_of state.old)) }
@@ -237,8 +237,8 @@ fn add_do<'n, 'a>(
     ctx: &FunctionContext<'n, 'a>,
     around: Around,
     state: &mut State<'a>,
-    b: &Syntax,
-    t: &Syntax,
+    b: &SyntaxNode,
+    t: &SyntaxNode,
     out: &mut List<Item>,
 ) -> Result<(), Memory>
     ensures walk { OnOk result (views.walk_of state.new ≡ spec.behind_statement (views.context_of ctx.now) (items.DoWhile (body_of (words_of ctx.now.words) b.now) (term_of (words_of ctx.now.words) t.now)) (views.walk_of state.old)) }
@@ -263,9 +263,9 @@ fn add_for<'n, 'a>(
     around: Around,
     state: &mut State<'a>,
     start: StartLayer,
-    t: Option<&Syntax>,
-    u: Option<&Syntax>,
-    b: &Syntax,
+    t: Option<&SyntaxNode>,
+    u: Option<&SyntaxNode>,
+    b: &SyntaxNode,
     out: &mut List<Item>,
 ) -> Result<(), Memory>
     ensures walk { OnOk result (views.walk_of state.new ≡ spec.behind_statement (views.context_of ctx.now) (items.For (start_form (words_of ctx.now.words) start.entry) (option_map (λ y. term_of (words_of ctx.now.words) y.now) t.entry) (option_map (λ y. term_of (words_of ctx.now.words) y.now) u.entry) (body_of (words_of ctx.now.words) b.now)) (views.walk_of state.old)) }
@@ -297,7 +297,7 @@ fn add_block<'n, 'a>(
     around: Around,
     state: &mut State<'a>,
     first: u32,
-    nodes: &[Syntax],
+    nodes: &[SyntaxNode],
     out: &mut List<Item>,
 ) -> Result<(), Memory>
     ensures walk { OnOk result (views.walk_of state.new ≡ spec.behind_statement (views.context_of ctx.now) (items.Block (items.Braces first 0 (items_of (words_of ctx.now.words) nodes.now))) (views.walk_of state.old)) }
@@ -316,7 +316,7 @@ fn body<'n, 'a>(
     ctx: &FunctionContext<'n, 'a>,
     around: Around,
     state: &mut State<'a>,
-    x: &Syntax,
+    x: &SyntaxNode,
 ) -> Result<List<Item>, Memory>
     ensures walk { OnOk result (views.walk_of state.new ≡ spec.behind_body (views.context_of ctx.now) (body_of (words_of ctx.now.words) x.now) (views.walk_of state.old)) }
     ensures value { IfOk result (λ xs. xs ≡ spec.body_items (views.context_of ctx.now) (body_of (words_of ctx.now.words) x.now) (views.walk_of state.old)) }
@@ -337,7 +337,7 @@ fn braces<'n, 'a>(
     around: Around,
     state: &mut State<'a>,
     first: u32,
-    nodes: &[Syntax],
+    nodes: &[SyntaxNode],
 ) -> Result<List<Item>, Memory>
     ensures walk { OnOk result (views.walk_of state.new ≡ spec.behind_body (views.context_of ctx.now) (items.Braces first 0 (items_of (words_of ctx.now.words) nodes.now)) (views.walk_of state.old)) }
     ensures value { IfOk result (λ xs. xs ≡ spec.body_items (views.context_of ctx.now) (items.Braces first 0 (items_of (words_of ctx.now.words) nodes.now)) (views.walk_of state.old)) }
@@ -360,7 +360,7 @@ fn lone<'n, 'a>(
     around: Around,
     state: &mut State<'a>,
     first: u32,
-    x: &Syntax,
+    x: &SyntaxNode,
 ) -> Result<List<Item>, Memory>
     ensures walk { OnOk result (views.walk_of state.new ≡ spec.behind_body (views.context_of ctx.now) (items.Lone first 0 (item_of (words_of ctx.now.words) x.now)) (views.walk_of state.old)) }
     ensures value { IfOk result (λ xs. xs ≡ spec.body_items (views.context_of ctx.now) (items.Lone first 0 (item_of (words_of ctx.now.words) x.now)) (views.walk_of state.old)) }
@@ -382,7 +382,7 @@ fn add_node<'n, 'a>(
     ctx: &FunctionContext<'n, 'a>,
     around: Around,
     state: &mut State<'a>,
-    x: &Syntax,
+    x: &SyntaxNode,
     out: &mut List<Item>,
 ) -> Result<(), Memory>
     ensures walk { OnOk result ((xs : items.Items) → spec.behind_items (views.context_of ctx.now) xs (views.walk_of state.new) ≡ spec.behind_items (views.context_of ctx.now) (steps.with_node (words_of ctx.now.words) x.now xs) (views.walk_of state.old)) }
@@ -404,7 +404,7 @@ pub fn add_list<'n, 'a>(
     ctx: &FunctionContext<'n, 'a>,
     around: Around,
     state: &mut State<'a>,
-    nodes: &[Syntax],
+    nodes: &[SyntaxNode],
     out: &mut List<Item>,
 ) -> Result<(), Memory>
     ensures walk { OnOk result (views.walk_of state.new ≡ spec.behind_items (views.context_of ctx.now) (items_of (words_of ctx.now.words) nodes.now) (views.walk_of state.old)) }
@@ -424,8 +424,8 @@ fn add_switch<'n, 'a>(
     ctx: &FunctionContext<'n, 'a>,
     around: Around,
     state: &mut State<'a>,
-    t: &Syntax,
-    b: &Syntax,
+    t: &SyntaxNode,
+    b: &SyntaxNode,
     out: &mut List<Item>,
 ) -> Result<(), Memory>
     ensures walk { OnOk result (views.walk_of state.new ≡ spec.behind_statement (views.context_of ctx.now) (items.Switch (term_of (words_of ctx.now.words) t.now) (body_of (words_of ctx.now.words) b.now)) (views.walk_of state.old)) }
@@ -455,7 +455,7 @@ fn switch_of<'n, 'a>(
     around: Around,
     state: &mut State<'a>,
     kind: Option<IntKind>,
-    b: &Syntax,
+    b: &SyntaxNode,
 ) -> Result<List<Section>, Memory>
     ensures walk { OnOk result (views.walk_of state.new ≡ spec.behind_body (views.context_of ctx.now) (body_of (words_of ctx.now.words) b.now) (views.walk_of state.old)) }
     ensures value { IfOk result (λ ss. ss ≡ the_sections.passed_on [] false (spec.switch_sections (views.context_of ctx.now) (body_of (words_of ctx.now.words) b.now) (views.walk_of state.old))) }
@@ -476,7 +476,7 @@ fn switch_body<'n, 'a>(
     ctx: &FunctionContext<'n, 'a>,
     around: Around,
     state: &mut State<'a>,
-    x: &Syntax,
+    x: &SyntaxNode,
 ) -> Result<List<Section>, Memory>
     ensures walk { OnOk result (views.walk_of state.new ≡ spec.behind_body (views.context_of ctx.now) (body_of (words_of ctx.now.words) x.now) (views.walk_of state.old)) }
     ensures value { IfOk result (λ ss. ss ≡ spec.switch_sections (views.context_of ctx.now) (body_of (words_of ctx.now.words) x.now) (views.walk_of state.old)) }
@@ -499,7 +499,7 @@ fn switch_braces<'n, 'a>(
     around: Around,
     state: &mut State<'a>,
     first: u32,
-    nodes: &[Syntax],
+    nodes: &[SyntaxNode],
 ) -> Result<List<Section>, Memory>
     ensures walk { OnOk result (views.walk_of state.new ≡ spec.behind_body (views.context_of ctx.now) (items.Braces first 0 (items_of (words_of ctx.now.words) nodes.now)) (views.walk_of state.old)) }
     ensures value { IfOk result (λ ss. ss ≡ spec.switch_sections (views.context_of ctx.now) (items.Braces first 0 (items_of (words_of ctx.now.words) nodes.now)) (views.walk_of state.old)) }
@@ -520,7 +520,7 @@ fn switch_lone<'n, 'a>(
     around: Around,
     state: &mut State<'a>,
     first: u32,
-    x: &Syntax,
+    x: &SyntaxNode,
 ) -> Result<List<Section>, Memory>
     ensures walk { OnOk result (views.walk_of state.new ≡ spec.behind_body (views.context_of ctx.now) (items.Lone first 0 (item_of (words_of ctx.now.words) x.now)) (views.walk_of state.old)) }
     ensures value { IfOk result (λ ss. ss ≡ spec.switch_sections (views.context_of ctx.now) (items.Lone first 0 (item_of (words_of ctx.now.words) x.now)) (views.walk_of state.old)) }
@@ -541,7 +541,7 @@ fn section_node<'n, 'a>(
     ctx: &FunctionContext<'n, 'a>,
     around: Around,
     state: &mut State<'a>,
-    x: &Syntax,
+    x: &SyntaxNode,
     read: &mut Sections,
 ) -> Result<(), Memory>
     ensures walk { OnOk result ((xs : items.Items) → spec.behind_items (views.context_of ctx.now) xs (views.walk_of state.new) ≡ spec.behind_items (views.context_of ctx.now) (steps.with_node (words_of ctx.now.words) x.now xs) (views.walk_of state.old)) }
@@ -564,7 +564,7 @@ fn sections_of<'n, 'a>(
     around: Around,
     state: &mut State<'a>,
     first: u32,
-    nodes: &[Syntax],
+    nodes: &[SyntaxNode],
 ) -> Result<List<Section>, Memory>
     ensures walk { OnOk result (views.walk_of state.new ≡ spec.behind_items (views.context_of ctx.now) (items_of (words_of ctx.now.words) nodes.now) (views.walk_of state.old)) }
     ensures value { IfOk result (λ ss. ss ≡ the_sections.front (spec.outside_items (views.context_of ctx.now) (items_of (words_of ctx.now.words) nodes.now) (views.walk_of state.old)) ++ spec.sections_from (views.context_of ctx.now) None (items_of (words_of ctx.now.words) nodes.now) (context.notes_at (views.context_of ctx.now) (Anchor.AtEnd first)) (views.walk_of state.old)) }
@@ -585,7 +585,7 @@ fn section_item<'n, 'a>(
     ctx: &FunctionContext<'n, 'a>,
     around: Around,
     state: &mut State<'a>,
-    x: &Syntax,
+    x: &SyntaxNode,
     read: &mut Sections,
 ) -> Result<(), Memory>
     ensures done { OnOk result (read.new.done ≡ read.old.done ++ steps.closed_before read.old.current (item_of (words_of ctx.now.words) x.now)) }
@@ -617,8 +617,8 @@ fn section<'n, 'a>(
     ctx: &FunctionContext<'n, 'a>,
     around: Around,
     state: &mut State<'a>,
-    labels: &[Syntax],
-    plain: &Syntax,
+    labels: &[SyntaxNode],
+    plain: &SyntaxNode,
     read: &mut Sections,
 ) -> Result<(), Memory>
     requires { the_labels.has_case (labels_of (words_of ctx.now.words) labels.now) ≡ true }
@@ -642,7 +642,7 @@ fn extend<'n, 'a>(
     ctx: &FunctionContext<'n, 'a>,
     around: Around,
     state: &mut State<'a>,
-    x: &Syntax,
+    x: &SyntaxNode,
     read: &mut Sections,
 ) -> Result<(), Memory>
     requires further { steps.begins (item_of (words_of ctx.now.words) x.now) ≡ false }
@@ -669,7 +669,7 @@ fn pass_over<'n, 'a>(
     ctx: &FunctionContext<'n, 'a>,
     around: Around,
     state: &mut State<'a>,
-    x: &Syntax,
+    x: &SyntaxNode,
     read: &mut Sections,
 ) -> Result<(), Memory>
     requires further { steps.begins (item_of (words_of ctx.now.words) x.now) ≡ false }

@@ -6,8 +6,10 @@ use Rattle.c_grammar.specs.declared.syntax.Syntax.{Syntax, out-Syntax}
 use Rattle.c_layers.specs.Items.{Label, Named, Case, Default, Item, States, Plain, From, Statement, Items, Then, Body, Braces, Lone, first_label, label_first}
 use Rattle.c_layers.specs.ItemViews.{item_of, labels_of}
 use Rattle.c_layers.specs.Parts.{is_token}
+use Rattle.c_layers.specs.Tops.{Top}
+use Rattle.c_layers.specs.Tops as tops
 use Rattle.c_layers.specs.TopViews.{top_of}
-use Rattle.c_layers.specs.Views.{weight, weights}
+use Rattle.c_grammar.specs.Weights.{weight, weights}
 use Rattle.c_layers.proofs.Layers.{weight-at}
 use Rattle.c_statements.specs.declared.anchors.Anchor.{Anchor}
 use Rattle.c_statements.specs.declared.anchors.Anchor.TheVariants.{Before, AtEnd}
@@ -16,7 +18,7 @@ use Rattle.c_statements.specs.Nodes.{items_of}
 use Rattle.c_statements.specs.Violations.{is_null}
 use Rattle.c_statements.proofs.Lists.{items-token, items-item}
 use Rattle.c_comments.specs.NodeViews.{tops_in}
-use Rattle.c_comments.specs.Notes.{label_after, labels_place, section_place, section_label_place, case_place, or_behind, item_after, item_place, plain_place, statement_place, body_place, list_place, members_place, member_place, top_place, top_after, place_in, begins_section}
+use Rattle.c_comments.specs.Notes.{label_after, labels_place, section_place, section_label_place, case_place, or_behind, item_after, item_place, plain_place, statement_place, body_place, list_place, members_place, member_place, form_place, top_place, top_after, place_in, begins_section}
 use Rattle.c_comments.specs.Steps.{label_place, place_in_labels, Behind, Between, Leads, IsBelow, bounded, body_ahead}
 use Rattle.c_comments.specs.declared.steps.Step.{Step}
 use Rattle.c_comments.specs.declared.steps.Step.TheVariants as S
@@ -235,3 +237,8 @@ pub at_statement : (x : Plain) (first after : ℕ) (st : Statement) (t : ℕ) �
 at_statement x first after st t e h s l =
     ap (λ y. plain_place y s) e
     ∙ ap (λ b. elim b [ true ↦ Before first | false ↦ statement_place first st s ]) (lt-leb s first (omega (arith, h, l)))
+
+pub at_top : (x : Top) (first after : ℕ) (form : tops.Form) (t : ℕ) → x ≡ tops.From first after form → first < t → Behind (top_place x) (form_place first form) t
+at_top x first after form t e h s l =
+    ap (λ y. top_place y s) e
+    ∙ ap (λ b. elim b [ true ↦ Before first | false ↦ form_place first form s ]) (lt-leb s first (omega (arith, h, l)))

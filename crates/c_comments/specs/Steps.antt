@@ -2,7 +2,7 @@
 use Rattle.std.specs.Prelude.{◌≡◌, ◌<◌, ◌≤◌, ℕ, true, false, nat_lt, min, suc, List, [], ◌∷◌, Option, Some, None}
 use Rattle.c_layers.specs.Items.{Label, Named, label_first, Body, Braces, Lone}
 use Rattle.c_layers.specs.ItemViews.{labels_of, plain_of}
-use Rattle.c_layers.specs.Views.{weight, weights}
+use Rattle.c_grammar.specs.Weights.{weight, weights}
 use Rattle.c_statements.specs.declared.anchors.Anchor.{Anchor}
 use Rattle.c_statements.specs.declared.anchors.Anchor.TheVariants.{Before}
 use Rattle.c_statements.specs.Nodes.{items_of}

@@ -10,14 +10,14 @@ ghost use Rattle.c_comments.specs.Steps.{Behind, Leads};
 
 use crate::statements::layer_step;
 use crate::steps::{Step, behind, bounded};
-use c_grammar::Syntax;
+use c_grammar::SyntaxNode;
 use c_layers::{FunctionLayer, TopLayer, Words, block_layer, top_layer};
 use c_statements::Anchor;
 
 /// What stands at file scope from what holds a token on, and where the token leads.
 #[derive(Clone, Copy)]
 pub struct PassedTops<'n> {
-    pub tops: &'n [Syntax],
+    pub tops: &'n [SyntaxNode],
     pub step: Step<'n>,
 }
 
@@ -31,16 +31,17 @@ fn function_step<'n>(words: &Words, first: u32, f: FunctionLayer<'n>, token: u32
     }
 }
 
-fn top_step<'n>(words: &Words, x: &'n Syntax, token: u32) -> Step<'n>
+fn top_step<'n>(words: &Words, x: &'n SyntaxNode, token: u32) -> Step<'n>
     ensures { Leads (words_of words.now) (spec.top_place (top_of (words_of words.now) x.now)) token result }
 {
-    let before = Anchor::Before(x.first);
+    let first = x.first();
+    let before = Anchor::Before(first);
     let top = top_layer(words, x);
-    if token <= x.first {
+    if token <= first {
         return Step::At(before);
     }
     match top {
-        TopLayer::Defines(f) => function_step(words, x.first, f, token),
+        TopLayer::Defines(f) => function_step(words, first, f, token),
         TopLayer::Line => Step::At(before),
         TopLayer::Enum(_) => Step::At(before),
         TopLayer::Globals(_, _) => Step::At(before),
@@ -50,14 +51,14 @@ fn top_step<'n>(words: &Words, x: &'n Syntax, token: u32) -> Step<'n>
 
 /// The token behind what stands at file scope.
 #[tactic(auto, using(crate::proofs::Written::afters))]
-fn top_after(words: &Words, x: &Syntax) -> u32
+fn top_after(words: &Words, x: &SyntaxNode) -> u32
     ensures { result ≡ spec.top_after (top_of (words_of words.now) x.now) }
 {
-    x.after
+    x.after()
 }
 
 /// Passes what stands at file scope in front of a token.
-pub fn pass_tops<'n>(words: &Words, tops: &'n [Syntax], token: u32) -> PassedTops<'n>
+pub fn pass_tops<'n>(words: &Words, tops: &'n [SyntaxNode], token: u32) -> PassedTops<'n>
     ensures tops { Behind (spec.place_in (tops_in (words_of words.now) result.tops.now)) (spec.place_in (tops_in (words_of words.now) tops.now)) token }
     ensures leads { Leads (words_of words.now) (spec.place_in (tops_in (words_of words.now) tops.now)) token result.step }
 {

@@ -12,7 +12,7 @@ ghost use Rattle.c_comments.specs.Steps.{rest_place};
 use crate::files::pass_tops;
 use crate::lists::pass;
 use crate::steps::{Rest, Step};
-use c_grammar::Syntax;
+use c_grammar::SyntaxNode;
 use c_layers::Words;
 use c_statements::Anchor;
 use c_types::{Memory, Stack};
@@ -30,14 +30,14 @@ pub struct Frame<'n> {
 /// that were entered.
 #[derive(Drop)]
 pub struct Walk<'n> {
-    tops: &'n [Syntax],
+    tops: &'n [SyntaxNode],
     from: u32,
     frames: Stack<Frame<'n>>,
 }
 
 impl<'n> Walk<'n> {
     /// A walk that begins in front of a file.
-    pub fn new(alloc: Global, nodes: &'n [Syntax]) -> Walk<'n>
+    pub fn new(alloc: Global, nodes: &'n [SyntaxNode]) -> Walk<'n>
         ensures { (word : ℕ → List ℕ) → IsWalk word (place_in (tops_in word nodes.now)) result }
     {
         Walk {
@@ -102,7 +102,7 @@ fn descend<'n>(
 /// The place of a token that no list gives, from what stands at file scope.
 fn place_from_tops<'n>(
     words: &Words,
-    nodes: &'n [Syntax],
+    nodes: &'n [SyntaxNode],
     walk: &mut Walk<'n>,
     token: u32,
 ) -> Result<Anchor, Memory>
@@ -130,7 +130,7 @@ fn place_from_tops<'n>(
 /// The place of a comment before a token in a file.
 pub fn place<'n>(
     words: &Words,
-    nodes: &'n [Syntax],
+    nodes: &'n [SyntaxNode],
     walk: &mut Walk<'n>,
     token: u32,
 ) -> Result<Anchor, Memory>

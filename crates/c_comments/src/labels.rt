@@ -8,7 +8,7 @@ ghost use Rattle.c_statements.specs.Labels as labels;
 ghost use Rattle.c_comments.specs.Notes as spec;
 ghost use Rattle.c_comments.specs.Steps as steps;
 
-use c_grammar::Syntax;
+use c_grammar::SyntaxNode;
 use c_layers::{LabelLayer, Words, label_layer};
 use c_statements::Anchor;
 
@@ -60,7 +60,7 @@ fn label_place(section: Option<Anchor>, l: LabelLayer) -> Anchor
 pub fn place_in_label(
     words: &Words,
     section: Option<Anchor>,
-    x: &Syntax,
+    x: &SyntaxNode,
     token: u32,
 ) -> Option<Anchor>
     ensures { result ≡ steps.place_in_label section (label_of (words_of words.now) x.now) token }
@@ -74,7 +74,7 @@ pub fn place_in_label(
 
 /// Whether a case or default label is among these nodes.
 #[tactic(auto, using(crate::proofs::Written::labelled))]
-pub fn has_case(words: &Words, nodes: &[Syntax]) -> bool
+pub fn has_case(words: &Words, nodes: &[SyntaxNode]) -> bool
     ensures { result ≡ labels.has_case (labels_of (words_of words.now) nodes.now) }
 {
     for x in nodes {
@@ -89,7 +89,7 @@ pub fn has_case(words: &Words, nodes: &[Syntax]) -> bool
 
 /// The first token of the first label among these nodes, and 0 where there is none.
 #[tactic(auto, using(crate::proofs::Written::labelled))]
-pub fn first_label(words: &Words, nodes: &[Syntax]) -> u32
+pub fn first_label(words: &Words, nodes: &[SyntaxNode]) -> u32
     ensures { result ≡ items.first_label (labels_of (words_of words.now) nodes.now) }
 {
     for x in nodes {
@@ -102,7 +102,7 @@ pub fn first_label(words: &Words, nodes: &[Syntax]) -> u32
 
 /// The place of the first label with a name among these nodes, and else that of a section.
 #[tactic(auto, using(crate::proofs::Written::labelled))]
-pub fn case_place(words: &Words, nodes: &[Syntax], first: u32) -> Anchor
+pub fn case_place(words: &Words, nodes: &[SyntaxNode], first: u32) -> Anchor
     ensures { result ≡ spec.case_place first (labels_of (words_of words.now) nodes.now) }
 {
     for x in nodes {

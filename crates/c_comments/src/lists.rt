@@ -2,7 +2,8 @@
 
 ghost use Rattle.std.specs.Prelude.{◌≡◌, cond};
 ghost use Rattle.c_layers.specs.ItemViews.{labels_of, plain_of};
-ghost use Rattle.c_layers.specs.Views.{words_of, weight, weights};
+ghost use Rattle.c_grammar.specs.Weights.{weight, weights};
+ghost use Rattle.c_layers.specs.Views.{words_of};
 ghost use Rattle.c_statements.specs.Nodes.{items_of};
 ghost use Rattle.c_statements.specs.declared.anchors.Anchor.TheVariants.{AtEnd, Before};
 ghost use Rattle.c_comments.specs.Notes as spec;
@@ -11,12 +12,12 @@ ghost use Rattle.c_comments.specs.Steps.{Behind, IsBelow, Leads, place_in_labels
 use crate::labels::place_in_label;
 use crate::statements::{ends_behind, has_begun, item_after, item_step, member_step, plain_step};
 use crate::steps::{Passed, Rest, Step, behind, bounded};
-use c_grammar::Syntax;
+use c_grammar::SyntaxNode;
 use c_layers::Words;
 use c_statements::Anchor;
 
 /// Passes the items in front of a token.
-fn pass_items<'n>(words: &Words, end: Anchor, items: &'n [Syntax], token: u32) -> Passed<'n>
+fn pass_items<'n>(words: &Words, end: Anchor, items: &'n [SyntaxNode], token: u32) -> Passed<'n>
     ensures rest { Behind (rest_place (words_of words.now) result.rest) (spec.list_place end (items_of (words_of words.now) items.now)) token }
     ensures leads { Leads (words_of words.now) (spec.list_place end (items_of (words_of words.now) items.now)) token result.step }
     ensures smaller { IsBelow (weights items.now) result.step }
@@ -55,7 +56,7 @@ fn pass_members<'n>(
     had_begun: bool,
     switch: u32,
     first: u32,
-    items: &'n [Syntax],
+    items: &'n [SyntaxNode],
     token: u32,
 ) -> Passed<'n>
     ensures rest { Behind (rest_place (words_of words.now) result.rest) (spec.members_place had_begun switch first (items_of (words_of words.now) items.now)) token }
@@ -88,8 +89,8 @@ fn pass_members<'n>(
 fn pass_labels<'n>(
     words: &Words,
     section: Option<Anchor>,
-    labels: &'n [Syntax],
-    plain: &'n Syntax,
+    labels: &'n [SyntaxNode],
+    plain: &'n SyntaxNode,
     token: u32,
 ) -> Passed<'n>
     ensures rest { Behind (rest_place (words_of words.now) result.rest) (λ t. spec.or_behind (place_in_labels section (labels_of (words_of words.now) labels.now) t) (spec.plain_place (plain_of (words_of words.now) plain.now) t)) token }

@@ -10,7 +10,7 @@ ghost use Rattle.c_comments.specs.NodeViews.{tops_in};
 ghost use Rattle.c_comments.specs.Notes as spec;
 
 use crate::frames::{Walk, place};
-use c_grammar::Syntax;
+use c_grammar::SyntaxNode;
 use c_layers::Words;
 use c_lexer::{Span, Token};
 use c_statements::Notes;
@@ -64,7 +64,7 @@ fn reach(tokens: &[Token], reached: Reached, start: u64) -> Reached
 fn add_comment<'n, 'a>(
     alloc: Global,
     words: &Words<'a>,
-    nodes: &'n [Syntax],
+    nodes: &'n [SyntaxNode],
     comment: Span,
     at: usize,
     walk: &mut Walk<'n>,
@@ -88,7 +88,7 @@ fn add_comment<'n, 'a>(
 pub fn place_notes<'a>(
     alloc: Global,
     words: &Words<'a>,
-    nodes: &[Syntax],
+    nodes: &[SyntaxNode],
     comments: &[Span],
 ) -> Result<Notes<'a>, Memory>
     requires { All (λ comment. IsWithin words.now.text.now comment.start comment.end) comments.now }

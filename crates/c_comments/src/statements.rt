@@ -5,7 +5,8 @@ ghost use Rattle.c_grammar.specs.declared.syntax.Syntax.{out-Syntax};
 ghost use Rattle.c_layers.specs.Items.{Braces, Lone};
 ghost use Rattle.c_layers.specs.ItemViews.{BodyIsSmaller, body_form, body_of, item_of, labels_of, plain_of};
 ghost use Rattle.c_layers.specs.Parts as parts;
-ghost use Rattle.c_layers.specs.Views.{words_of, weight, weights};
+ghost use Rattle.c_grammar.specs.Weights.{weight, weights};
+ghost use Rattle.c_layers.specs.Views.{words_of};
 ghost use Rattle.c_statements.specs.Nodes.{items_of};
 ghost use Rattle.c_statements.specs.Violations as violations;
 ghost use Rattle.c_comments.specs.Notes as spec;
@@ -13,7 +14,7 @@ ghost use Rattle.c_comments.specs.Steps.{Behind, IsBelow, Leads, body_ahead as a
 
 use crate::labels::{case_place, first_label, has_case};
 use crate::steps::{Rest, Step, bounded};
-use c_grammar::Syntax;
+use c_grammar::SyntaxNode;
 use c_layers::{
     BodyLayer, ItemLayer, StatementLayer, Words, body_layer, has_label, item_layer, statement_layer,
 };
@@ -21,18 +22,18 @@ use c_statements::{Anchor, is_token};
 
 /// The token behind an item.
 #[tactic(auto, using(crate::proofs::Written::afters))]
-pub fn item_after(words: &Words, x: &Syntax) -> u32
+pub fn item_after(words: &Words, x: &SyntaxNode) -> u32
     ensures { result ≡ spec.item_after (item_of (words_of words.now) x.now) }
 {
     match item_layer(words, x) {
         ItemLayer::Declares(_, after, _) => after,
-        ItemLayer::States(_, plain) => plain.after,
+        ItemLayer::States(_, plain) => plain.after(),
         ItemLayer::Unread(_, after) => after,
     }
 }
 
 /// Whether an item begins a section where it stands in a switch body.
-fn begins_section(words: &Words, x: &Syntax) -> bool
+fn begins_section(words: &Words, x: &SyntaxNode) -> bool
     ensures { result ≡ spec.begins_section (item_of (words_of words.now) x.now) }
 {
     match item_layer(words, x) {
@@ -43,20 +44,20 @@ fn begins_section(words: &Words, x: &Syntax) -> bool
 }
 
 /// Whether a section has begun behind a node of a switch body.
-pub fn has_begun(words: &Words, begun: bool, x: &Syntax) -> bool
+pub fn has_begun(words: &Words, begun: bool, x: &SyntaxNode) -> bool
     ensures { result ≡ (begun || (not (parts.is_token (out-Syntax x.now).rule) && spec.begins_section (item_of (words_of words.now) x.now))) }
 {
     begun || (!is_token(x) && begins_section(words, x))
 }
 
 /// Whether a node of a list is an item that ends behind a token.
-pub fn ends_behind(words: &Words, x: &Syntax, token: u32) -> bool
+pub fn ends_behind(words: &Words, x: &SyntaxNode, token: u32) -> bool
     ensures { result ≡ (not (parts.is_token (out-Syntax x.now).rule) && nat_lt token (spec.item_after (item_of (words_of words.now) x.now))) }
 {
     !is_token(x) && token < item_after(words, x)
 }
 
-fn is_null_statement(words: &Words, x: &Syntax) -> bool
+fn is_null_statement(words: &Words, x: &SyntaxNode) -> bool
     ensures { result ≡ violations.is_null [] (plain_of (words_of words.now) x.now) }
 {
     match statement_layer(words, x) {
@@ -67,21 +68,21 @@ fn is_null_statement(words: &Words, x: &Syntax) -> bool
 
 /// Whether a statement is a null statement without labels.
 #[tactic(auto, using(crate::proofs::Written::null))]
-fn is_null(words: &Words, labels: &[Syntax], plain: &Syntax) -> bool
+fn is_null(words: &Words, labels: &[SyntaxNode], plain: &SyntaxNode) -> bool
     ensures { result ≡ violations.is_null (labels_of (words_of words.now) labels.now) (plain_of (words_of words.now) plain.now) }
 {
     !has_label(words, labels) && is_null_statement(words, plain)
 }
 
 /// Whether a statement of a switch body is no element, where a section has begun or not.
-fn is_no_element(words: &Words, begun: bool, labels: &[Syntax], plain: &Syntax) -> bool
+fn is_no_element(words: &Words, begun: bool, labels: &[SyntaxNode], plain: &SyntaxNode) -> bool
     ensures { result ≡ (not begun && violations.is_null (labels_of (words_of words.now) labels.now) (plain_of (words_of words.now) plain.now)) }
 {
     !begun && is_null(words, labels, plain)
 }
 
 /// Where a token in an item leads.
-pub fn item_step<'n>(words: &Words, x: &'n Syntax, token: u32) -> Step<'n>
+pub fn item_step<'n>(words: &Words, x: &'n SyntaxNode, token: u32) -> Step<'n>
     ensures leads { Leads (words_of words.now) (spec.item_place (item_of (words_of words.now) x.now)) token result }
     ensures smaller { IsBelow (weight x.now) result }
 {
@@ -97,7 +98,7 @@ fn block_step<'n>(
     before: Anchor,
     first: u32,
     after: u32,
-    items: &'n [Syntax],
+    items: &'n [SyntaxNode],
     token: u32,
 ) -> Step<'n>
     ensures leads { (word : ℕ → List ℕ) → Leads word (spec.body_place before (Braces first after (items_of word items.now))) token result }
@@ -117,7 +118,7 @@ fn lone_step<'n>(
     before: Anchor,
     first: u32,
     after: u32,
-    item: &'n Syntax,
+    item: &'n SyntaxNode,
     token: u32,
 ) -> Step<'n>
     ensures leads { Leads (words_of words.now) (spec.body_place before (Lone first after (item_of (words_of words.now) item.now))) token result }
@@ -145,7 +146,7 @@ pub fn layer_step<'n>(words: &Words, before: Anchor, body: BodyLayer<'n>, token:
     }
 }
 
-fn body_step<'n>(words: &Words, before: Anchor, x: &'n Syntax, token: u32) -> Step<'n>
+fn body_step<'n>(words: &Words, before: Anchor, x: &'n SyntaxNode, token: u32) -> Step<'n>
     ensures leads { Leads (words_of words.now) (spec.body_place before (body_of (words_of words.now) x.now)) token result }
     ensures smaller { IsBelow (weight x.now) result }
 {
@@ -153,7 +154,7 @@ fn body_step<'n>(words: &Words, before: Anchor, x: &'n Syntax, token: u32) -> St
 }
 
 /// How many tokens are in front of the list of a construct.
-fn body_ahead(words: &Words, x: &Syntax) -> u64
+fn body_ahead(words: &Words, x: &SyntaxNode) -> u64
     ensures { result ≡ ahead_of (body_of (words_of words.now) x.now) }
 {
     match body_layer(words, x) {
@@ -166,8 +167,8 @@ fn body_ahead(words: &Words, x: &Syntax) -> u64
 fn branch_step<'n>(
     words: &Words,
     before: Anchor,
-    x: &'n Syntax,
-    other: &'n Syntax,
+    x: &'n SyntaxNode,
+    other: &'n SyntaxNode,
     token: u32,
 ) -> Step<'n>
     ensures leads { Leads (words_of words.now) (λ t. spec.body_place (spec.body_place before (body_of (words_of words.now) x.now) t) (body_of (words_of words.now) other.now) t) token result }
@@ -181,7 +182,7 @@ fn branch_step<'n>(
 }
 
 /// Where a token leads in the body of the switch that begins with a token.
-fn switch_step<'n>(words: &Words, switch: u32, x: &'n Syntax, token: u32) -> Step<'n>
+fn switch_step<'n>(words: &Words, switch: u32, x: &'n SyntaxNode, token: u32) -> Step<'n>
     ensures leads { Leads (words_of words.now) (spec.switch_place switch (body_of (words_of words.now) x.now)) token result }
     ensures smaller { IsBelow (weight x.now) result }
 {
@@ -206,7 +207,7 @@ pub fn member_step<'n>(
     words: &Words,
     begun: bool,
     switch: u32,
-    x: &'n Syntax,
+    x: &'n SyntaxNode,
     token: u32,
 ) -> Step<'n>
     ensures leads { Leads (words_of words.now) (spec.member_place begun switch (item_of (words_of words.now) x.now)) token result }
@@ -229,13 +230,14 @@ pub fn member_step<'n>(
 }
 
 /// Where a token leads in a statement behind its labels.
-pub fn plain_step<'n>(words: &Words, x: &'n Syntax, token: u32) -> Step<'n>
+pub fn plain_step<'n>(words: &Words, x: &'n SyntaxNode, token: u32) -> Step<'n>
     ensures leads { Leads (words_of words.now) (spec.plain_place (plain_of (words_of words.now) x.now)) token result }
     ensures smaller { IsBelow (weight x.now) result }
 {
-    let before = Anchor::Before(x.first);
+    let first = x.first();
+    let before = Anchor::Before(first);
     let layer = statement_layer(words, x);
-    if token <= x.first {
+    if token <= first {
         return Step::At(before);
     }
     match layer {
@@ -244,10 +246,8 @@ pub fn plain_step<'n>(words: &Words, x: &'n Syntax, token: u32) -> Step<'n>
         StatementLayer::While(_, b) => body_step(words, before, b, token),
         StatementLayer::DoWhile(b, _) => body_step(words, before, b, token),
         StatementLayer::For(_, _, _, b) => body_step(words, before, b, token),
-        StatementLayer::Switch(_, b) => switch_step(words, x.first, b, token),
-        StatementLayer::Block(first, after, items) => {
-            block_step(before, first, after, items, token)
-        }
+        StatementLayer::Switch(_, b) => switch_step(words, first, b, token),
+        StatementLayer::Block(open, after, items) => block_step(before, open, after, items, token),
         StatementLayer::Null
         | StatementLayer::Evaluate(_)
         | StatementLayer::Goto(_)

@@ -3,20 +3,20 @@
 ghost use Rattle.std.specs.Prelude.{◌≡◌, ◌≤◌, drop, length};
 ghost use Rattle.c_comments.specs.Steps as spec;
 
-use c_grammar::Syntax;
+use c_grammar::SyntaxNode;
 use c_statements::Anchor;
 
 /// What is left of a list whose earlier parts are passed.
 #[derive(Clone, Copy)]
 pub enum Rest<'n> {
     /// The items of a list, and the place behind them.
-    Items(Anchor, &'n [Syntax]),
+    Items(Anchor, &'n [SyntaxNode]),
     /// The items of a switch body: whether a section has begun, the first token of the switch and that of
     /// the body.
-    Members(bool, u32, u32, &'n [Syntax]),
+    Members(bool, u32, u32, &'n [SyntaxNode]),
     /// The labels of a statement, and the statement behind them. Case and default labels of a section
     /// have the place that is given.
-    Labels(Option<Anchor>, &'n [Syntax], &'n Syntax),
+    Labels(Option<Anchor>, &'n [SyntaxNode], &'n SyntaxNode),
 }
 
 /// Where a token leads: to its place, or into a list that holds the tokens from it up to a bound.
@@ -34,7 +34,7 @@ pub struct Passed<'n> {
 }
 
 /// The nodes behind so many.
-pub fn behind<'n>(nodes: &'n [Syntax], count: usize) -> &'n [Syntax]
+pub fn behind<'n>(nodes: &'n [SyntaxNode], count: usize) -> &'n [SyntaxNode]
     requires { count ≤ length nodes.now }
     ensures { result.now ≡ drop count nodes.now }
 {

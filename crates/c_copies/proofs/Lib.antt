@@ -1,3 +1,4 @@
 pub mod NameLemmas
+pub mod Places
 pub mod Rising
 pub mod SetLemmas

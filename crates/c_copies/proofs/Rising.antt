@@ -2,8 +2,7 @@
 use Rattle.std.proofs.Common.{◌≡◌, ℕ, Bool, true, false, ◌||◌, List, [], ◌∷◌, refl, sym, ap, ◌∙◌}
 use Rattle.std.specs.declared.cmp.Ordering.{Ordering}
 use Rattle.std.specs.declared.cmp.Ordering.TheVariants.{Less, Equal, Greater}
-use Rattle.std.specs.Ordering.{nat_cmp, match_ordering, ordering_reverse, is_eq}
-use Rattle.std.specs.Cmp.Lexicographic.{slice_cmp}
+use Rattle.std.specs.Ordering.{match_ordering, ordering_reverse, is_eq}
 use Rattle.std.specs.List.{AllByRecursion}
 use Rattle.std.specs.List.Sorted.{IsStrictlySortedBy}
 use Rattle.std.specs.Str.{bytes_eq}
@@ -26,11 +25,11 @@ all_with_name : (P : List ℕ → Type 0) (ks : List (List ℕ)) (n : List ℕ) 
 all_with_name P [] n a p = (p, tt)
 all_with_name P (x ∷ xs) n a p = all_at P (name_cmp n x) x xs n a p (all_with_name P xs n a.1 p)
 
-below_more : (n x : List ℕ) (xs : List (List ℕ)) → name_cmp n x ≡ Less → AllByRecursion (λ y. name_cmp x y ≡ Less) xs → AllByRecursion (λ y. name_cmp n y ≡ Less) xs
+pub below_more : (n x : List ℕ) (xs : List (List ℕ)) → name_cmp n x ≡ Less → AllByRecursion (λ y. name_cmp x y ≡ Less) xs → AllByRecursion (λ y. name_cmp n y ≡ Less) xs
 below_more n x [] h b = tt
 below_more n x (y ∷ ys) h b = (nat_list_cmp_total.trans n x y h b.0, below_more n x ys h b.1)
 
-turned : (n x : List ℕ) → name_cmp n x ≡ Greater → name_cmp x n ≡ Less
+pub turned : (n x : List ℕ) → name_cmp n x ≡ Greater → name_cmp x n ≡ Less
 turned n x h = nat_list_cmp_total.antisymm x n ∙ ap ordering_reverse h
 
 rising_at : (o : Ordering) (x : List ℕ) (xs : List (List ℕ)) (n : List ℕ) → name_cmp n x ≡ o
@@ -41,7 +40,7 @@ rising_at Less x xs n e s r = ((e, below_more n x xs e s.0), s)
 rising_at Equal x xs n e s r = s
 rising_at Greater x xs n e s r = (all_with_name (λ y. name_cmp x y ≡ Less) xs n s.0 (turned n x e), r)
 
-with_name-rising : (ks : List (List ℕ)) (n : List ℕ) → IsStrictlySortedBy name_cmp ks → IsStrictlySortedBy name_cmp (with_name ks n)
+pub with_name-rising : (ks : List (List ℕ)) (n : List ℕ) → IsStrictlySortedBy name_cmp ks → IsStrictlySortedBy name_cmp (with_name ks n)
 unfolding IsStrictlySortedBy
 with_name-rising [] n s = (tt, tt)
 with_name-rising (x ∷ xs) n s = rising_at (name_cmp n x) x xs n refl s (with_name-rising xs n s.1)
@@ -74,7 +73,7 @@ or_turn true true c = refl
 or_turn true false c = refl
 or_turn false b c = refl
 
-same_name : (n x : List ℕ) → name_cmp n x ≡ Equal → n ≡ x
+pub same_name : (n x : List ℕ) → name_cmp n x ≡ Equal → n ≡ x
 same_name n x e = (bytes_eq-Decides n x).0 (sym (is_eq-slice_cmp n x) ∙ ap is_eq e)
 
 members_at : (o : Ordering) (x : List ℕ) (xs : List (List ℕ)) (n q : List ℕ) → name_cmp n x ≡ o

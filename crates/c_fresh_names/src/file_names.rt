@@ -5,7 +5,7 @@ ghost use Rattle.c_fresh_names.specs.Fresh.{numbered as the_numbered};
 ghost use Rattle.c_fresh_names.specs.Runs.{AreUsedFrom, AreRuns};
 
 use crate::names::numbered;
-use c_copies::{NameSet, add_names};
+use c_copies::RisingNames;
 use c_types::{List, Memory, Name};
 use std::alloc::Global;
 use std::collections::BTreeMap;
@@ -23,7 +23,7 @@ pub struct Run {
 /// The names of a file and the known functions. Contracts see the names in byte order.
 #[derive(Drop)]
 pub struct FileNames {
-    names: NameSet,
+    names: RisingNames,
     /// Runs, so that a search for a free number passes each at once.
     runs: List<Run>,
     /// The place of the run that begins with a name.
@@ -45,7 +45,16 @@ impl Model for FileNames {
     ghost invariant = { λ it. AreRuns it.names it.runs };
 }
 
-fn add_known(alloc: Global, used: &mut NameSet) -> Result<(), Memory>
+fn add_given(alloc: Global, used: &mut RisingNames, names: &[Name]) -> Result<(), Memory>
+    ensures { OnOk result (used.new ≡ with_names used.old names.now) }
+{
+    for name in names {
+        used.add(alloc, name.as_str())?;
+    }
+    Ok(())
+}
+
+fn add_known(alloc: Global, used: &mut RisingNames) -> Result<(), Memory>
     ensures { OnOk result (used.new ≡ with_names used.old known_functions) }
 {
     used.add(alloc, "getchar")?;
@@ -55,17 +64,17 @@ fn add_known(alloc: Global, used: &mut NameSet) -> Result<(), Memory>
     used.add(alloc, "abort")
 }
 
-fn file_names(alloc: Global, names: &[Name]) -> Result<NameSet, Memory>
+fn file_names(alloc: Global, names: &[Name]) -> Result<RisingNames, Memory>
     ensures { IfOk result (λ it. it ≡ with_names [] (names.now ++ known_functions)) }
 {
-    let mut used = NameSet::new(alloc);
-    add_names(alloc, &mut used, names)?;
+    let mut used = RisingNames::new(alloc);
+    add_given(alloc, &mut used, names)?;
     add_known(alloc, &mut used)?;
     Ok(used)
 }
 
 /// The first number from this one on behind which the base makes no used name.
-fn behind(alloc: Global, names: &NameSet, base: &str, first: u64) -> Result<u64, Memory>
+fn behind(alloc: Global, names: &RisingNames, base: &str, first: u64) -> Result<u64, Memory>
     requires { first < 2 ^ 63 }
     ensures { IfOk result (λ it. AreUsedFrom names.now base.now first it) }
 {
@@ -82,7 +91,7 @@ fn behind(alloc: Global, names: &NameSet, base: &str, first: u64) -> Result<u64,
 /// Whether a name is the base with the number, and the number before makes no used name.
 fn begins(
     alloc: Global,
-    names: &NameSet,
+    names: &RisingNames,
     name: &str,
     base: &str,
     number: u64,
@@ -102,7 +111,7 @@ fn begins(
 /// The base and the number of a name with which a run begins.
 fn beginning<'a>(
     alloc: Global,
-    names: &NameSet,
+    names: &RisingNames,
     name: &'a str,
 ) -> Result<Option<(&'a str, u64)>, Memory>
     ensures { IfOk result (λ it. IfSome it (λ b. b.1 < 2 ^ 63)) }
@@ -126,7 +135,7 @@ fn beginning<'a>(
 /// Enters the run that begins with a name, if one does and isn't entered yet.
 fn enter(
     alloc: Global,
-    names: &NameSet,
+    names: &RisingNames,
     name: &str,
     runs: &mut List<Run>,
     places: &mut BTreeMap<String, u32>,
@@ -153,7 +162,7 @@ fn enter(
 /// The runs among these names.
 fn runs(
     alloc: Global,
-    names: &NameSet,
+    names: &RisingNames,
     given: &[Name],
     places: &mut BTreeMap<String, u32>,
 ) -> Result<List<Run>, Memory>

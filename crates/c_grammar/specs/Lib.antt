@@ -10,3 +10,8 @@ pub mod Nodes
 pub mod Statements
 pub mod StatementSyntax
 pub mod TokenClasses
+pub mod Shown
+pub mod Weights
+pub mod Levels
+pub mod Weighed
+pub mod Opened

@@ -12,7 +12,7 @@ use crate::faults::{report, report_use};
 use crate::typed::{Fault, Typed};
 use crate::values::{character_constant, expression, number};
 use c_constants::constant_value;
-use c_grammar::Syntax;
+use c_grammar::SyntaxNode;
 use c_layers::{Words, add_decoded, character, is_character};
 use c_lexer::integer_constant;
 use c_tree::{Expression, Node};
@@ -31,12 +31,12 @@ pub fn constant(alloc: Global, word: &[u8]) -> Result<Typed, Memory>
 }
 
 /// The bytes of texts that stand side by side.
-pub fn texts(alloc: Global, words: &Words, tokens: &[Syntax]) -> Result<Typed, Memory>
+pub fn texts(alloc: Global, words: &Words, tokens: &[SyntaxNode]) -> Result<Typed, Memory>
     ensures { IfOk result (λ x. x ≡ Text (spec.joined_texts (words_of words.now) (map (λ y. (out-Syntax y).first) tokens.now))) }
 {
     let mut out: Bytes = List::new(alloc);
     for token in tokens {
-        add_decoded(words.get(token.first), &mut out)?;
+        add_decoded(words.get(token.first()), &mut out)?;
     }
     Ok(Typed::Text(out))
 }

@@ -24,7 +24,7 @@ use crate::values::{
     assignment, behind_comma, binary, cast, cast_void, cell_target, choice, counting,
     number_target, reading, unary, unused, used, writable,
 };
-use c_grammar::{Production, Syntax};
+use c_grammar::{Production, SyntaxNode};
 use c_layers::{Layer, first_token, kind_of, layer_of};
 use c_lexer::{Mark, mark_of};
 use c_tree::Expression;
@@ -43,7 +43,7 @@ pub fn used_value(
     alloc: Global,
     known: &Known,
     faults: &mut Stack<Fault>,
-    x: &Syntax,
+    x: &SyntaxNode,
 ) -> Result<Option<Valued>, Memory>
     ensures value { IfOk result (λ v. v ≡ values.value_of (spec.typed (env_of known.now) (term known.now x.now))) }
     ensures faults { OnOk result (faults.new ≡ spec.used (env_of known.now) (term known.now x.now) (spec.faults (env_of known.now) (term known.now x.now) faults.old)) }
@@ -59,7 +59,7 @@ pub fn dropped_value(
     alloc: Global,
     known: &Known,
     faults: &mut Stack<Fault>,
-    x: &Syntax,
+    x: &SyntaxNode,
 ) -> Result<Option<Expression>, Memory>
     ensures value { IfOk result (λ e. e ≡ values.dropped (spec.typed (env_of known.now) (term known.now x.now))) }
     ensures faults { OnOk result (faults.new ≡ spec.unused (env_of known.now) (term known.now x.now) (spec.faults (env_of known.now) (term known.now x.now) faults.old)) }
@@ -131,7 +131,7 @@ fn target(
     alloc: Global,
     known: &Known,
     faults: &mut Stack<Fault>,
-    x: &Syntax,
+    x: &SyntaxNode,
 ) -> Result<Option<Target>, Memory>
     ensures value { IfOk result (λ t. t ≡ spec.target_of (env_of known.now) (term known.now x.now)) }
     ensures faults { OnOk result (faults.new ≡ spec.target_faults (env_of known.now) (term known.now x.now) faults.old) }
@@ -151,7 +151,7 @@ fn cell(
     faults: &mut Stack<Fault>,
     writes: bool,
     at: u32,
-    i: &Syntax,
+    i: &SyntaxNode,
 ) -> Result<Option<Target>, Memory>
     ensures value { IfOk result (λ t. t ≡ spec.cell_of (env_of known.now) at (term known.now i.now)) }
     ensures faults { OnOk result (faults.new ≡ spec.cell_faults (env_of known.now) writes at (term known.now i.now) (spec.faults (env_of known.now) (term known.now i.now) faults.old)) }
@@ -167,7 +167,7 @@ fn prefix(
     known: &Known,
     faults: &mut Stack<Fault>,
     m: u32,
-    a: &Syntax,
+    a: &SyntaxNode,
 ) -> Result<Typed, Memory>
     ensures value { IfOk result (λ t. t ≡ spec.form_typed (env_of known.now) (the_prefix m (term known.now a.now))) }
     ensures faults { OnOk result (faults.new ≡ spec.form_faults (env_of known.now) (the_prefix m (term known.now a.now)) faults.old) }
@@ -192,8 +192,8 @@ fn joined(
     known: &Known,
     faults: &mut Stack<Fault>,
     m: u32,
-    a: &Syntax,
-    b: &Syntax,
+    a: &SyntaxNode,
+    b: &SyntaxNode,
 ) -> Result<Typed, Memory>
     ensures value { IfOk result (λ t. t ≡ spec.form_typed (env_of known.now) (the_binary m (term known.now a.now) (term known.now b.now))) }
     ensures faults { OnOk result (faults.new ≡ spec.form_faults (env_of known.now) (the_binary m (term known.now a.now) (term known.now b.now)) faults.old) }
@@ -215,9 +215,9 @@ fn chosen(
     alloc: Global,
     known: &Known,
     faults: &mut Stack<Fault>,
-    a: &Syntax,
-    b: &Syntax,
-    c: &Syntax,
+    a: &SyntaxNode,
+    b: &SyntaxNode,
+    c: &SyntaxNode,
 ) -> Result<Typed, Memory>
     ensures value { IfOk result (λ t. t ≡ spec.form_typed (env_of known.now) (the_choice (term known.now a.now) (term known.now b.now) (term known.now c.now))) }
     ensures faults { OnOk result (faults.new ≡ spec.form_faults (env_of known.now) (the_choice (term known.now a.now) (term known.now b.now) (term known.now c.now)) faults.old) }
@@ -247,8 +247,8 @@ fn assigned(
     known: &Known,
     faults: &mut Stack<Fault>,
     m: u32,
-    t: &Syntax,
-    a: &Syntax,
+    t: &SyntaxNode,
+    a: &SyntaxNode,
 ) -> Result<Typed, Memory>
     ensures value { IfOk result (λ x. x ≡ spec.form_typed (env_of known.now) (the_assign m (term known.now t.now) (term known.now a.now))) }
     ensures faults { OnOk result (faults.new ≡ spec.form_faults (env_of known.now) (the_assign m (term known.now t.now) (term known.now a.now)) faults.old) }
@@ -264,10 +264,10 @@ fn assigned(
     }
 }
 
-fn is_token(x: &Syntax) -> bool
+fn is_token(x: &SyntaxNode) -> bool
     ensures { result ≡ the_token (out-Syntax x.now).rule }
 {
-    matches!(x.rule, Production::Token)
+    matches!(x.rule(), Production::Token)
 }
 
 /// `left, x`, where x is an operand of a comma operator, and not a comma.
@@ -277,7 +277,7 @@ fn behind_left(
     known: &Known,
     faults: &mut Stack<Fault>,
     left: Typed,
-    x: &Syntax,
+    x: &SyntaxNode,
 ) -> Result<Typed, Memory>
     ensures value { IfOk result (λ t. t ≡ values.comma (values.dropped left) (spec.typed (env_of known.now) (term known.now x.now))) }
     ensures faults { OnOk result (faults.new ≡ spec.unused (env_of known.now) (term known.now x.now) (spec.faults (env_of known.now) (term known.now x.now) faults.old)) }
@@ -300,7 +300,7 @@ fn commas(
     known: &Known,
     faults: &mut Stack<Fault>,
     left: Typed,
-    parts: &[Syntax],
+    parts: &[SyntaxNode],
 ) -> Result<Typed, Memory>
     ensures value { IfOk result (λ t. t ≡ spec.commas (env_of known.now) left (terms known.now parts.now)) }
     ensures faults { OnOk result (faults.new ≡ spec.unused_faults (env_of known.now) (terms known.now parts.now) faults.old) }
@@ -320,8 +320,8 @@ fn sequence(
     alloc: Global,
     known: &Known,
     faults: &mut Stack<Fault>,
-    a: &Syntax,
-    parts: &[Syntax],
+    a: &SyntaxNode,
+    parts: &[SyntaxNode],
 ) -> Result<Typed, Memory>
     ensures value { IfOk result (λ t. t ≡ spec.form_typed (env_of known.now) (the_commas (term known.now a.now) (terms known.now parts.now))) }
     ensures faults { OnOk result (faults.new ≡ spec.form_faults (env_of known.now) (the_commas (term known.now a.now) (terms known.now parts.now)) faults.old) }
@@ -343,7 +343,7 @@ fn give(
     alloc: Global,
     known: &Known,
     faults: &mut Stack<Fault>,
-    x: &Syntax,
+    x: &SyntaxNode,
     out: &mut List<Given>,
 ) -> Result<(), Memory>
     ensures out { OnOk result (out.new ≡ out.old ++ given_of (env_of known.now) (term known.now x.now) ∷ []) }
@@ -361,7 +361,7 @@ fn given(
     alloc: Global,
     known: &Known,
     faults: &mut Stack<Fault>,
-    parts: &[Syntax],
+    parts: &[SyntaxNode],
 ) -> Result<List<Given>, Memory>
     ensures value { IfOk result (λ gs. gs ≡ spec.given (env_of known.now) (terms known.now parts.now)) }
     ensures faults { OnOk result (faults.new ≡ spec.given_faults (env_of known.now) (terms known.now parts.now) faults.old) }
@@ -381,7 +381,7 @@ pub fn typed_of(
     alloc: Global,
     known: &Known,
     faults: &mut Stack<Fault>,
-    x: &Syntax,
+    x: &SyntaxNode,
 ) -> Result<Typed, Memory>
     ensures value { IfOk result (λ t. t ≡ spec.typed (env_of known.now) (term known.now x.now)) }
     ensures faults { OnOk result (faults.new ≡ spec.faults (env_of known.now) (term known.now x.now) faults.old) }
@@ -428,7 +428,7 @@ pub fn constant_expression(
     alloc: Global,
     known: &Known,
     faults: &mut Stack<Fault>,
-    x: &Syntax,
+    x: &SyntaxNode,
 ) -> Result<Option<(Expression, i128)>, Memory>
     ensures value { IfOk result (λ c. c ≡ constants.constant_of (spec.typed (env_of known.now) (term known.now x.now))) }
     ensures faults { OnOk result (faults.new ≡ spec.constant_faults (env_of known.now) (term known.now x.now) faults.old) }

@@ -15,7 +15,8 @@ use Rattle.c_layers.specs.declared.statements.ItemLayer.TheVariants as I
 use Rattle.c_layers.specs.declared.statements.StatementLayer.{StatementLayer}
 use Rattle.c_layers.specs.declared.statements.StatementLayer.TheVariants as S
 use Rattle.c_layers.specs.ItemViews.{item_of, plain_of, body_of, declaration_of, label_of, labels_of, declarator_of, item_form, statement_form}
-use Rattle.c_layers.proofs.Layers.{open_part, at-map, part-rule, part-first, part-after, first-map, token-map, take-whole, open_weight, open_form, weight-at, weights-rest}
+use Rattle.c_grammar.specs.Weighed.{open_weight}
+use Rattle.c_layers.proofs.Layers.{open_part, at-map, part-rule, part-first, part-after, first-map, token-map, take-whole, open_form, weight-at, weights-rest}
 
 -- ---- by production
 

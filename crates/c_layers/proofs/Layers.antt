@@ -4,14 +4,16 @@ use Rattle.std.proofs.lemmas.List.{length-map, drop-map}
 use Rattle.c_grammar.specs.declared.syntax.Production.{Production}
 use Rattle.c_grammar.specs.declared.syntax.Production.TheVariants as p
 use Rattle.c_grammar.specs.declared.syntax.Syntax.{Syntax, out-Syntax, fold_out-Syntax}
-use Rattle.c_layers.specs.Parts.{Part, part_of, part_layer, content, form_in, form_by, at, first_at, token_at, is_token, bracket_form, terms_in}
+use Rattle.c_layers.specs.Parts.{Part, part_of, part_layer, content, form_in, form_by, at, first_at, token_at, is_token, words_of_type, bracket_form, terms_in}
 use Rattle.c_layers.specs.Terms.{Call}
 use Rattle.c_layers.specs.Words.{has_word}
 use Rattle.std.specs.List.{list_any}
 use Rattle.std.specs.Str.{bytes_eq}
 use Rattle.c_layers.specs.declared.layer.Layer.{Layer}
 use Rattle.c_layers.specs.declared.layer.Layer.TheVariants as L
-use Rattle.c_layers.specs.Views.{total, weight, weights, AreSmaller}
+use Rattle.c_grammar.specs.Weighed.{open_weight}
+use Rattle.c_grammar.specs.Weights.{weight, weights}
+use Rattle.c_layers.specs.Views.{AreSmaller}
 
 -- what a syntax writes, by its production and what its parts write
 pub open_part : (word : ℕ → List ℕ) (x : Syntax) → part_of word x ≡ part_layer word (record { rule = (out-Syntax x).rule; first = (out-Syntax x).first; after = (out-Syntax x).after; parts = map (part_of word) (out-Syntax x).parts })
@@ -67,10 +69,6 @@ brackets word xs d e h t =
 
 -- ---- weights
 
-pub open_weight : (x : Syntax) → weight x ≡ weights (out-Syntax x).parts + 1
-unfolding weight
-open_weight x = fold_out-Syntax ℕ (λ s. total s.parts + 1) x
-
 weights-cons : (x : Syntax) (xs : List Syntax) → weights (x ∷ xs) ≡ weight x + weights xs
 weights-cons x xs = refl
 
@@ -123,8 +121,12 @@ pub ruleset firsts = (part-first, part-rule)
 
 -- ---- the words of a type
 
-pub words_in : (word : ℕ → List ℕ) (x : Syntax) → (part_of word x).firsts ≡ map (λ y. (out-Syntax y).first) (out-Syntax x).parts
-words_in word x = ap (λ (q : Part). q.firsts) (open_part word x) ∙ firsts-map word (out-Syntax x).parts
+pub words_in : (word : ℕ → List ℕ) (x : Syntax) → (part_of word x).firsts ≡ words_of_type (out-Syntax x).rule (map (λ y. (out-Syntax y).first) (out-Syntax x).parts)
+words_in word x = ap (λ (q : Part). q.firsts) (open_part word x) ∙ ap (words_of_type (out-Syntax x).rule) (firsts-map word (out-Syntax x).parts)
+
+pub no_words : (rule : Production) (words : List ℕ) → (rule ≡ p.NumberType → ⊥) → words_of_type rule words ≡ []
+no_words p.NumberType words h = absurd (h refl)
+no_words _ words h = refl
 
 pub has_words : (word : ℕ → List ℕ) (xs : List Syntax) (w : List ℕ) → has_word word (map (λ x. (out-Syntax x).first) xs) w ≡ list_any (λ x. bytes_eq (word (out-Syntax x).first) w) xs
 has_words word [] w = refl

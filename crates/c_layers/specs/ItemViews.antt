@@ -20,7 +20,7 @@ use Rattle.c_layers.specs.declared.statements.StatementLayer.TheVariants as S
 use Rattle.c_layers.specs.Terms.{Term}
 use Rattle.c_layers.specs.Items.{Size, NoSize, Unsized, Sized, Initialiser, NoValue, OneValue, ValueList, Declarator, Declaration, Label, Named, Case, Default, Start, NoStart, StartValue, StartNames, Item, Declares, States, Plain, From, Statement, Null, Evaluate, If, IfElse, While, DoWhile, For, Switch, Block, Goto, Break, Continue, Return, Unread, Body, Braces, Lone}
 use Rattle.c_layers.specs.Parts.{part_of, term_of, term_list, gathered, declarator_in, declaration_in, label_in, item_in, items_in, statement_in, body_in}
-use Rattle.c_layers.specs.Views.{weight, weights}
+use Rattle.c_grammar.specs.Weights.{weight, weights}
 
 -- ---- what a syntax writes
 

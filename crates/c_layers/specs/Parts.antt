@@ -33,7 +33,7 @@ pub data Content : Type 0 where
   OfTop : tops.Form → Content
   OfFile : List Top → Content
 
--- a node: its place, the first tokens of its parts, the counts, and what it writes
+-- a node: its place, its words if it is a type, the counts, and what it writes
 pub record Part : Type 0 where
   pub rule : Production
   pub first : ℕ
@@ -43,6 +43,11 @@ pub record Part : Type 0 where
   pub counted : ℕ
   pub most : ℕ
   pub content : Content
+
+-- the words of a type are the first tokens of its node's parts; other nodes have none
+abbrev pub words_of_type : Production → List ℕ → List ℕ
+words_of_type p.NumberType words = words
+words_of_type _ words = []
 
 -- in the place of a part that isn't there
 abbrev pub absent : Part
@@ -408,7 +413,7 @@ part_layer word s =
       rule = s.rule;
       first = s.first;
       after = s.after;
-      firsts = map (λ (q : Part). q.first) s.parts;
+      firsts = words_of_type s.rule (map (λ (q : Part). q.first) s.parts);
       counted = counted;
       most = cond (is_full s.rule) counted (greatest s.parts);
       content = content word s.rule s.first s.after s.parts;

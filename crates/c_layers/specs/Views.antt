@@ -1,7 +1,7 @@
 -- The words of the tokens of a text, and one layer of an expression.
-use Rattle.std.specs.Prelude.{◌<◌, ◌+◌, ℕ, List, [], ◌∷◌, map}
-use Rattle.c_grammar.specs.declared.syntax.Syntax.{Syntax, out-Syntax, fold-Syntax}
-use Rattle.c_grammar.specs.declared.syntax.Syntax.TheOpen.{Syntax-F}
+use Rattle.std.specs.Prelude.{◌<◌, ℕ, List, map}
+use Rattle.c_grammar.specs.declared.syntax.Syntax.{out-Syntax}
+use Rattle.c_grammar.specs.Weights.{weight, weights}
 use Rattle.c_layers.specs.declared.words.Words.{Words}
 use Rattle.c_layers.specs.declared.layer.Layer.{Layer}
 use Rattle.c_layers.specs.declared.layer.Layer.TheVariants as L
@@ -30,16 +30,6 @@ layer_form word (L.Texts ts) = Texts (map (λ x. (out-Syntax x).first) ts.now)
 layer_form word L.Unknown = Unknown
 
 -- ---- a walk ends, since each operand has fewer nodes than its expression
-
-abbrev pub total : List ℕ → ℕ
-total [] = 0
-total (n ∷ ns) = n + total ns
-
-unfoldable pub weight : Syntax → ℕ
-weight x = fold-Syntax ℕ (λ (s : Syntax-F ℕ). total s.parts + 1) x
-
-abbrev pub weights : List Syntax → ℕ
-weights xs = total (map weight xs)
 
 -- each operand has fewer nodes than n
 abbrev pub AreSmaller : ℕ → Layer → Type 0

@@ -1,13 +1,12 @@
 -- The bytes of a token, by its number, and the constants that tokens write (ISO/IEC 9899:2011, 6.4.4 and 6.4.5).
-use Rattle.std.specs.Prelude.{◌+◌, ◌*◌, ◌-◌, ◌%◌, ◌==◌, ℕ, Bool, cond, ◌&&◌, nat_le, nat_lt, List, [], ◌∷◌, ◌++◌, Option, Some, None, length, take, drop, get_or, slice_get, slice_range, codes}
-use Rattle.std.specs.List.{list_any}
+use Rattle.std.specs.Prelude.{◌-◌, ◌%◌, ◌==◌, ℕ, zero, suc, Bool, cond, ◌&&◌, nat_le, List, [], ◌∷◌, map, Option, Some, None, length, take, drop, get_or, slice_get, slice_range, codes}
+use Rattle.std.specs.List.{list_any, take_while}
 use Rattle.std.specs.Str.{bytes_eq}
 use Rattle.c_types.specs.declared.kinds.IntKind.{IntKind}
 use Rattle.c_types.specs.declared.kinds.IntKind.TheVariants.{Char, UChar, Int, UInt, Long, ULong}
 use Rattle.c_lexer.specs.declared.token.Token.{Token}
-use Rattle.c_lexer.specs.Bytes.{is_octal_digit, is_hexadecimal_digit, digit_value}
-use Rattle.c_layers.specs.declared.decoding.Decoding.{Decoding}
-use Rattle.c_layers.specs.declared.decoding.Decoding.TheVariants.{Plain, Backslash, Octal, Hexadecimal}
+use Rattle.c_lexer.specs.Bytes.{is_octal_digit, is_hexadecimal_digit}
+use Rattle.c_lexer.specs.Numbers.{value_from}
 
 -- ---- tokens
 
@@ -31,7 +30,7 @@ kind_of word tokens =
     (cond (has_word word tokens (codes "long")) (cond (has_word word tokens (codes "unsigned")) ULong Long)
     (cond (has_word word tokens (codes "unsigned")) UInt Int))
 
--- ---- characters
+-- ---- characters and escapes
 
 -- the byte that `\` and this byte write
 abbrev pub escape_value : ℕ → ℕ
@@ -39,34 +38,47 @@ escape_value b =
     cond (b == 97) 7 (cond (b == 98) 8 (cond (b == 116) 9 (cond (b == 110) 10
     (cond (b == 118) 11 (cond (b == 102) 12 (cond (b == 114) 13 b))))))
 
--- what is open behind a byte, and the bytes that are finished by then
-abbrev pub Taken : Type 0
-Taken = Decoding × List ℕ
+-- what writes one byte
+pub data Element : Type 0 where
+  -- a byte that stands for itself
+  Itself : ℕ → Element
+  -- `\` and this byte
+  Simple : ℕ → Element
+  -- `\` and octal digits
+  Octal : List ℕ → Element
+  -- `\x` and hexadecimal digits
+  Hexadecimal : List ℕ → Element
 
-abbrev pub plain : ℕ → Taken
-plain b = cond (b == 92) (Backslash, []) (Plain, b ∷ [])
+-- its bytes
+abbrev pub written : Element → List ℕ
+written (Itself b) = b ∷ []
+written (Simple b) = 92 ∷ b ∷ []
+written (Octal ds) = 92 ∷ ds
+written (Hexadecimal ds) = 92 ∷ 120 ∷ ds
 
-abbrev pub behind_value : ℕ → Taken → Taken
-behind_value v taken = (taken.0, v ∷ taken.1)
+-- the byte that it writes: of the number of its digits the last eight bits
+abbrev pub value : Element → ℕ
+value (Itself b) = b
+value (Simple b) = escape_value b
+value (Octal ds) = value_from 8 0 ds % 256
+value (Hexadecimal ds) = value_from 16 0 ds % 256
 
-abbrev pub decode : Decoding → ℕ → Taken
-decode Plain b = plain b
-decode Backslash b =
-    cond (is_octal_digit b) (Octal 1 (digit_value b), [])
-    (cond (b == 120) (Hexadecimal 0, []) (Plain, escape_value b ∷ []))
-decode (Octal n v) b = cond (nat_lt n 3 && is_octal_digit b) (Octal (n + 1) ((v * 8 + digit_value b) % 256), []) (behind_value v (plain b))
-decode (Hexadecimal v) b = cond (is_hexadecimal_digit b) (Hexadecimal ((v * 16 + digit_value b) % 256), []) (behind_value v (plain b))
+-- the escape of `\` and this byte, in front of those: with as many digits as there are, three octal ones at most
+abbrev pub escape : ℕ → List ℕ → Element
+escape b w =
+    cond (is_octal_digit b) (Octal (take 3 (take_while is_octal_digit (b ∷ w))))
+    (cond (b == 120) (Hexadecimal (take_while is_hexadecimal_digit w)) (Simple b))
 
--- the byte of an escape that is not ended
-abbrev pub left : Decoding → List ℕ
-left Plain = []
-left Backslash = []
-left (Octal n v) = v ∷ []
-left (Hexadecimal v) = v ∷ []
+-- what begins with this byte, in front of those; a `\` in front of nothing stands for itself
+abbrev pub first_element : ℕ → List ℕ → Element
+first_element b [] = Itself b
+first_element b (c ∷ w) = cond (b == 92) (escape c w) (Itself b)
 
-abbrev pub decoded_from : Decoding → List ℕ → List ℕ
-decoded_from pending [] = left pending
-decoded_from pending (b ∷ bs) = let taken = decode pending b in taken.1 ++ decoded_from taken.0 bs
+-- what these bytes are in order, so many at most
+abbrev pub elements : ℕ → List ℕ → List Element
+elements zero w = []
+elements (suc n) [] = []
+elements (suc n) (b ∷ w) = let e = first_element b w in e ∷ elements n (drop (length (written e)) (b ∷ w))
 
 -- the bytes between the quotes
 abbrev pub within_quotes : List ℕ → List ℕ
@@ -74,7 +86,7 @@ within_quotes w = take (length w - 2) (drop 1 w)
 
 -- the bytes that a character constant or a text writes
 abbrev pub decoded : List ℕ → List ℕ
-decoded w = decoded_from Plain (within_quotes w)
+decoded w = let v = within_quotes w in map value (elements (length v) v)
 
 -- the byte of a character constant
 abbrev pub character : List ℕ → ℕ

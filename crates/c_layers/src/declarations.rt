@@ -8,22 +8,22 @@ ghost use Rattle.c_layers.specs.ItemViews.{declaration_of, declarator_of, declar
 
 use crate::layer::is_token;
 use crate::words::Words;
-use c_grammar::{Production, Syntax};
+use c_grammar::{Production, SyntaxNode};
 
 /// What stands in square brackets behind a declared name.
 #[derive(Clone, Copy)]
 pub enum SizeLayer<'a> {
     NoSize,
     Unsized,
-    Sized(&'a Syntax),
+    Sized(&'a SyntaxNode),
 }
 
 #[derive(Clone, Copy)]
 pub enum InitialiserLayer<'a> {
     NoValue,
-    OneValue(&'a Syntax),
+    OneValue(&'a SyntaxNode),
     /// The values in braces, between tokens.
-    ValueList(&'a [Syntax]),
+    ValueList(&'a [SyntaxNode]),
 }
 
 /// A declared name, by its token.
@@ -38,13 +38,13 @@ pub struct DeclaratorLayer<'a> {
 pub struct DeclarationLayer<'a> {
     pub constant: bool,
     /// The node of the type's words; none where the syntax is that of no derivation.
-    pub kind: Option<&'a Syntax>,
+    pub kind: Option<&'a SyntaxNode>,
     /// The declarators, among tokens.
-    pub names: &'a [Syntax],
+    pub names: &'a [SyntaxNode],
 }
 
 #[tactic(auto, using(crate::proofs::Items::parts))]
-fn initialiser_by<'a>(words: &Words, parts: &'a [Syntax]) -> InitialiserLayer<'a>
+fn initialiser_by<'a>(words: &Words, parts: &'a [SyntaxNode]) -> InitialiserLayer<'a>
     ensures { spec.initialiser (map (spec.part_of (words_of words.now)) parts.now) ≡ initialiser_form (words_of words.now) result }
 {
     if parts.len() == 1 {
@@ -55,27 +55,31 @@ fn initialiser_by<'a>(words: &Words, parts: &'a [Syntax]) -> InitialiserLayer<'a
 
 /// The initialiser that a syntax writes, and none where it writes something else.
 #[tactic(auto, using(crate::proofs::Items::opened_nodes))]
-pub fn initialiser_layer<'a>(words: &Words, x: &'a Syntax) -> InitialiserLayer<'a>
+pub fn initialiser_layer<'a>(words: &Words, x: &'a SyntaxNode) -> InitialiserLayer<'a>
     ensures { spec.initialiser_in (spec.part_of (words_of words.now) x.now).content ≡ initialiser_form (words_of words.now) result }
 {
-    match x.rule {
-        Production::Initialiser => initialiser_by(words, x.parts.as_slice()),
+    match x.rule() {
+        Production::Initialiser => initialiser_by(words, x.parts()),
         _ => InitialiserLayer::NoValue,
     }
 }
 
 /// The number of the first token of a part, and 0 where there is no such part.
 #[tactic(auto, using(crate::proofs::Items::parts))]
-pub fn first_at(words: &Words, parts: &[Syntax], at: usize) -> u32
+pub fn first_at(words: &Words, parts: &[SyntaxNode], at: usize) -> u32
     ensures { result ≡ spec.first_at (map (spec.part_of (words_of words.now)) parts.now) at }
 {
-    if at < parts.len() { parts[at].first } else { 0 }
+    if at < parts.len() {
+        parts[at].first()
+    } else {
+        0
+    }
 }
 
 #[tactic(auto, using(crate::proofs::Items::parts))]
 fn declared<'a>(
     words: &Words,
-    parts: &'a [Syntax],
+    parts: &'a [SyntaxNode],
     size: SizeLayer<'a>,
     value: InitialiserLayer<'a>,
 ) -> DeclaratorLayer<'a>
@@ -89,12 +93,12 @@ fn declared<'a>(
 }
 
 #[tactic(auto, using(crate::proofs::Items::parts))]
-fn declarator_by<'a>(words: &Words, parts: &'a [Syntax]) -> DeclaratorLayer<'a>
+fn declarator_by<'a>(words: &Words, parts: &'a [SyntaxNode]) -> DeclaratorLayer<'a>
     ensures { spec.declarator (map (spec.part_of (words_of words.now)) parts.now) ≡ declarator_form (words_of words.now) result }
 {
     let none = InitialiserLayer::NoValue;
     if parts.len() == 3 {
-        if is_token(parts[2].rule) {
+        if is_token(parts[2].rule()) {
             return declared(words, parts, SizeLayer::Unsized, none);
         }
         let value = initialiser_layer(words, &parts[2]);
@@ -116,18 +120,18 @@ fn declarator_by<'a>(words: &Words, parts: &'a [Syntax]) -> DeclaratorLayer<'a>
 
 /// The declarator that a syntax writes, and none where it writes something else.
 #[tactic(auto, using(crate::proofs::Items::opened_nodes))]
-pub fn declarator_layer<'a>(words: &Words, x: &'a Syntax) -> Option<DeclaratorLayer<'a>>
+pub fn declarator_layer<'a>(words: &Words, x: &'a SyntaxNode) -> Option<DeclaratorLayer<'a>>
     ensures { declarator_of (words_of words.now) x.now ≡ option_map (declarator_form (words_of words.now)) result }
 {
-    match x.rule {
-        Production::Declarator => Some(declarator_by(words, x.parts.as_slice())),
+    match x.rule() {
+        Production::Declarator => Some(declarator_by(words, x.parts())),
         _ => None,
     }
 }
 
 /// What stands behind `const`, if it stands there.
 #[tactic(auto, using(crate::proofs::Items::parts))]
-fn declaration_by<'a>(words: &Words, parts: &'a [Syntax]) -> DeclarationLayer<'a>
+fn declaration_by<'a>(words: &Words, parts: &'a [SyntaxNode]) -> DeclarationLayer<'a>
     ensures { spec.declaration (map (spec.part_of (words_of words.now)) parts.now) ≡ declaration_form (words_of words.now) result }
 {
     if parts.len() < 2 {
@@ -137,7 +141,7 @@ fn declaration_by<'a>(words: &Words, parts: &'a [Syntax]) -> DeclarationLayer<'a
             names: &[],
         };
     }
-    if is_token(parts[0].rule) {
+    if is_token(parts[0].rule()) {
         return DeclarationLayer {
             constant: true,
             kind: Some(&parts[1]),
@@ -153,11 +157,11 @@ fn declaration_by<'a>(words: &Words, parts: &'a [Syntax]) -> DeclarationLayer<'a
 
 /// The declaration that a syntax writes, one without names where it writes something else.
 #[tactic(auto, using(crate::proofs::Items::opened_nodes))]
-pub fn declaration_layer<'a>(words: &Words, x: &'a Syntax) -> DeclarationLayer<'a>
+pub fn declaration_layer<'a>(words: &Words, x: &'a SyntaxNode) -> DeclarationLayer<'a>
     ensures { declaration_of (words_of words.now) x.now ≡ declaration_form (words_of words.now) result }
 {
-    match x.rule {
-        Production::Local => declaration_by(words, x.parts.as_slice()),
+    match x.rule() {
+        Production::Local => declaration_by(words, x.parts()),
         _ => DeclarationLayer {
             constant: false,
             kind: None,

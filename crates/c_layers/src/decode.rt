@@ -2,6 +2,7 @@
 
 ghost use Rattle.std.specs.Prelude.{◌≡◌, ◌++◌, ◌<◌, ◌≤◌, ◌+◌, ◌*◌, ◌%◌, OnOk, IfOk, length};
 ghost use Rattle.c_lexer.specs.Bytes as bytes;
+ghost use Rattle.c_layers.specs.DecodingSteps as steps;
 ghost use Rattle.c_layers.specs.Words as spec;
 
 use crate::decoding::Decoding;
@@ -33,8 +34,8 @@ fn grown(value: u8, radix: u32, byte: u8) -> u8
 }
 
 fn plain(byte: u8, out: &mut Bytes) -> Result<Decoding, Memory>
-    ensures pending { IfOk result (λ s. s ≡ (spec.plain byte).0) }
-    ensures out { OnOk result (out.new ≡ out.old ++ (spec.plain byte).1) }
+    ensures pending { IfOk result (λ s. s ≡ (steps.plain byte).0) }
+    ensures out { OnOk result (out.new ≡ out.old ++ (steps.plain byte).1) }
 {
     if byte == b'\\' {
         return Ok(Decoding::Backslash);
@@ -44,8 +45,8 @@ fn plain(byte: u8, out: &mut Bytes) -> Result<Decoding, Memory>
 }
 
 fn escaped(byte: u8, out: &mut Bytes) -> Result<Decoding, Memory>
-    ensures pending { IfOk result (λ s. s ≡ (spec.decode Decoding.Backslash byte).0) }
-    ensures out { OnOk result (out.new ≡ out.old ++ (spec.decode Decoding.Backslash byte).1) }
+    ensures pending { IfOk result (λ s. s ≡ (steps.decode Decoding.Backslash byte).0) }
+    ensures out { OnOk result (out.new ≡ out.old ++ (steps.decode Decoding.Backslash byte).1) }
 {
     if is_octal_digit(byte) {
         return Ok(Decoding::Octal(1, digit_value(byte)));
@@ -58,8 +59,8 @@ fn escaped(byte: u8, out: &mut Bytes) -> Result<Decoding, Memory>
 }
 
 fn decode(pending: Decoding, byte: u8, out: &mut Bytes) -> Result<Decoding, Memory>
-    ensures pending { IfOk result (λ s. s ≡ (spec.decode pending byte).0) }
-    ensures out { OnOk result (out.new ≡ out.old ++ (spec.decode pending byte).1) }
+    ensures pending { IfOk result (λ s. s ≡ (steps.decode pending byte).0) }
+    ensures out { OnOk result (out.new ≡ out.old ++ (steps.decode pending byte).1) }
 {
     match pending {
         Decoding::Plain => plain(byte, out),
@@ -90,20 +91,26 @@ fn within_quotes(word: &[u8]) -> &[u8]
     &word[1..word.len() - 1]
 }
 
-/// Puts the bytes that a character constant or a text writes behind others.
-pub fn add_decoded(word: &[u8], out: &mut Bytes) -> Result<(), Memory>
-    ensures { OnOk result (out.new ≡ out.old ++ spec.decoded word.now) }
+fn add_elements(bytes: &[u8], out: &mut Bytes) -> Result<(), Memory>
+    ensures { OnOk result (out.new ≡ out.old ++ steps.decoded_from Decoding.Plain bytes.now) }
 {
-    let bytes = within_quotes(word);
     let mut pending = Decoding::Plain;
     for byte in bytes {
         pending = decode(pending, *byte, out)?;
     }
     match pending {
-        Decoding::Plain | Decoding::Backslash => Ok(()),
+        Decoding::Plain => Ok(()),
+        Decoding::Backslash => out.push(b'\\'),
         Decoding::Octal(_, value) => out.push(value),
         Decoding::Hexadecimal(value) => out.push(value),
     }
+}
+
+/// Puts the bytes that a character constant or a text writes behind others.
+pub fn add_decoded(word: &[u8], out: &mut Bytes) -> Result<(), Memory>
+    ensures { OnOk result (out.new ≡ out.old ++ spec.decoded word.now) }
+{
+    add_elements(within_quotes(word), out)
 }
 
 /// The byte of a character constant. Want of memory is the only failure.

@@ -16,8 +16,7 @@ pub use declarations::{
     declarator_layer, initialiser_layer,
 };
 pub use decode::{add_decoded, character, is_character};
-pub use decoding::Decoding;
-pub use layer::{Layer, first_token, layer_of};
+pub use layer::{Layer, first_token, is_variable, layer_of};
 pub use statements::{
     BodyLayer, ItemLayer, LabelLayer, StartLayer, StatementLayer, body_layer, has_label,
     item_layer, label_layer, statement_layer,

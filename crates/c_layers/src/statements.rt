@@ -4,20 +4,21 @@ ghost use Rattle.std.specs.Prelude.{◌≡◌, ◌≤◌, ◌+◌, length, map, 
 ghost use Rattle.std.specs.List.{list_any};
 ghost use Rattle.c_layers.specs.Items as items;
 ghost use Rattle.c_layers.specs.Parts as spec;
-ghost use Rattle.c_layers.specs.Views.{words_of, weight, weights};
+ghost use Rattle.c_grammar.specs.Weights.{weight, weights};
+ghost use Rattle.c_layers.specs.Views.{words_of};
 ghost use Rattle.c_layers.specs.ItemViews.{label_of, labels_of, item_of, body_of, plain_of, label_form, item_form, body_form, start_form, statement_form, ItemIsSmaller, BodyIsSmaller, StatementIsSmaller};
 ghost use Rattle.c_grammar.specs.declared.syntax.Syntax.{out-Syntax};
 
 use crate::declarations::first_at;
 use crate::layer::is_token;
 use crate::words::Words;
-use c_grammar::{Class, Production, Syntax, keyword_class};
+use c_grammar::{Class, Production, SyntaxNode, keyword_class};
 
 /// A label, from its first token to the one behind it.
 #[derive(Clone, Copy)]
 pub enum LabelLayer<'a> {
     Named(u32, u32),
-    Case(u32, u32, &'a Syntax),
+    Case(u32, u32, &'a SyntaxNode),
     Default(u32, u32),
 }
 
@@ -25,9 +26,9 @@ pub enum LabelLayer<'a> {
 #[derive(Clone, Copy)]
 pub enum ItemLayer<'a> {
     /// A declaration, from its first token to the one behind it.
-    Declares(u32, u32, &'a Syntax),
+    Declares(u32, u32, &'a SyntaxNode),
     /// The labels are among these nodes, and the statement stands behind them.
-    States(&'a [Syntax], &'a Syntax),
+    States(&'a [SyntaxNode], &'a SyntaxNode),
     /// Neither, from its first token to the one behind it.
     Unread(u32, u32),
 }
@@ -36,44 +37,44 @@ pub enum ItemLayer<'a> {
 #[derive(Clone, Copy)]
 pub enum BodyLayer<'a> {
     /// The items in braces, among tokens.
-    Braces(u32, u32, &'a [Syntax]),
+    Braces(u32, u32, &'a [SyntaxNode]),
     /// One statement that is no block.
-    Lone(u32, u32, &'a Syntax),
+    Lone(u32, u32, &'a SyntaxNode),
 }
 
 /// The first part of a `for`.
 #[derive(Clone, Copy)]
 pub enum StartLayer<'a> {
     NoStart,
-    StartValue(&'a Syntax),
-    StartNames(&'a Syntax),
+    StartValue(&'a SyntaxNode),
+    StartNames(&'a SyntaxNode),
 }
 
 /// A statement without its labels, with the syntax of its parts.
 #[derive(Clone, Copy)]
 pub enum StatementLayer<'a> {
     Null,
-    Evaluate(&'a Syntax),
-    If(&'a Syntax, &'a Syntax),
-    IfElse(&'a Syntax, &'a Syntax, &'a Syntax),
-    While(&'a Syntax, &'a Syntax),
-    DoWhile(&'a Syntax, &'a Syntax),
+    Evaluate(&'a SyntaxNode),
+    If(&'a SyntaxNode, &'a SyntaxNode),
+    IfElse(&'a SyntaxNode, &'a SyntaxNode, &'a SyntaxNode),
+    While(&'a SyntaxNode, &'a SyntaxNode),
+    DoWhile(&'a SyntaxNode, &'a SyntaxNode),
     /// The first part, the test, the third part and the body.
-    For(StartLayer<'a>, Option<&'a Syntax>, Option<&'a Syntax>, &'a Syntax),
-    Switch(&'a Syntax, &'a Syntax),
+    For(StartLayer<'a>, Option<&'a SyntaxNode>, Option<&'a SyntaxNode>, &'a SyntaxNode),
+    Switch(&'a SyntaxNode, &'a SyntaxNode),
     /// The items in braces, among tokens, from the first token to the one behind.
-    Block(u32, u32, &'a [Syntax]),
+    Block(u32, u32, &'a [SyntaxNode]),
     /// The token of the label's name.
     Goto(u32),
     Break,
     Continue,
-    Return(Option<&'a Syntax>),
+    Return(Option<&'a SyntaxNode>),
     /// No statement.
     Unread,
 }
 
 #[tactic(auto, using(crate::proofs::Items::parts))]
-fn label_by<'a>(words: &Words, first: u32, after: u32, parts: &'a [Syntax]) -> LabelLayer<'a>
+fn label_by<'a>(words: &Words, first: u32, after: u32, parts: &'a [SyntaxNode]) -> LabelLayer<'a>
     ensures { spec.label (words_of words.now) first after (map (spec.part_of (words_of words.now)) parts.now) ≡ label_form (words_of words.now) result }
 {
     if parts.len() == 3 {
@@ -87,30 +88,30 @@ fn label_by<'a>(words: &Words, first: u32, after: u32, parts: &'a [Syntax]) -> L
 
 /// The label that a syntax writes, and none where it writes something else.
 #[tactic(auto, using(crate::proofs::Items::opened_nodes))]
-pub fn label_layer<'a>(words: &Words, x: &'a Syntax) -> Option<LabelLayer<'a>>
+pub fn label_layer<'a>(words: &Words, x: &'a SyntaxNode) -> Option<LabelLayer<'a>>
     ensures { label_of (words_of words.now) x.now ≡ option_map (label_form (words_of words.now)) result }
 {
-    match x.rule {
-        Production::Label => Some(label_by(words, x.first, x.after, x.parts.as_slice())),
+    match x.rule() {
+        Production::Label => Some(label_by(words, x.first(), x.after(), x.parts())),
         _ => None,
     }
 }
 
-fn is_label(words: &Words, x: &Syntax) -> bool
+fn is_label(words: &Words, x: &SyntaxNode) -> bool
     ensures { result ≡ is_some (label_of (words_of words.now) x.now) }
 {
     label_layer(words, x).is_some()
 }
 
 /// Whether a label is among these nodes.
-pub fn has_label(words: &Words, nodes: &[Syntax]) -> bool
+pub fn has_label(words: &Words, nodes: &[SyntaxNode]) -> bool
     ensures { result ≡ list_any (λ x. is_some (label_of (words_of words.now) x)) nodes.now }
 {
     nodes.iter().any(|node| is_label(words, node))
 }
 
 #[tactic(auto, using(crate::proofs::Items::statement_parts))]
-fn statement_item<'a>(words: &Words, parts: &'a [Syntax]) -> ItemLayer<'a>
+fn statement_item<'a>(words: &Words, parts: &'a [SyntaxNode]) -> ItemLayer<'a>
     ensures form { spec.labelled (map (spec.part_of (words_of words.now)) parts.now) ≡ item_form (words_of words.now) result }
     ensures smaller { ItemIsSmaller (weights parts.now + 1) result }
 {
@@ -122,24 +123,24 @@ fn statement_item<'a>(words: &Words, parts: &'a [Syntax]) -> ItemLayer<'a>
 
 /// The declaration or statement that a syntax writes, without brackets and levels.
 #[tactic(auto, using(crate::proofs::Items::opened_nodes))]
-pub fn item_layer<'a>(words: &Words, x: &'a Syntax) -> ItemLayer<'a>
+pub fn item_layer<'a>(words: &Words, x: &'a SyntaxNode) -> ItemLayer<'a>
     ensures form { item_of (words_of words.now) x.now ≡ item_form (words_of words.now) result }
     ensures smaller { ItemIsSmaller (weight x.now) result }
 {
-    match x.rule {
-        Production::Statement => statement_item(words, x.parts.as_slice()),
-        Production::Local => ItemLayer::Declares(x.first, x.after, x),
-        _ => ItemLayer::Unread(x.first, x.after),
+    match x.rule() {
+        Production::Statement => statement_item(words, x.parts()),
+        Production::Local => ItemLayer::Declares(x.first(), x.after(), x),
+        _ => ItemLayer::Unread(x.first(), x.after()),
     }
 }
 
 /// An expression, unless a token stands in its place.
 #[tactic(auto, using(crate::proofs::Items::parts))]
-fn optional_at<'a>(words: &Words, parts: &'a [Syntax], at: usize) -> Option<&'a Syntax>
+fn optional_at<'a>(words: &Words, parts: &'a [SyntaxNode], at: usize) -> Option<&'a SyntaxNode>
     ensures { spec.optional_at (map (spec.part_of (words_of words.now)) parts.now) at ≡ option_map (λ x. spec.term_of (words_of words.now) x.now) result }
 {
     if at < parts.len() {
-        if is_token(parts[at].rule) {
+        if is_token(parts[at].rule()) {
             return None;
         }
         return Some(&parts[at]);
@@ -149,14 +150,14 @@ fn optional_at<'a>(words: &Words, parts: &'a [Syntax], at: usize) -> Option<&'a 
 
 /// The nodes behind an expression that may be left out, and the token behind it.
 #[tactic(auto, using(crate::proofs::Items::parts))]
-fn behind_optional<'a>(words: &Words, parts: &'a [Syntax]) -> &'a [Syntax]
+fn behind_optional<'a>(words: &Words, parts: &'a [SyntaxNode]) -> &'a [SyntaxNode]
     ensures rest { spec.behind_optional (map (spec.part_of (words_of words.now)) parts.now) ≡ map (spec.part_of (words_of words.now)) result.now }
     ensures smaller { weights result.now ≤ weights parts.now }
 {
     if parts.len() == 0 {
         return parts;
     }
-    if is_token(parts[0].rule) {
+    if is_token(parts[0].rule()) {
         return &parts[1..];
     }
     if parts.len() == 1 {
@@ -166,30 +167,30 @@ fn behind_optional<'a>(words: &Words, parts: &'a [Syntax]) -> &'a [Syntax]
 }
 
 #[tactic(auto, using(crate::proofs::Items::parts))]
-fn start_of<'a>(words: &Words, parts: &'a [Syntax]) -> StartLayer<'a>
+fn start_of<'a>(words: &Words, parts: &'a [SyntaxNode]) -> StartLayer<'a>
     ensures { spec.start_of (map (spec.part_of (words_of words.now)) parts.now) ≡ start_form (words_of words.now) result }
 {
     if parts.len() == 0 {
         return StartLayer::NoStart;
     }
-    if is_local(parts[0].rule) {
+    if is_local(parts[0].rule()) {
         return StartLayer::StartNames(&parts[0]);
     }
-    if is_token(parts[0].rule) {
+    if is_token(parts[0].rule()) {
         return StartLayer::NoStart;
     }
     StartLayer::StartValue(&parts[0])
 }
 
 #[tactic(auto, using(crate::proofs::Items::parts))]
-fn behind_start<'a>(words: &Words, parts: &'a [Syntax]) -> &'a [Syntax]
+fn behind_start<'a>(words: &Words, parts: &'a [SyntaxNode]) -> &'a [SyntaxNode]
     ensures rest { spec.behind_start (map (spec.part_of (words_of words.now)) parts.now) ≡ map (spec.part_of (words_of words.now)) result.now }
     ensures smaller { weights result.now ≤ weights parts.now }
 {
     if parts.len() == 0 {
         return parts;
     }
-    if is_local(parts[0].rule) {
+    if is_local(parts[0].rule()) {
         return &parts[1..];
     }
     behind_optional(words, parts)
@@ -202,7 +203,7 @@ fn is_local(rule: Production) -> bool
 }
 
 #[tactic(auto, using(crate::proofs::Items::parts))]
-fn for_layer<'a>(words: &Words, parts: &'a [Syntax]) -> StatementLayer<'a>
+fn for_layer<'a>(words: &Words, parts: &'a [SyntaxNode]) -> StatementLayer<'a>
     ensures form { spec.for_of (map (spec.part_of (words_of words.now)) parts.now) ≡ statement_form (words_of words.now) result }
     ensures smaller { StatementIsSmaller (weights parts.now + 1) result }
 {
@@ -219,7 +220,7 @@ fn for_layer<'a>(words: &Words, parts: &'a [Syntax]) -> StatementLayer<'a>
 }
 
 #[tactic(auto, using(crate::proofs::Items::parts))]
-fn if_layer<'a>(words: &Words, parts: &'a [Syntax]) -> StatementLayer<'a>
+fn if_layer<'a>(words: &Words, parts: &'a [SyntaxNode]) -> StatementLayer<'a>
     ensures form { spec.if_of (map (spec.part_of (words_of words.now)) parts.now) ≡ statement_form (words_of words.now) result }
     ensures smaller { StatementIsSmaller (weights parts.now + 1) result }
 {
@@ -234,7 +235,7 @@ fn if_layer<'a>(words: &Words, parts: &'a [Syntax]) -> StatementLayer<'a>
 
 /// A statement of one of these classes that has five parts, or seven for `do`.
 #[tactic(auto, using(crate::proofs::Items::parts))]
-fn while_layer<'a>(words: &Words, parts: &'a [Syntax]) -> StatementLayer<'a>
+fn while_layer<'a>(words: &Words, parts: &'a [SyntaxNode]) -> StatementLayer<'a>
     ensures form { spec.keyword_statement Class.While (map (spec.part_of (words_of words.now)) parts.now) ≡ statement_form (words_of words.now) result }
     ensures smaller { StatementIsSmaller (weights parts.now + 1) result }
 {
@@ -245,7 +246,7 @@ fn while_layer<'a>(words: &Words, parts: &'a [Syntax]) -> StatementLayer<'a>
 }
 
 #[tactic(auto, using(crate::proofs::Items::parts))]
-fn do_layer<'a>(words: &Words, parts: &'a [Syntax]) -> StatementLayer<'a>
+fn do_layer<'a>(words: &Words, parts: &'a [SyntaxNode]) -> StatementLayer<'a>
     ensures form { spec.keyword_statement Class.Do (map (spec.part_of (words_of words.now)) parts.now) ≡ statement_form (words_of words.now) result }
     ensures smaller { StatementIsSmaller (weights parts.now + 1) result }
 {
@@ -256,7 +257,7 @@ fn do_layer<'a>(words: &Words, parts: &'a [Syntax]) -> StatementLayer<'a>
 }
 
 #[tactic(auto, using(crate::proofs::Items::parts))]
-fn switch_layer<'a>(words: &Words, parts: &'a [Syntax]) -> StatementLayer<'a>
+fn switch_layer<'a>(words: &Words, parts: &'a [SyntaxNode]) -> StatementLayer<'a>
     ensures form { spec.keyword_statement Class.Switch (map (spec.part_of (words_of words.now)) parts.now) ≡ statement_form (words_of words.now) result }
     ensures smaller { StatementIsSmaller (weights parts.now + 1) result }
 {
@@ -267,18 +268,18 @@ fn switch_layer<'a>(words: &Words, parts: &'a [Syntax]) -> StatementLayer<'a>
 }
 
 #[tactic(auto, using(crate::proofs::Items::parts))]
-fn goto_layer<'a>(words: &Words, parts: &'a [Syntax]) -> StatementLayer<'a>
+fn goto_layer<'a>(words: &Words, parts: &'a [SyntaxNode]) -> StatementLayer<'a>
     ensures form { spec.keyword_statement Class.Goto (map (spec.part_of (words_of words.now)) parts.now) ≡ statement_form (words_of words.now) result }
     ensures smaller { StatementIsSmaller (weights parts.now + 1) result }
 {
     if parts.len() != 3 {
         return StatementLayer::Unread;
     }
-    StatementLayer::Goto(parts[1].first)
+    StatementLayer::Goto(parts[1].first())
 }
 
 #[tactic(auto, using(crate::proofs::Items::parts))]
-fn head_and_for<'a>(words: &Words, parts: &'a [Syntax]) -> StatementLayer<'a>
+fn head_and_for<'a>(words: &Words, parts: &'a [SyntaxNode]) -> StatementLayer<'a>
     ensures form { spec.keyword_statement Class.For (map (spec.part_of (words_of words.now)) parts.now) ≡ statement_form (words_of words.now) result }
     ensures smaller { StatementIsSmaller (weights parts.now + 1) result }
 {
@@ -289,7 +290,7 @@ fn head_and_for<'a>(words: &Words, parts: &'a [Syntax]) -> StatementLayer<'a>
 }
 
 /// A statement that begins with a keyword, or `;`.
-fn keyword_layer<'a>(words: &Words, class: Class, parts: &'a [Syntax]) -> StatementLayer<'a>
+fn keyword_layer<'a>(words: &Words, class: Class, parts: &'a [SyntaxNode]) -> StatementLayer<'a>
     ensures form { spec.keyword_statement class (map (spec.part_of (words_of words.now)) parts.now) ≡ statement_form (words_of words.now) result }
     ensures smaller { StatementIsSmaller (weights parts.now + 1) result }
 {
@@ -309,12 +310,12 @@ fn keyword_layer<'a>(words: &Words, class: Class, parts: &'a [Syntax]) -> Statem
 
 /// A block, or an expression in front of `;`.
 #[tactic(auto, using(crate::proofs::Items::others))]
-fn other_layer<'a>(words: &Words, x: &'a Syntax) -> StatementLayer<'a>
+fn other_layer<'a>(words: &Words, x: &'a SyntaxNode) -> StatementLayer<'a>
     ensures form { spec.other_statement (spec.part_of (words_of words.now) x.now) ≡ statement_form (words_of words.now) result }
     ensures smaller { StatementIsSmaller (weight x.now) result }
 {
-    match x.rule {
-        Production::Block => StatementLayer::Block(x.first, x.after, x.parts.as_slice()),
+    match x.rule() {
+        Production::Block => StatementLayer::Block(x.first(), x.after(), x.parts()),
         Production::Expression
         | Production::Assignment
         | Production::Conditional
@@ -328,14 +329,14 @@ fn other_layer<'a>(words: &Words, x: &'a Syntax) -> StatementLayer<'a>
 }
 
 #[tactic(auto, using(crate::proofs::Items::plains))]
-fn plain_layer<'a>(words: &Words, parts: &'a [Syntax]) -> StatementLayer<'a>
+fn plain_layer<'a>(words: &Words, parts: &'a [SyntaxNode]) -> StatementLayer<'a>
     ensures form { spec.plain_statement (words_of words.now) (map (spec.part_of (words_of words.now)) parts.now) ≡ statement_form (words_of words.now) result }
     ensures smaller { StatementIsSmaller (weights parts.now + 1) result }
 {
     if parts.len() == 0 {
         return StatementLayer::Unread;
     }
-    if is_token(parts[0].rule) {
+    if is_token(parts[0].rule()) {
         let class = keyword_class(words.get(first_at(words, parts, 0)));
         return keyword_layer(words, class, parts);
     }
@@ -344,23 +345,23 @@ fn plain_layer<'a>(words: &Words, parts: &'a [Syntax]) -> StatementLayer<'a>
 
 /// The statement without labels that a syntax writes, without brackets and levels.
 #[tactic(auto, using(crate::proofs::Items::opened_nodes))]
-pub fn statement_layer<'a>(words: &Words, x: &'a Syntax) -> StatementLayer<'a>
+pub fn statement_layer<'a>(words: &Words, x: &'a SyntaxNode) -> StatementLayer<'a>
     ensures form { plain_of (words_of words.now) x.now ≡ items.From (out-Syntax x.now).first (out-Syntax x.now).after (statement_form (words_of words.now) result) }
     ensures smaller { StatementIsSmaller (weight x.now) result }
 {
-    match x.rule {
-        Production::Plain => plain_layer(words, x.parts.as_slice()),
+    match x.rule() {
+        Production::Plain => plain_layer(words, x.parts()),
         _ => StatementLayer::Unread,
     }
 }
 
 /// The list of a construct that a syntax writes: a block without labels is its own list.
 #[tactic(auto, using(crate::proofs::Items::bodies))]
-pub fn body_layer<'a>(words: &Words, x: &'a Syntax) -> BodyLayer<'a>
+pub fn body_layer<'a>(words: &Words, x: &'a SyntaxNode) -> BodyLayer<'a>
     ensures form { body_of (words_of words.now) x.now ≡ body_form (words_of words.now) result }
     ensures smaller { BodyIsSmaller (weight x.now) result }
 {
-    let lone = BodyLayer::Lone(x.first, x.after, x);
+    let lone = BodyLayer::Lone(x.first(), x.after(), x);
     match item_layer(words, x) {
         ItemLayer::States(labels, plain) => {
             if has_label(words, labels) {

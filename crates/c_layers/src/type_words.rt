@@ -9,7 +9,7 @@ ghost use Rattle.c_layers.specs.Words as spec;
 ghost use Rattle.c_grammar.specs.declared.syntax.Syntax.{out-Syntax};
 
 use crate::words::Words;
-use c_grammar::Syntax;
+use c_grammar::{Production, SyntaxNode};
 use c_types::IntKind;
 
 fn is_same(word: &[u8], other: &[u8]) -> bool
@@ -18,16 +18,16 @@ fn is_same(word: &[u8], other: &[u8]) -> bool
     word == other
 }
 
-fn has_word(words: &Words, tokens: &[Syntax], word: &[u8]) -> bool
+fn has_word(words: &Words, tokens: &[SyntaxNode], word: &[u8]) -> bool
     ensures { result ≡ list_any (λ x. bytes_eq (words_of words.now (out-Syntax x).first) word.now) tokens.now }
 {
     tokens
         .iter()
-        .any(|token| is_same(words.get(token.first), word))
+        .any(|token| is_same(words.get(token.first()), word))
 }
 
 #[tactic(auto, using(crate::proofs::Layers::has_words))]
-fn kind_by(words: &Words, tokens: &[Syntax]) -> IntKind
+fn kind_by(words: &Words, tokens: &[SyntaxNode]) -> IntKind
     ensures { result ≡ spec.kind_of (words_of words.now) (map (λ x. (out-Syntax x).first) tokens.now) }
 {
     let unsigned = has_word(words, tokens, b"unsigned");
@@ -51,8 +51,11 @@ fn kind_by(words: &Words, tokens: &[Syntax]) -> IntKind
 }
 
 /// The kind of the number type that a node names.
-pub fn kind_of(words: &Words, x: &Syntax) -> IntKind
+pub fn kind_of(words: &Words, x: &SyntaxNode) -> IntKind
     ensures { result ≡ spec.kind_of (words_of words.now) (parts.part_of (words_of words.now) x.now).firsts }
 {
-    kind_by(words, x.parts.as_slice())
+    match x.rule() {
+        Production::NumberType => kind_by(words, x.parts()),
+        _ => kind_by(words, &[]),
+    }
 }

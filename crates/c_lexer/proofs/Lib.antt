@@ -7,6 +7,7 @@ pub mod Later
 pub mod Lines
 pub mod MarkLemmas
 pub mod NumberLemmas
+pub mod OpenComments
 pub mod OpenLines
 pub mod Order
 pub mod Pieceless

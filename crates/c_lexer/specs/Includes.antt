@@ -1,52 +1,56 @@
 -- Which `#include` lines leave a comment open behind them.
-use Rattle.std.specs.Prelude.{ℕ, Bool, true, false, cond, ◌&&◌, ◌||◌, ◌==◌, List, [], ◌∷◌}
-use Rattle.c_lexer.specs.declared.directive.Before.{Before}
-use Rattle.c_lexer.specs.declared.directive.Before.TheVariants.{Outside, Name, Comment, Line, Doubt}
+use Rattle.std.specs.Prelude.{ℕ, zero, suc, Bool, false, cond, not, ◌&&◌, ◌||◌, ◌==◌, List, [], ◌∷◌, length, drop, codes, nat_eq, Option, Some, None, is_some}
+use Rattle.std.specs.Option.{option_map_or}
+use Rattle.std.specs.List.{starts_with}
 
--- a quote behind the name, or a `'` or `<` there, is read in more than one way
-abbrev pub outside : Bool → Bool → ℕ → Before
-outside named slashed b =
-    cond (slashed && b == 42) (Comment named false)
-    (cond (slashed && b == 47) Line
-    (cond (b == 39 || (named && (b == 34 || b == 60))) (Doubt false false false)
-    (cond (b == 60) (Name 62 false)
-    (cond (b == 34) (Name 34 false) (Outside named (b == 47))))))
+abbrev pub begins_with : List ℕ → List ℕ → Bool
+begins_with mark w = starts_with nat_eq w mark
 
--- what a name with a quote, a `\` or `/*` in it means is undefined
-abbrev pub in_name : ℕ → Bool → ℕ → Before
-in_name end slashed b =
-    cond (b == end) (Outside true false)
-    (cond (slashed && b == 42) (Doubt true false false)
-    (cond (b == 34 || b == 39 || b == 92) (Doubt false false false) (Name end (b == 47))))
+-- what stands behind the first `*/`, if there is one
+abbrev pub behind_comment : List ℕ → Option (List ℕ)
+behind_comment [] = None
+behind_comment (b ∷ w) = cond (begins_with (codes "*/") (b ∷ w)) (Some (drop 1 w)) (behind_comment w)
 
-abbrev pub in_comment : Bool → Bool → ℕ → Before
-in_comment named starred b = cond (starred && b == 47) (Outside named false) (Comment named (b == 42))
+-- some `/*` in these bytes has no `*/` behind it
+abbrev pub has_open : List ℕ → Bool
+has_open [] = false
+has_open (b ∷ w) = (begins_with (codes "/*") (b ∷ w) && not (is_some (behind_comment (drop 1 w)))) || has_open w
 
--- where each `/*` may begin a comment, and each `*/` ends one
-abbrev pub in_doubt : Bool → Bool → Bool → ℕ → Before
-in_doubt opened slashed starred b =
-    cond (slashed && b == 42) (Doubt true false false)
-    (cond (starred && b == 47) (Doubt false true false) (Doubt opened (b == 47) (b == 42)))
+-- begins something that a compiler may read up to the next quote: `'`, `"` or `<`
+abbrev pub is_quote : ℕ → Bool
+is_quote b = b == 39 || b == 34 || b == 60
 
--- what stands before the next byte
-abbrev pub past : Before → ℕ → Before
-past (Outside named slashed) b = outside named slashed b
-past (Name end slashed) b = in_name end slashed b
-past (Comment named starred) b = in_comment named starred b
-past Line b = Line
-past (Doubt opened slashed starred) b = in_doubt opened slashed starred b
+-- past whole comments and other bytes, so many at most: from the first quote on, or from a comment without end
+-- on, or nothing
+abbrev pub past_comments : ℕ → List ℕ → List ℕ
+past_comments zero w = []
+past_comments (suc n) [] = []
+past_comments (suc n) (b ∷ w) =
+    cond (begins_with (codes "//") (b ∷ w)) []
+    (cond (begins_with (codes "/*") (b ∷ w)) (option_map_or (past_comments n) (behind_comment (drop 1 w)) (b ∷ w))
+    (cond (is_quote b) (b ∷ w) (past_comments n w)))
 
--- a comment `/*` may be open
-abbrev pub is_open : Before → Bool
-is_open (Comment named starred) = true
-is_open (Doubt opened slashed starred) = opened
-is_open _ = false
+abbrev pub from_quote : List ℕ → List ℕ
+from_quote w = past_comments (length w) w
 
--- a comment may be open behind these bytes
-abbrev pub open_behind : Before → List ℕ → Bool
-open_behind before [] = is_open before
-open_behind before (b ∷ w) = open_behind (past before b) w
+-- what a header name with a quote, a `\` or `/*` in it means is undefined
+abbrev pub is_undefined : List ℕ → Bool
+is_undefined [] = false
+is_undefined (b ∷ w) = b == 34 || b == 39 || b == 92 || begins_with (codes "/*") (b ∷ w)
 
--- a comment `/*` that begins on the line, behind its `#`, may go on over the next
+-- what stands behind the rest of a header name with this end, if it has that end and a meaning
+abbrev pub behind_name : ℕ → List ℕ → Option (List ℕ)
+behind_name end [] = None
+behind_name end (b ∷ w) = cond (b == end) (Some w) (cond (is_undefined (b ∷ w)) None (behind_name end w))
+
+-- what stands behind a header name, `<..>` or `".."`
+abbrev pub behind_header : List ℕ → Option (List ℕ)
+behind_header [] = None
+behind_header (b ∷ w) = cond (b == 60) (behind_name 62 w) (cond (b == 34) (behind_name 34 w) None)
+
+-- a comment `/*` that begins on the line, behind its `#`, may go on over the next: of what is left behind whole
+-- comments, a header name and whole comments again, some `/*` has no `*/` behind it
 abbrev pub leaves_open : List ℕ → Bool
-leaves_open w = open_behind (Outside false false) w
+leaves_open w =
+    let v = from_quote w in
+    has_open (option_map_or from_quote (behind_header v) v)

@@ -3,6 +3,7 @@ pub mod Bytes
 pub mod Characters
 pub mod Faults
 pub mod Includes
+pub mod IncludeSteps
 pub mod Keywords
 pub mod Machine
 pub mod Marks

@@ -3,6 +3,7 @@ ghost use Rattle.std.specs.List.{prefix_len};
 ghost use Rattle.c_lexer.specs.Bytes.{is_blank};
 ghost use Rattle.c_types.specs.Words.{is_word_byte};
 ghost use Rattle.c_lexer.specs.Includes as includes;
+ghost use Rattle.c_lexer.specs.IncludeSteps as steps;
 ghost use Rattle.c_lexer.specs.Pieces as pieces;
 
 use crate::byte::is_blank;
@@ -44,7 +45,7 @@ fn leaves_open(line: &[u8]) -> bool
 }
 
 fn is_open(before: Before) -> bool
-    ensures { result ≡ includes.is_open before }
+    ensures { result ≡ steps.is_open before }
 {
     match before {
         Before::Comment(_, _) => true,
@@ -54,7 +55,7 @@ fn is_open(before: Before) -> bool
 }
 
 fn past(before: Before, byte: u8) -> Before
-    ensures { result ≡ includes.past before byte }
+    ensures { result ≡ steps.past before byte }
 {
     match before {
         Before::Outside(named, slashed) => outside(named, slashed, byte),
@@ -72,7 +73,7 @@ fn past(before: Before, byte: u8) -> Before
 }
 
 fn outside(named: bool, slashed: bool, byte: u8) -> Before
-    ensures { result ≡ includes.outside named slashed byte }
+    ensures { result ≡ steps.outside named slashed byte }
 {
     if slashed && byte == b'*' {
         Before::Comment(named, false)
@@ -90,7 +91,7 @@ fn outside(named: bool, slashed: bool, byte: u8) -> Before
 }
 
 fn in_name(end: u8, slashed: bool, byte: u8) -> Before
-    ensures { result ≡ includes.in_name end slashed byte }
+    ensures { result ≡ steps.in_name end slashed byte }
 {
     if byte == end {
         Before::Outside(true, false)
@@ -104,7 +105,7 @@ fn in_name(end: u8, slashed: bool, byte: u8) -> Before
 }
 
 fn in_doubt(opened: bool, slashed: bool, starred: bool, byte: u8) -> Before
-    ensures { result ≡ includes.in_doubt opened slashed starred byte }
+    ensures { result ≡ steps.in_doubt opened slashed starred byte }
 {
     if slashed && byte == b'*' {
         Before::Doubt(true, false, false)

@@ -1,36 +1,31 @@
 //! Nodes.
 
-ghost use Rattle.std.specs.Prelude.{◌≡◌, ◌<◌, [], ◌∷◌, ◌++◌, IfOk};
+ghost use Rattle.std.specs.Prelude.{◌≡◌, ◌<◌, ◌+◌, [], ◌∷◌, ◌++◌, IfOk};
 ghost use Rattle.c_grammar.specs.Nodes as nodes;
 ghost use Rattle.c_parse_step.specs.Nodes as spec;
 
 use crate::frame::{Found, Full};
-use c_grammar::{Production, Syntax};
+use c_grammar::{Production, SyntaxNode};
 use c_types::{List, Memory};
 use std::alloc::Global;
 
 /// A node, which keeps no more room than its parts take where memory can be given back.
-pub fn node(rule: Production, first: u32, after: u32, parts: List<Syntax>) -> Syntax
+pub fn node(rule: Production, first: u32, after: u32, parts: List<SyntaxNode>) -> SyntaxNode
     ensures { result ≡ nodes.node rule first after parts }
 {
     let mut parts = parts.into_vec();
     parts.shrink_to_fit();
-    Syntax {
-        rule,
-        first,
-        after,
-        parts: List::from_vec(parts),
-    }
+    SyntaxNode::new(rule, first, after, List::from_vec(parts))
 }
 
-pub fn leaf(alloc: Global, at: u32) -> Syntax
+pub fn leaf(alloc: Global, at: u32) -> SyntaxNode
     requires { at < 4294967295 }
     ensures { result ≡ nodes.leaf at }
 {
-    node(Production::Token, at, at + 1, List::new(alloc))
+    SyntaxNode::leaf(alloc, at)
 }
 
-pub fn one(alloc: Global, a: Syntax) -> Result<List<Syntax>, Memory>
+pub fn one(alloc: Global, a: SyntaxNode) -> Result<List<SyntaxNode>, Memory>
     ensures { IfOk result (λ it. it ≡ a ∷ []) }
 {
     let mut parts = Vec::with_capacity(alloc, 1)?;
@@ -38,7 +33,7 @@ pub fn one(alloc: Global, a: Syntax) -> Result<List<Syntax>, Memory>
     Ok(List::from_vec(parts))
 }
 
-pub fn two(alloc: Global, a: Syntax, b: Syntax) -> Result<List<Syntax>, Memory>
+pub fn two(alloc: Global, a: SyntaxNode, b: SyntaxNode) -> Result<List<SyntaxNode>, Memory>
     ensures { IfOk result (λ it. it ≡ a ∷ b ∷ []) }
 {
     let mut parts = Vec::with_capacity(alloc, 2)?;
@@ -47,7 +42,12 @@ pub fn two(alloc: Global, a: Syntax, b: Syntax) -> Result<List<Syntax>, Memory>
     Ok(List::from_vec(parts))
 }
 
-pub fn three(alloc: Global, a: Syntax, b: Syntax, c: Syntax) -> Result<List<Syntax>, Memory>
+pub fn three(
+    alloc: Global,
+    a: SyntaxNode,
+    b: SyntaxNode,
+    c: SyntaxNode,
+) -> Result<List<SyntaxNode>, Memory>
     ensures { IfOk result (λ it. it ≡ a ∷ b ∷ c ∷ []) }
 {
     let mut parts = Vec::with_capacity(alloc, 3)?;
@@ -59,11 +59,11 @@ pub fn three(alloc: Global, a: Syntax, b: Syntax, c: Syntax) -> Result<List<Synt
 
 pub fn four(
     alloc: Global,
-    a: Syntax,
-    b: Syntax,
-    c: Syntax,
-    d: Syntax,
-) -> Result<List<Syntax>, Memory>
+    a: SyntaxNode,
+    b: SyntaxNode,
+    c: SyntaxNode,
+    d: SyntaxNode,
+) -> Result<List<SyntaxNode>, Memory>
     ensures { IfOk result (λ it. it ≡ a ∷ b ∷ c ∷ d ∷ []) }
 {
     let mut parts = Vec::with_capacity(alloc, 4)?;
@@ -75,7 +75,7 @@ pub fn four(
 }
 
 /// These parts and one more.
-pub fn more(mut parts: List<Syntax>, a: Syntax) -> Result<List<Syntax>, Memory>
+pub fn more(mut parts: List<SyntaxNode>, a: SyntaxNode) -> Result<List<SyntaxNode>, Memory>
     ensures { IfOk result (λ it. it ≡ parts ++ a ∷ []) }
 {
     parts.push(a)?;
@@ -83,7 +83,11 @@ pub fn more(mut parts: List<Syntax>, a: Syntax) -> Result<List<Syntax>, Memory>
 }
 
 /// These parts and two more.
-pub fn two_more(mut parts: List<Syntax>, a: Syntax, b: Syntax) -> Result<List<Syntax>, Memory>
+pub fn two_more(
+    mut parts: List<SyntaxNode>,
+    a: SyntaxNode,
+    b: SyntaxNode,
+) -> Result<List<SyntaxNode>, Memory>
     ensures { IfOk result (λ it. it ≡ parts ++ a ∷ b ∷ []) }
 {
     parts.push(a)?;
@@ -103,41 +107,39 @@ pub fn lift(
 {
     match found {
         Found::Lone(t) => Ok(Found::Lone(t)),
-        Found::Whole(s) => Ok(Found::Whole(node(rule, first, after, one(alloc, s)?))),
+        Found::Whole(s) => Ok(Found::Whole(SyntaxNode::around(alloc, rule, first, after, s)?)),
     }
 }
 
-fn around(
+pub fn solid_unary(
     alloc: Global,
-    rule: Production,
     first: u32,
     after: u32,
-    s: Syntax,
-) -> Result<Syntax, Memory>
-    ensures { IfOk result (λ it. it ≡ nodes.node rule first after (s ∷ [])) }
-{
-    Ok(node(rule, first, after, one(alloc, s)?))
-}
-
-pub fn solid_unary(alloc: Global, first: u32, after: u32, found: Found) -> Result<Syntax, Memory>
+    found: Found,
+) -> Result<SyntaxNode, Memory>
     ensures { IfOk result (λ it. it ≡ spec.solid_unary first after found) }
 {
     match found {
         Found::Lone(t) => {
-            let inner = around(alloc, Production::Postfix, first, after, t)?;
-            around(alloc, Production::Unary, first, after, inner)
+            let inner = SyntaxNode::around(alloc, Production::Postfix, first, after, t)?;
+            SyntaxNode::around(alloc, Production::Unary, first, after, inner)
         }
         Found::Whole(s) => Ok(s),
     }
 }
 
-pub fn solid_binary(alloc: Global, first: u32, after: u32, found: Found) -> Result<Syntax, Memory>
+pub fn solid_binary(
+    alloc: Global,
+    first: u32,
+    after: u32,
+    found: Found,
+) -> Result<SyntaxNode, Memory>
     ensures { IfOk result (λ it. it ≡ spec.solid_binary first after found) }
 {
     match found {
         Found::Lone(t) => {
             let inner = solid_unary(alloc, first, after, Found::Lone(t))?;
-            around(alloc, Production::Binary, first, after, inner)
+            SyntaxNode::around(alloc, Production::Binary, first, after, inner)
         }
         Found::Whole(s) => Ok(s),
     }
@@ -148,13 +150,13 @@ pub fn solid_conditional(
     first: u32,
     after: u32,
     found: Found,
-) -> Result<Syntax, Memory>
+) -> Result<SyntaxNode, Memory>
     ensures { IfOk result (λ it. it ≡ spec.solid_conditional first after found) }
 {
     match found {
         Found::Lone(t) => {
             let inner = solid_binary(alloc, first, after, Found::Lone(t))?;
-            around(alloc, Production::Conditional, first, after, inner)
+            SyntaxNode::around(alloc, Production::Conditional, first, after, inner)
         }
         Found::Whole(s) => Ok(s),
     }
@@ -165,13 +167,13 @@ pub fn solid_assignment(
     first: u32,
     after: u32,
     found: Found,
-) -> Result<Syntax, Memory>
+) -> Result<SyntaxNode, Memory>
     ensures { IfOk result (λ it. it ≡ spec.solid_assignment first after found) }
 {
     match found {
         Found::Lone(t) => {
             let inner = solid_conditional(alloc, first, after, Found::Lone(t))?;
-            around(alloc, Production::Assignment, first, after, inner)
+            SyntaxNode::around(alloc, Production::Assignment, first, after, inner)
         }
         Found::Whole(s) => Ok(s),
     }
@@ -182,26 +184,54 @@ pub fn solid_expression(
     first: u32,
     after: u32,
     found: Found,
-) -> Result<Syntax, Memory>
+) -> Result<SyntaxNode, Memory>
     ensures { IfOk result (λ it. it ≡ spec.solid_expression first after found) }
 {
     match found {
         Found::Lone(t) => {
             let inner = solid_assignment(alloc, first, after, Found::Lone(t))?;
-            around(alloc, Production::Expression, first, after, inner)
+            SyntaxNode::around(alloc, Production::Expression, first, after, inner)
         }
         Found::Whole(s) => Ok(s),
     }
 }
 
-pub fn postfix(first: u32, after: u32, parts: List<Syntax>, alloc: Global) -> Result<Found, Memory>
+pub fn postfix(
+    first: u32,
+    after: u32,
+    parts: List<SyntaxNode>,
+    alloc: Global,
+) -> Result<Found, Memory>
     ensures { IfOk result (λ it. it ≡ spec.postfix first after parts) }
 {
     let inner = node(Production::Postfix, first, after, parts);
-    Ok(Found::Whole(around(alloc, Production::Unary, first, after, inner)?))
+    Ok(Found::Whole(SyntaxNode::around(alloc, Production::Unary, first, after, inner)?))
 }
 
-pub fn target(first: u32, after: u32, parts: List<Syntax>) -> Found
+/// A number or a character constant.
+pub fn constant(alloc: Global, at: u32) -> Result<Found, Memory>
+    requires { at < 4294967295 }
+    ensures { IfOk result (λ it. it ≡ spec.postfix at (at + 1) (nodes.leaf at ∷ [])) }
+{
+    let inner = SyntaxNode::around(
+        alloc,
+        Production::Postfix,
+        at,
+        at + 1,
+        SyntaxNode::leaf(alloc, at),
+    )?;
+    let whole = SyntaxNode::around(alloc, Production::Unary, at, at + 1, inner)?;
+    Ok(Found::Whole(whole))
+}
+
+/// A target that is a name.
+pub fn variable(alloc: Global, first: u32, after: u32, name: SyntaxNode) -> Result<Found, Memory>
+    ensures { IfOk result (λ it. it ≡ spec.target first after (name ∷ [])) }
+{
+    Ok(Found::Lone(SyntaxNode::around(alloc, Production::Target, first, after, name)?))
+}
+
+pub fn target(first: u32, after: u32, parts: List<SyntaxNode>) -> Found
     ensures { result ≡ spec.target first after parts }
 {
     Found::Lone(node(Production::Target, first, after, parts))
@@ -212,7 +242,7 @@ pub fn commas(
     first: u32,
     start: u32,
     after: u32,
-    parts: List<Syntax>,
+    parts: List<SyntaxNode>,
     found: Found,
 ) -> Result<Found, Memory>
     ensures { IfOk result (λ it. it ≡ spec.commas first start after parts found) }
@@ -232,7 +262,7 @@ pub fn solid(
     first: u32,
     after: u32,
     found: Found,
-) -> Result<Syntax, Memory>
+) -> Result<SyntaxNode, Memory>
     ensures { IfOk result (λ it. it ≡ spec.solid kind first after found) }
 {
     match kind {

@@ -4,13 +4,13 @@ ghost use Rattle.std.specs.Prelude.{◌≡◌, ◌<◌, ◌∷◌, []};
 ghost use Rattle.c_parse_step.specs.Starts as spec;
 ghost use Rattle.c_parse_step.specs.Steps.{Steps};
 
-use crate::build::{leaf, one, postfix, three};
+use crate::build::{constant, leaf, one, three};
 use crate::frame::{Frame, Full};
 use crate::kind::{is_close, is_text};
 use crate::load::{COUNTED, Load, UNCOUNTED};
 use crate::types::at_type;
 use crate::want::behind_full;
-use c_grammar::{Class, Syntax};
+use c_grammar::{Class, SyntaxNode};
 use c_types::{List, Memory, Stack};
 use std::alloc::Global;
 
@@ -45,8 +45,7 @@ pub fn at_unary(
             Ok(Some(UNCOUNTED))
         }
         Class::Number | Class::Character => {
-            let parts = one(alloc, leaf(alloc, at))?;
-            stack.push(Frame::Done(postfix(at, at + 1, parts, alloc)?))?;
+            stack.push(Frame::Done(constant(alloc, at)?))?;
             Ok(Some(UNCOUNTED))
         }
         _ => Ok(None),
@@ -116,7 +115,7 @@ pub fn at_opened(
     alloc: Global,
     stack: &mut Stack<Frame>,
     first: u32,
-    bracket: Syntax,
+    bracket: SyntaxNode,
     next: u32,
     class: Class,
     at: u32,
@@ -149,8 +148,8 @@ pub fn at_type_end(
     alloc: Global,
     stack: &mut Stack<Frame>,
     first: u32,
-    bracket: Syntax,
-    kind: Syntax,
+    bracket: SyntaxNode,
+    kind: SyntaxNode,
     class: Class,
     at: u32,
 ) -> Result<Option<Load>, Memory>

@@ -10,7 +10,7 @@ use crate::frame::Frame;
 use crate::load::{Load, OUTSIDE};
 use crate::types::{at_type, begun};
 use crate::want::{rest, todo};
-use c_grammar::{Class, Production, Syntax};
+use c_grammar::{Class, Production, SyntaxNode};
 use c_types::{List, Memory, Stack};
 use std::alloc::Global;
 
@@ -34,7 +34,7 @@ pub fn at_external(
     alloc: Global,
     stack: &mut Stack<Frame>,
     first: u32,
-    parts: List<Syntax>,
+    parts: List<SyntaxNode>,
     class: Class,
     at: u32,
 ) -> Result<Option<Load>, Memory>
@@ -72,7 +72,7 @@ pub fn at_external(
 pub fn at_top(
     alloc: Global,
     stack: &mut Stack<Frame>,
-    parts: List<Syntax>,
+    parts: List<SyntaxNode>,
     class: Class,
     at: u32,
 ) -> Result<Option<Load>, Memory>

@@ -1,5 +1,5 @@
 use crate::frame::Full;
-use c_grammar::{Class, Production, Syntax};
+use c_grammar::{Class, Production, SyntaxNode};
 use c_types::{List, Stack};
 
 /// What may be left out of a production; a token that nothing else begins with leads it in.
@@ -73,6 +73,6 @@ pub struct Form {
     pub rule: Production,
     pub first: u32,
     pub level: u32,
-    pub parts: List<Syntax>,
+    pub parts: List<SyntaxNode>,
     pub todo: Stack<Want>,
 }

@@ -1,12 +1,12 @@
 use crate::form::Form;
-use c_grammar::Syntax;
+use c_grammar::SyntaxNode;
 use c_types::List;
 
 /// What was read: a target alone, or a whole node of the rule that was asked for.
 #[derive(Drop)]
 pub enum Found {
-    Lone(Syntax),
-    Whole(Syntax),
+    Lone(SyntaxNode),
+    Whole(SyntaxNode),
 }
 
 /// Of which rule a full expression is.
@@ -25,48 +25,48 @@ pub enum Frame {
     WantTarget,
     WantArgument,
     /// Behind `(`.
-    Opened(u32, Syntax, u32),
+    Opened(u32, SyntaxNode, u32),
     /// Behind `( void`.
-    VoidSeen(u32, Syntax, Syntax),
-    Named(u32, Syntax),
-    TargetNamed(u32, Syntax),
+    VoidSeen(u32, SyntaxNode, SyntaxNode),
+    Named(u32, SyntaxNode),
+    TargetNamed(u32, SyntaxNode),
     /// Behind the bracket of a call.
-    Called(u32, Syntax, Syntax),
-    Texts(u32, List<Syntax>),
+    Called(u32, SyntaxNode, SyntaxNode),
+    Texts(u32, List<SyntaxNode>),
     /// What was read, whole, waits for the token behind it.
     Done(Found),
     Post(u32),
-    Prefix(u32, Syntax, u32),
-    Stepped(u32, Syntax),
-    Enclosed(u32, Syntax),
-    CastType(u32, Syntax),
-    Cast(u32, List<Syntax>, u32),
+    Prefix(u32, SyntaxNode, u32),
+    Stepped(u32, SyntaxNode),
+    Enclosed(u32, SyntaxNode),
+    CastType(u32, SyntaxNode),
+    Cast(u32, List<SyntaxNode>, u32),
     Operand(u32),
     /// The operand on the left, its mark, and the mark's level.
-    Join(u32, Syntax, Syntax, u32, u32),
+    Join(u32, SyntaxNode, SyntaxNode, u32, u32),
     Choice(u32),
-    ChoiceThen(u32, Syntax, Syntax, u32),
-    ChoiceElse(u32, List<Syntax>, u32),
+    ChoiceThen(u32, SyntaxNode, SyntaxNode, u32),
+    ChoiceElse(u32, List<SyntaxNode>, u32),
     Assigns(u32),
-    AssignsTo(u32, List<Syntax>, u32),
-    Commas(u32, u32, List<Syntax>),
-    Indexed(u32, List<Syntax>, u32),
-    Bracketed(u32, Syntax, u32),
+    AssignsTo(u32, List<SyntaxNode>, u32),
+    Commas(u32, u32, List<SyntaxNode>),
+    Indexed(u32, List<SyntaxNode>, u32),
+    Bracketed(u32, SyntaxNode, u32),
     ArgumentSeen(u32),
-    Arguments(u32, List<Syntax>),
+    Arguments(u32, List<SyntaxNode>),
     /// A full expression.
     Whole(Full, u32),
     /// What is left of a production.
     Rest(Form),
     /// Behind a name that begins a statement.
-    LabelOrName(u32, Syntax, Form),
+    LabelOrName(u32, SyntaxNode, Form),
     /// Behind `static` in front of a declaration or a function.
-    External(u32, List<Syntax>),
+    External(u32, List<SyntaxNode>),
     /// In front of the name of a declaration or a function, which have these parts so far.
-    TopType(u32, List<Syntax>, u32),
+    TopType(u32, List<SyntaxNode>, u32),
     /// Behind that name.
-    TopName(u32, List<Syntax>, u32, Syntax, u32, Syntax),
+    TopName(u32, List<SyntaxNode>, u32, SyntaxNode, u32, SyntaxNode),
     /// The file so far.
-    Tops(List<Syntax>),
-    Accepted(Syntax),
+    Tops(List<SyntaxNode>),
+    Accepted(SyntaxNode),
 }

@@ -19,7 +19,7 @@ use crate::kind::{
 use crate::load::{COUNTED, OUTSIDE, UNCOUNTED};
 use crate::resume::resume;
 use crate::want::{want_assignment, want_conditional, want_expression};
-use c_grammar::{Class, Production, Syntax};
+use c_grammar::{Class, Production, SyntaxNode};
 use c_types::{List, Memory, Stack};
 use std::alloc::Global;
 
@@ -57,8 +57,8 @@ fn join(
     alloc: Global,
     stack: &mut Stack<Frame>,
     first: u32,
-    left: Syntax,
-    mark: Syntax,
+    left: SyntaxNode,
+    mark: SyntaxNode,
     next: u32,
     bound: u32,
     found: Found,
@@ -83,7 +83,7 @@ fn join(
 fn prefix(
     alloc: Global,
     first: u32,
-    mark: Syntax,
+    mark: SyntaxNode,
     next: u32,
     found: Found,
     at: u32,
@@ -95,7 +95,13 @@ fn prefix(
     Ok(Given::Passed(Found::Whole(node(Production::Unary, first, at, parts))))
 }
 
-fn stepped(alloc: Global, first: u32, mark: Syntax, found: Found, at: u32) -> Result<Given, Memory>
+fn stepped(
+    alloc: Global,
+    first: u32,
+    mark: SyntaxNode,
+    found: Found,
+    at: u32,
+) -> Result<Given, Memory>
     ensures { ReducesAlone (Frame.Stepped first mark) found at result }
 {
     match found {
@@ -111,7 +117,7 @@ fn enclosed(
     alloc: Global,
     stack: &mut Stack<Frame>,
     first: u32,
-    bracket: Syntax,
+    bracket: SyntaxNode,
     found: Found,
     class: Class,
     at: u32,
@@ -135,7 +141,7 @@ fn enclosed(
 fn cast(
     alloc: Global,
     first: u32,
-    parts: List<Syntax>,
+    parts: List<SyntaxNode>,
     next: u32,
     found: Found,
     at: u32,
@@ -179,8 +185,8 @@ fn choice_then(
     alloc: Global,
     stack: &mut Stack<Frame>,
     first: u32,
-    test: Syntax,
-    question: Syntax,
+    test: SyntaxNode,
+    question: SyntaxNode,
     next: u32,
     found: Found,
     class: Class,
@@ -202,7 +208,7 @@ fn choice_then(
 fn choice_else(
     alloc: Global,
     first: u32,
-    parts: List<Syntax>,
+    parts: List<SyntaxNode>,
     next: u32,
     found: Found,
     at: u32,
@@ -242,7 +248,7 @@ fn assigns(
 fn assigns_to(
     alloc: Global,
     first: u32,
-    parts: List<Syntax>,
+    parts: List<SyntaxNode>,
     next: u32,
     found: Found,
     at: u32,
@@ -259,7 +265,7 @@ fn after_commas(
     stack: &mut Stack<Frame>,
     first: u32,
     start: u32,
-    parts: List<Syntax>,
+    parts: List<SyntaxNode>,
     found: Found,
     class: Class,
     at: u32,
@@ -281,7 +287,7 @@ fn indexed(
     alloc: Global,
     stack: &mut Stack<Frame>,
     first: u32,
-    parts: List<Syntax>,
+    parts: List<SyntaxNode>,
     next: u32,
     found: Found,
     class: Class,
@@ -303,7 +309,7 @@ fn bracketed(
     alloc: Global,
     stack: &mut Stack<Frame>,
     first: u32,
-    bracket: Syntax,
+    bracket: SyntaxNode,
     next: u32,
     found: Found,
     class: Class,
@@ -332,15 +338,15 @@ fn argument_seen(alloc: Global, first: u32, found: Found, at: u32) -> Result<Giv
     ensures { ReducesAlone (Frame.ArgumentSeen first) found at result }
 {
     let inner = solid_assignment(alloc, first, at, found)?;
-    let parts = one(alloc, inner)?;
-    Ok(Given::Passed(Found::Whole(node(Production::Argument, first, at, parts))))
+    let whole = SyntaxNode::around(alloc, Production::Argument, first, at, inner)?;
+    Ok(Given::Passed(Found::Whole(whole)))
 }
 
 fn arguments(
     alloc: Global,
     stack: &mut Stack<Frame>,
     first: u32,
-    parts: List<Syntax>,
+    parts: List<SyntaxNode>,
     found: Found,
     class: Class,
     at: u32,
@@ -371,7 +377,7 @@ fn cast_end(
     alloc: Global,
     stack: &mut Stack<Frame>,
     first: u32,
-    bracket: Syntax,
+    bracket: SyntaxNode,
     found: Found,
     class: Class,
     at: u32,
@@ -418,7 +424,7 @@ fn top_type(
     alloc: Global,
     stack: &mut Stack<Frame>,
     first: u32,
-    parts: List<Syntax>,
+    parts: List<SyntaxNode>,
     start: u32,
     found: Found,
     class: Class,
@@ -442,7 +448,7 @@ fn top_type(
 fn tops(
     alloc: Global,
     stack: &mut Stack<Frame>,
-    parts: List<Syntax>,
+    parts: List<SyntaxNode>,
     found: Found,
     class: Class,
     at: u32,

@@ -6,7 +6,7 @@ ghost use Rattle.c_parse_step.specs.Machine as spec;
 ghost use Rattle.c_parse_step.specs.Starts as starts;
 ghost use Rattle.c_parse_step.specs.Steps.{Steps};
 
-use crate::build::{leaf, more, node, one, postfix, target, three, two, two_more};
+use crate::build::{leaf, more, node, one, postfix, three, two, two_more, variable};
 use crate::expressions::{at_argument, at_opened, at_target, at_type_end, at_unary};
 use crate::files::{at_external, at_top};
 use crate::form::{Form, Lead, Want};
@@ -17,7 +17,7 @@ use crate::load::{COUNTED, Load, OUTSIDE, UNCOUNTED};
 use crate::reduce::reduce;
 use crate::resume::resume;
 use crate::want::{behind_full, rest, todo, want_expression};
-use c_grammar::{Class, Production, Syntax};
+use c_grammar::{Class, Production, SyntaxNode};
 use c_types::{List, Memory, Stack};
 use std::alloc::Global;
 
@@ -64,7 +64,7 @@ fn at_index(
     alloc: Global,
     stack: &mut Stack<Frame>,
     first: u32,
-    name: Syntax,
+    name: SyntaxNode,
     class: Class,
     at: u32,
 ) -> Result<Option<Load>, Memory>
@@ -77,8 +77,8 @@ fn at_index(
         want_expression(alloc, stack, at + 1)?;
         return Ok(Some(COUNTED));
     }
-    let parts = one(alloc, name)?;
-    give(alloc, stack, target(first, at, parts), class, at)
+    let found = variable(alloc, first, at, name)?;
+    give(alloc, stack, found, class, at)
 }
 
 /// Behind a name that begins a target or a call.
@@ -86,7 +86,7 @@ fn at_named(
     alloc: Global,
     stack: &mut Stack<Frame>,
     first: u32,
-    name: Syntax,
+    name: SyntaxNode,
     class: Class,
     at: u32,
 ) -> Result<Option<Load>, Memory>
@@ -104,8 +104,8 @@ fn at_called(
     alloc: Global,
     stack: &mut Stack<Frame>,
     first: u32,
-    name: Syntax,
-    bracket: Syntax,
+    name: SyntaxNode,
+    bracket: SyntaxNode,
     class: Class,
     at: u32,
 ) -> Result<Option<Load>, Memory>
@@ -126,7 +126,7 @@ fn at_texts(
     alloc: Global,
     stack: &mut Stack<Frame>,
     first: u32,
-    parts: List<Syntax>,
+    parts: List<SyntaxNode>,
     class: Class,
     at: u32,
 ) -> Result<Option<Load>, Memory>
@@ -147,7 +147,7 @@ fn put_label(
     alloc: Global,
     stack: &mut Stack<Frame>,
     name: u32,
-    mark: Syntax,
+    mark: SyntaxNode,
     mut form: Form,
     at: u32,
 ) -> Result<(), Memory>
@@ -187,7 +187,7 @@ fn at_label_or_name(
     alloc: Global,
     stack: &mut Stack<Frame>,
     name: u32,
-    mark: Syntax,
+    mark: SyntaxNode,
     form: Form,
     class: Class,
     at: u32,
@@ -210,11 +210,11 @@ fn at_top_name(
     alloc: Global,
     stack: &mut Stack<Frame>,
     first: u32,
-    parts: List<Syntax>,
+    parts: List<SyntaxNode>,
     start: u32,
-    kind: Syntax,
+    kind: SyntaxNode,
     name: u32,
-    mark: Syntax,
+    mark: SyntaxNode,
     class: Class,
     at: u32,
 ) -> Result<Option<Load>, Memory>

@@ -6,7 +6,7 @@ ghost use Rattle.c_parse_step.specs.Starts as spec;
 
 use crate::form::{Form, Lead, Want};
 use crate::frame::{Frame, Full};
-use c_grammar::{Production, Syntax};
+use c_grammar::{Production, SyntaxNode};
 use c_types::{List, Memory, Stack};
 use std::alloc::Global;
 
@@ -77,7 +77,7 @@ pub fn rest(
     rule: Production,
     first: u32,
     level: u32,
-    parts: List<Syntax>,
+    parts: List<SyntaxNode>,
     todo: Stack<Want>,
 ) -> Result<(), Memory>
     ensures { OnOk result (stack.new ≡ spec.rest rule first level parts todo ∷ stack.old) }

@@ -3,5 +3,5 @@
 
 mod whole;
 
-pub use c_grammar::{Production, Syntax};
+pub use c_grammar::{Production, SyntaxNode};
 pub use whole::parse;

@@ -10,7 +10,7 @@ ghost use Rattle.c_parser.specs.Answers.{parsed};
 ghost use Rattle.c_parse_step.specs.Machine as spec;
 ghost use Rattle.c_parser.specs.Reads.{Reads};
 
-use c_grammar::{Class, Syntax, class_of};
+use c_grammar::{Class, SyntaxNode, class_of};
 use c_lexer::{Token, refusal_at};
 use c_parse_step::{Frame, Load, Role, step};
 use c_types::{List, MOST, ReadStop, Stack};
@@ -68,7 +68,7 @@ fn count_behind(role: Role, count: u32) -> u32
 }
 
 /// The file that the frame holds, or the frame itself.
-fn file_in(frame: Frame) -> Result<Syntax, Frame>
+fn file_in(frame: Frame) -> Result<SyntaxNode, Frame>
     ensures { MatchResult result (λ whole. answers.file_in frame ≡ Some whole) (λ _. answers.file_in frame ≡ None) }
 {
     match frame {
@@ -78,7 +78,7 @@ fn file_in(frame: Frame) -> Result<Syntax, Frame>
 }
 
 /// The file that the frames hold once all tokens are taken.
-fn accepted(mut stack: Stack<Frame>) -> Option<Syntax>
+fn accepted(mut stack: Stack<Frame>) -> Option<SyntaxNode>
     ensures { result ≡ answers.accepted stack }
 {
     match stack.pop() {
@@ -94,7 +94,7 @@ fn accepted(mut stack: Stack<Frame>) -> Option<Syntax>
 }
 
 /// Takes the tokens one by one, and then the end behind them.
-fn run(alloc: Global, text: &[u8], tokens: &[Token]) -> Result<Syntax, ReadStop>
+fn run(alloc: Global, text: &[u8], tokens: &[Token]) -> Result<SyntaxNode, ReadStop>
     requires within { All (λ token. IsWithin text.now token.start token.end) tokens.now }
     requires bound { length tokens.now < 4294967295 }
     ensures { Gives (λ syntax. syntax) result (parsed text.now tokens.now) }
@@ -134,7 +134,7 @@ fn run(alloc: Global, text: &[u8], tokens: &[Token]) -> Result<Syntax, ReadStop>
 /// reason 11 at the token that opens level 401 of nesting, or is counted token 401 of a full
 /// expression. The tokens may be any slices of the text.
 #[tactic(auto, using(crate::proofs::Reading::reads))]
-pub fn parse(alloc: Global, text: &[u8], tokens: &List<Token>) -> Result<Syntax, ReadStop>
+pub fn parse(alloc: Global, text: &[u8], tokens: &List<Token>) -> Result<SyntaxNode, ReadStop>
     requires { All (λ token. IsWithin text.now token.start token.end) tokens.now }
     // What reading the tokens one by one gives, or want of memory.
     ensures read { Gives (λ syntax. syntax) result (parsed text.now tokens.now) }

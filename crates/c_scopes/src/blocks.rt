@@ -7,7 +7,7 @@ ghost use Rattle.c_statements.specs.Labels.{body_labels};
 ghost use Rattle.c_statements.specs.Measures as measures;
 ghost use Rattle.c_scopes.specs.BlockViews.{block_form};
 
-use c_grammar::{Production, Syntax};
+use c_grammar::{Production, SyntaxNode};
 use c_layers::Words;
 use c_statements::{list_depth, list_labels, list_longest};
 use c_types::{Memory, Stack};
@@ -18,19 +18,19 @@ pub struct Block<'a> {
     pub first: u32,
     pub after: u32,
     /// The items, among tokens.
-    pub items: &'a [Syntax],
+    pub items: &'a [SyntaxNode],
 }
 
 /// The block that is a function's body, and none where a `;` stands in its place.
 #[tactic(auto, using(c_layers::proofs::FileScope::opened_tops))]
-pub fn block_of<'a>(words: &Words, x: &'a Syntax) -> Option<Block<'a>>
+pub fn block_of<'a>(words: &Words, x: &'a SyntaxNode) -> Option<Block<'a>>
     ensures { block_in (part_of (words_of words.now) x.now) ≡ option_map (block_form (words_of words.now)) result }
 {
-    match x.rule {
+    match x.rule() {
         Production::Block => Some(Block {
-            first: x.first,
-            after: x.after,
-            items: x.parts.as_slice(),
+            first: x.first(),
+            after: x.after(),
+            items: x.parts(),
         }),
         _ => None,
     }

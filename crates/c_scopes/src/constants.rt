@@ -7,7 +7,7 @@ ghost use Rattle.c_layers.specs.ItemViews.{initialiser_form, term_list_of};
 ghost use Rattle.c_layers.specs.Views.{words_of};
 ghost use Rattle.c_statements.specs.Declarations as spec;
 
-use c_grammar::Syntax;
+use c_grammar::SyntaxNode;
 use c_kinds::{Fault, Known, constant_expression, expression_of};
 use c_layers::InitialiserLayer;
 use c_statements::is_token;
@@ -36,7 +36,7 @@ fn add_constant(
     alloc: Global,
     known: &Known,
     faults: &mut Stack<Fault>,
-    x: &Syntax,
+    x: &SyntaxNode,
     out: &mut List<Expression>,
 ) -> Result<(), Memory>
     ensures out { OnOk result (out.new ≡ out.old ++ spec.constant_at (env_of known.now) (term known.now x.now) ∷ []) }
@@ -51,7 +51,7 @@ fn constants(
     alloc: Global,
     known: &Known,
     faults: &mut Stack<Fault>,
-    parts: &[Syntax],
+    parts: &[SyntaxNode],
 ) -> Result<List<Expression>, Memory>
     ensures value { IfOk result (λ es. es ≡ map (spec.constant_at (env_of known.now)) (term_list_of (words_of known.now.words) parts.now)) }
     ensures faults { OnOk result (faults.new ≡ spec.each_faults (constant_faults (env_of known.now)) (term_list_of (words_of known.now.words) parts.now) faults.old) }
@@ -69,7 +69,7 @@ fn one_constant(
     alloc: Global,
     known: &Known,
     faults: &mut Stack<Fault>,
-    x: &Syntax,
+    x: &SyntaxNode,
 ) -> Result<List<Expression>, Memory>
     ensures value { IfOk result (λ es. es ≡ spec.constant_at (env_of known.now) (term known.now x.now) ∷ []) }
     ensures faults { OnOk result (faults.new ≡ constant_faults (env_of known.now) (term known.now x.now) faults.old) }

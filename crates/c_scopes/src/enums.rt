@@ -12,7 +12,7 @@ ghost use Rattle.c_scopes.specs.NodeViews.{enumerators_of};
 
 use crate::constants::placeholder;
 use crate::file_names::{bind_name, report_file_name};
-use c_grammar::Syntax;
+use c_grammar::SyntaxNode;
 use c_kinds::{Binding, Fault, Known, constant_expression, name_of, report_if};
 use c_layers::{EnumeratorLayer, Words, enumerator_layer, first_token};
 use c_tree::{EnumItem, Expression};
@@ -168,7 +168,7 @@ pub fn read_enum<'a>(
     alloc: Global,
     known: &mut Known<'a>,
     faults: &mut Stack<Fault>,
-    nodes: &[Syntax],
+    nodes: &[SyntaxNode],
 ) -> Result<List<EnumItem>, Memory>
     ensures words { OnOk result (known.new.words ≡ known.old.words) }
     ensures env { OnOk result (env_of known.new ≡ spec.behind_enum (enumerators_of (words_of known.old.words) nodes.now) (Some (negsuc 0)) (env_of known.old)) }

@@ -21,7 +21,7 @@ use crate::function_names::{FunctionNames, add_body, declare_function};
 use crate::functions::{Outside, read_function};
 use crate::globals::read_globals;
 use c_bodies::State;
-use c_grammar::Syntax;
+use c_grammar::SyntaxNode;
 use c_kinds::{Fault, Known};
 use c_layers::{FunctionLayer, TopLayer, declaration_layer, top_layer};
 use c_statements::{Anchor, Notes, kinded};
@@ -74,7 +74,7 @@ fn read_declaration<'a>(
     known: &mut Known<'a>,
     faults: &mut Stack<Fault>,
     is_static: bool,
-    x: &Syntax,
+    x: &SyntaxNode,
     out: &mut List<Top>,
 ) -> Result<(), Memory>
     ensures words { OnOk result (known.new.words ≡ known.old.words) }
@@ -93,7 +93,7 @@ fn add_variables<'n, 'a>(
     file: &FileContext<'n, 'a>,
     state: &mut State<'a>,
     is_static: bool,
-    x: &Syntax,
+    x: &SyntaxNode,
     out: &mut List<Top>,
 ) -> Result<(), Memory>
     ensures scopes { OnOk result (state.new.known.scopes ≡ (spec.behind_declaration (declaration_of (words_of file.now.outside.words) x.now) (env file.now state.old)).scopes) }
@@ -117,7 +117,7 @@ fn add_enum<'a>(
     alloc: Global,
     known: &mut Known<'a>,
     faults: &mut Stack<Fault>,
-    nodes: &[Syntax],
+    nodes: &[SyntaxNode],
     out: &mut List<Top>,
 ) -> Result<(), Memory>
     ensures env { OnOk result (env_of known.new ≡ enums.behind_enum (enumerators_of (words_of known.old.words) nodes.now) (Some (negsuc 0)) (env_of known.old)) }
@@ -214,16 +214,16 @@ fn add_top<'n, 'a, C: FlatCounter>(
     file: &FileContext<'n, 'a>,
     state: &mut State<'a>,
     before: &mut FunctionNames<'a>,
-    x: &Syntax,
+    x: &SyntaxNode,
     out: &mut List<Top>,
 ) -> Result<(), Memory>
     ensures state { OnOk result (state_of state.new before.new ≡ spec.behind_top (file_of (C.flat counter.now) file.now) (top_of (words_of file.now.outside.words) x.now) (state_of state.old before.old)) }
     ensures out { OnOk result (out.new ≡ out.old ++ spec.top_tops (file_of (C.flat counter.now) file.now) (top_of (words_of file.now.outside.words) x.now) (state_of state.old before.old)) }
     ensures faults { OnOk result (state.new.faults ≡ spec.top_faults (file_of (C.flat counter.now) file.now) (top_of (words_of file.now.outside.words) x.now) (state_of state.old before.old) state.old.faults) }
 {
-    add_notes(alloc, file.outside.notes, Anchor::Before(x.first), out)?;
+    add_notes(alloc, file.outside.notes, Anchor::Before(x.first()), out)?;
     let top = top_layer(&file.outside.words, x);
-    add_form(alloc, counter, file, state, before, x.first, top, out)
+    add_form(alloc, counter, file, state, before, x.first(), top, out)
 }
 
 /// What the nodes of a file are, with the comments among them and behind them.
@@ -234,7 +234,7 @@ pub fn read_tops<'n, 'a, C: FlatCounter>(
     file: &FileContext<'n, 'a>,
     state: &mut State<'a>,
     before: &mut FunctionNames<'a>,
-    nodes: &[Syntax],
+    nodes: &[SyntaxNode],
 ) -> Result<List<Top>, Memory>
     ensures tops { IfOk result (λ it. it ≡ spec.tops_of (file_of (C.flat counter.now) file.now) (tops_in (words_of file.now.outside.words) nodes.now) (state_of state.old before.old)) }
     ensures faults { OnOk result (state.new.faults ≡ spec.file_faults (file_of (C.flat counter.now) file.now) (tops_in (words_of file.now.outside.words) nodes.now) (state_of state.old before.old) state.old.faults) }

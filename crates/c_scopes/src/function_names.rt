@@ -11,7 +11,7 @@ ghost use Rattle.c_scopes.specs.NodeViews.{parameters_of};
 
 use crate::file_names::bind_name;
 use crate::signatures::{result_kind, same_result, same_signature, signature};
-use c_grammar::Syntax;
+use c_grammar::SyntaxNode;
 use c_kinds::{Binding, Fault, Known, Signature, report, report_if};
 use c_layers::{FunctionLayer, TopLayer, Words, block_layer, parameter_layer, top_layer};
 use c_types::{IntKind, Memory, Stack, is_known};
@@ -81,7 +81,11 @@ pub fn add_body<'a>(
     bodies.add(words.get(f.name))
 }
 
-fn add_top<'a>(words: &Words<'a>, x: &Syntax, bodies: &mut FunctionNames<'a>) -> Result<(), Memory>
+fn add_top<'a>(
+    words: &Words<'a>,
+    x: &SyntaxNode,
+    bodies: &mut FunctionNames<'a>,
+) -> Result<(), Memory>
     ensures { OnOk result (bodies.new ≡ spec.with_top (words_of words.now) (top_of (words_of words.now) x.now) bodies.old) }
 {
     match top_layer(words, x) {
@@ -98,7 +102,7 @@ fn add_top<'a>(words: &Words<'a>, x: &Syntax, bodies: &mut FunctionNames<'a>) ->
 pub fn bodies_of<'a>(
     alloc: Global,
     words: &Words<'a>,
-    nodes: &[Syntax],
+    nodes: &[SyntaxNode],
 ) -> Result<FunctionNames<'a>, Memory>
     ensures { IfOk result (λ it. it ≡ spec.bodies_of (words_of words.now) (tops_in (words_of words.now) nodes.now)) }
 {
@@ -112,7 +116,7 @@ pub fn bodies_of<'a>(
 }
 
 #[tactic(auto, using(crate::proofs::Nodes::parameters))]
-fn has_no_parameter(words: &Words, nodes: &[Syntax]) -> bool
+fn has_no_parameter(words: &Words, nodes: &[SyntaxNode]) -> bool
     ensures { result ≡ spec.is_empty (parameters_of (words_of words.now) nodes.now) }
 {
     for x in nodes {

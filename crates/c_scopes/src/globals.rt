@@ -11,7 +11,7 @@ ghost use Rattle.c_scopes.specs.Globals as globals;
 
 use crate::constants::constant_initial;
 use crate::file_names::{bind_name, report_file_name};
-use c_grammar::Syntax;
+use c_grammar::SyntaxNode;
 use c_kinds::{Binding, Fault, Known, Shape, name_of, report_if};
 use c_layers::{DeclaratorLayer, Words, declarator_layer};
 use c_statements::{
@@ -95,7 +95,7 @@ pub fn read_globals<'a>(
     faults: &mut Stack<Fault>,
     is_static: bool,
     kinded: Kinded,
-    nodes: &[Syntax],
+    nodes: &[SyntaxNode],
     out: &mut List<Top>,
 ) -> Result<(), Memory>
     ensures words { OnOk result (known.new.words ≡ known.old.words) }

@@ -13,7 +13,7 @@ ghost use Rattle.c_scopes.specs.NodeViews.{parameters_of};
 
 use crate::signatures::parameter_kind;
 use c_bodies::State;
-use c_grammar::Syntax;
+use c_grammar::SyntaxNode;
 use c_kinds::{Binding, Fault, Known, Shape, name_of, report_if};
 use c_layers::{ParameterLayer, Words, parameter_layer};
 use c_statements::{is_array, read_length};
@@ -113,7 +113,7 @@ fn read_parameter(
 
 /// Declares the parameter that a node writes, if it writes one.
 #[tactic(auto, unfolding(c_bodies::specs::Views::walk_of))]
-fn read_node(alloc: Global, state: &mut State, defines: bool, x: &Syntax) -> Result<(), Memory>
+fn read_node(alloc: Global, state: &mut State, defines: bool, x: &SyntaxNode) -> Result<(), Memory>
     ensures words { OnOk result (state.new.known.words ≡ state.old.known.words) }
     ensures walk { OnOk result (walk_of state.new ≡ views.bind_optional (words_of state.old.known.words) (parameter_of (words_of state.old.known.words) x.now) (walk_of state.old)) }
     ensures faults { OnOk result (state.new.faults ≡ views.optional_faults (words_of state.old.known.words) defines (parameter_of (words_of state.old.known.words) x.now) (walk_of state.old) state.old.faults) }
@@ -130,7 +130,7 @@ pub fn read_parameters(
     alloc: Global,
     state: &mut State,
     defines: bool,
-    nodes: &[Syntax],
+    nodes: &[SyntaxNode],
 ) -> Result<(), Memory>
     ensures words { OnOk result (state.new.known.words ≡ state.old.known.words) }
     ensures walk { OnOk result (walk_of state.new ≡ spec.bind_parameters (words_of state.old.known.words) (parameters_of (words_of state.old.known.words) nodes.now) (walk_of state.old)) }

@@ -18,7 +18,7 @@ use crate::functions::Outside;
 use crate::violations::{least, refused};
 use c_bodies::State;
 use c_comments::place_notes;
-use c_grammar::Syntax;
+use c_grammar::SyntaxNode;
 use c_kinds::{Fault, Known, Scopes};
 use c_layers::{Words, tops_of};
 use c_lexer::{Span, Token, comments};
@@ -47,7 +47,7 @@ fn read_nodes<'n, 'a, C: FlatCounter>(
     alloc: Global,
     counter: &C,
     file: &FileContext<'n, 'a>,
-    nodes: &[Syntax],
+    nodes: &[SyntaxNode],
 ) -> Result<Read, Memory>
     ensures tops { IfOk result (λ it. it.tops ≡ the_tops (views.file_of (C.flat counter.now) file.now) (tops_in (words_of file.now.outside.words) nodes.now) start) }
     ensures faults { IfOk result (λ it. it.faults ≡ file_faults (views.file_of (C.flat counter.now) file.now) (tops_in (words_of file.now.outside.words) nodes.now) start []) }
@@ -76,7 +76,7 @@ fn read_file<'a, C: FlatCounter>(
     counter: &C,
     words: &Words<'a>,
     comments: &[Span],
-    syntax: &Syntax,
+    syntax: &SyntaxNode,
 ) -> Result<Read, Memory>
     requires { All (λ comment. IsWithin words.now.text.now comment.start comment.end) comments.now }
     ensures tops { IfOk result (λ it. it.tops ≡ (spec.program_of (spec.file_at (C.flat counter.now) words.now.text.now words.now.tokens.now comments.now (file_of (words_of words.now) syntax.now)) (file_of (words_of words.now) syntax.now)).tops) }
@@ -105,7 +105,7 @@ pub fn resolve_with<C: FlatCounter>(
     text: &[u8],
     tokens: &[Token],
     comments: &[Span],
-    syntax: &Syntax,
+    syntax: &SyntaxNode,
 ) -> Result<Program, ReadStop>
     requires tokens { All (λ token. IsWithin text.now token.start token.end) tokens.now }
     requires comments { All (λ comment. IsWithin text.now comment.start comment.end) comments.now }
@@ -127,7 +127,7 @@ pub fn resolve<C: FlatCounter>(
     counter: &C,
     text: &[u8],
     tokens: &List<Token>,
-    syntax: &Syntax,
+    syntax: &SyntaxNode,
 ) -> Result<Program, ReadStop>
     requires read { read_tokens text.now ≡ Ok tokens.now }
     requires within { All (λ token. IsWithin text.now token.start token.end) tokens.now }

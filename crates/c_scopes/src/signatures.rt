@@ -8,7 +8,7 @@ ghost use Rattle.c_statements.specs.Functions as functions;
 ghost use Rattle.c_scopes.specs.FunctionNames as spec;
 ghost use Rattle.c_scopes.specs.NodeViews.{parameters_of};
 
-use c_grammar::Syntax;
+use c_grammar::SyntaxNode;
 use c_kinds::{Signature, Want, same_kind, same_truth};
 use c_layers::{FunctionLayer, ParameterLayer, Words, kind_of, parameter_layer};
 use c_statements::is_array;
@@ -53,7 +53,7 @@ fn wants_of(
     alloc: Global,
     words: &Words,
     external: bool,
-    nodes: &[Syntax],
+    nodes: &[SyntaxNode],
 ) -> Result<List<Want>, Memory>
     ensures { IfOk result (λ wants. wants ≡ map (functions.want_of (words_of words.now) external) (parameters_of (words_of words.now) nodes.now)) }
 {

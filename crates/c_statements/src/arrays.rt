@@ -8,7 +8,7 @@ ghost use Rattle.c_statements.specs.Declarations as spec;
 
 use crate::extents::{Extent, Length};
 use crate::nodes::value_count;
-use c_grammar::Syntax;
+use c_grammar::SyntaxNode;
 use c_kinds::{Fault, Known, constant_expression};
 use c_layers::{InitialiserLayer, SizeLayer, Words};
 use c_tree::Expression;
@@ -17,7 +17,7 @@ use std::alloc::Global;
 
 /// How many values a list has, between tokens.
 #[tactic(auto, using(crate::proofs::Lists::values))]
-pub fn count_values(words: &Words, parts: &[Syntax]) -> usize
+pub fn count_values(words: &Words, parts: &[SyntaxNode]) -> usize
     ensures value { result ≡ length (term_list_of (words_of words.now) parts.now) }
     ensures bound { result ≤ length parts.now }
 {

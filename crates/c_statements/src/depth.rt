@@ -7,7 +7,7 @@ ghost use Rattle.c_statements.specs.Measures as spec;
 ghost use Rattle.c_statements.specs.Nodes.{items_of};
 
 use crate::nodes::{greater, is_token};
-use c_grammar::Syntax;
+use c_grammar::SyntaxNode;
 use c_layers::{
     BodyLayer, ItemLayer, StatementLayer, Words, body_layer, item_layer, statement_layer,
 };
@@ -19,7 +19,7 @@ fn one_more(n: u64) -> u64
 }
 
 #[cycle(depth)]
-fn item_depth(words: &Words, x: &Syntax) -> u64
+fn item_depth(words: &Words, x: &SyntaxNode) -> u64
     ensures { result ≡ spec.bounded (spec.item_depth (item_of (words_of words.now) x.now)) }
 {
     match item_layer(words, x) {
@@ -30,7 +30,7 @@ fn item_depth(words: &Words, x: &Syntax) -> u64
 }
 
 #[cycle(depth)]
-fn plain_depth(words: &Words, x: &Syntax) -> u64
+fn plain_depth(words: &Words, x: &SyntaxNode) -> u64
     ensures { result ≡ spec.bounded (spec.plain_depth (plain_of (words_of words.now) x.now)) }
 {
     match statement_layer(words, x) {
@@ -53,7 +53,7 @@ fn plain_depth(words: &Words, x: &Syntax) -> u64
 
 /// How many lists are nested in a list, with itself.
 #[cycle(depth)]
-pub fn body_depth(words: &Words, x: &Syntax) -> u64
+pub fn body_depth(words: &Words, x: &SyntaxNode) -> u64
     ensures { result ≡ spec.bounded (spec.body_depth (body_of (words_of words.now) x.now)) }
 {
     match body_layer(words, x) {
@@ -65,7 +65,7 @@ pub fn body_depth(words: &Words, x: &Syntax) -> u64
 /// How many lists are nested in one list, without itself.
 #[cycle(depth)]
 #[tactic(auto, using(crate::proofs::Lists::depths))]
-pub fn list_depth(words: &Words, items: &[Syntax]) -> u64
+pub fn list_depth(words: &Words, items: &[SyntaxNode]) -> u64
     ensures { result ≡ spec.bounded (spec.list_depth (items_of (words_of words.now) items.now)) }
 {
     let mut deepest = 0;

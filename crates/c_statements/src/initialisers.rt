@@ -7,7 +7,7 @@ ghost use Rattle.c_layers.specs.Views.{words_of};
 ghost use Rattle.c_statements.specs.Declarations as spec;
 
 use crate::nodes::is_token;
-use c_grammar::Syntax;
+use c_grammar::SyntaxNode;
 use c_kinds::{Fault, Known, Valued, expression, expression_of, used_value};
 use c_layers::InitialiserLayer;
 use c_tree::{Expression, Node};
@@ -29,7 +29,7 @@ pub fn value(
     alloc: Global,
     known: &Known,
     faults: &mut Stack<Fault>,
-    x: &Syntax,
+    x: &SyntaxNode,
 ) -> Result<Expression, Memory>
     ensures value { IfOk result (λ e. e ≡ spec.value_at (env_of known.now) (term known.now x.now)) }
     ensures faults { OnOk result (faults.new ≡ spec.value_faults (env_of known.now) (term known.now x.now) faults.old) }
@@ -42,7 +42,7 @@ fn add_value(
     alloc: Global,
     known: &Known,
     faults: &mut Stack<Fault>,
-    x: &Syntax,
+    x: &SyntaxNode,
     out: &mut List<Expression>,
 ) -> Result<(), Memory>
     ensures out { OnOk result (out.new ≡ out.old ++ spec.value_at (env_of known.now) (term known.now x.now) ∷ []) }
@@ -57,7 +57,7 @@ fn values(
     alloc: Global,
     known: &Known,
     faults: &mut Stack<Fault>,
-    parts: &[Syntax],
+    parts: &[SyntaxNode],
 ) -> Result<List<Expression>, Memory>
     ensures value { IfOk result (λ es. es ≡ map (spec.value_at (env_of known.now)) (term_list_of (words_of known.now.words) parts.now)) }
     ensures faults { OnOk result (faults.new ≡ spec.each_faults (spec.value_faults (env_of known.now)) (term_list_of (words_of known.now.words) parts.now) faults.old) }
@@ -75,7 +75,7 @@ fn one_value(
     alloc: Global,
     known: &Known,
     faults: &mut Stack<Fault>,
-    x: &Syntax,
+    x: &SyntaxNode,
 ) -> Result<List<Expression>, Memory>
     ensures value { IfOk result (λ es. es ≡ spec.value_at (env_of known.now) (term known.now x.now) ∷ []) }
     ensures faults { OnOk result (faults.new ≡ spec.value_faults (env_of known.now) (term known.now x.now) faults.old) }

@@ -8,7 +8,7 @@ ghost use Rattle.c_statements.specs.Labels as spec;
 ghost use Rattle.c_statements.specs.Nodes.{items_of};
 
 use crate::nodes::is_token;
-use c_grammar::Syntax;
+use c_grammar::SyntaxNode;
 use c_layers::{
     BodyLayer, ItemLayer, LabelLayer, StatementLayer, Words, body_layer, item_layer, label_layer,
     statement_layer,
@@ -16,7 +16,7 @@ use c_layers::{
 use c_types::{Memory, Stack};
 
 /// Puts the name of a label, if a node is one that has a name, in front of others.
-fn add_label(words: &Words, x: &Syntax, out: &mut Stack<u32>) -> Result<(), Memory>
+fn add_label(words: &Words, x: &SyntaxNode, out: &mut Stack<u32>) -> Result<(), Memory>
     ensures { OnOk result (out.new ≡ spec.name_in (label_of (words_of words.now) x.now) out.old) }
 {
     match label_layer(words, x) {
@@ -29,7 +29,7 @@ fn add_label(words: &Words, x: &Syntax, out: &mut Stack<u32>) -> Result<(), Memo
 
 /// Puts the names of the labels among these nodes in front of others.
 #[tactic(auto, using(crate::proofs::Lists::names_back))]
-fn add_named(words: &Words, nodes: &[Syntax], out: &mut Stack<u32>) -> Result<(), Memory>
+fn add_named(words: &Words, nodes: &[SyntaxNode], out: &mut Stack<u32>) -> Result<(), Memory>
     ensures { OnOk result (out.new ≡ spec.named_in (labels_of (words_of words.now) nodes.now) out.old) }
 {
     let mut i = nodes.len();
@@ -41,7 +41,7 @@ fn add_named(words: &Words, nodes: &[Syntax], out: &mut Stack<u32>) -> Result<()
 }
 
 #[cycle(labels)]
-fn item_labels(words: &Words, x: &Syntax, out: &mut Stack<u32>) -> Result<(), Memory>
+fn item_labels(words: &Words, x: &SyntaxNode, out: &mut Stack<u32>) -> Result<(), Memory>
     ensures { OnOk result (out.new ≡ spec.item_labels (item_of (words_of words.now) x.now) out.old) }
 {
     match item_layer(words, x) {
@@ -55,7 +55,7 @@ fn item_labels(words: &Words, x: &Syntax, out: &mut Stack<u32>) -> Result<(), Me
 }
 
 #[cycle(labels)]
-fn plain_labels(words: &Words, x: &Syntax, out: &mut Stack<u32>) -> Result<(), Memory>
+fn plain_labels(words: &Words, x: &SyntaxNode, out: &mut Stack<u32>) -> Result<(), Memory>
     ensures { OnOk result (out.new ≡ spec.plain_labels (plain_of (words_of words.now) x.now) out.old) }
 {
     match statement_layer(words, x) {
@@ -81,7 +81,7 @@ fn plain_labels(words: &Words, x: &Syntax, out: &mut Stack<u32>) -> Result<(), M
 
 /// Puts the labels of a list, by the tokens of their names in text order, in front of others.
 #[cycle(labels)]
-pub fn body_labels(words: &Words, x: &Syntax, out: &mut Stack<u32>) -> Result<(), Memory>
+pub fn body_labels(words: &Words, x: &SyntaxNode, out: &mut Stack<u32>) -> Result<(), Memory>
     ensures { OnOk result (out.new ≡ spec.body_labels (body_of (words_of words.now) x.now) out.old) }
 {
     match body_layer(words, x) {
@@ -93,7 +93,7 @@ pub fn body_labels(words: &Words, x: &Syntax, out: &mut Stack<u32>) -> Result<()
 /// Puts the labels of items, by the tokens of their names in text order, in front of others.
 #[cycle(labels)]
 #[tactic(auto, using(crate::proofs::Lists::labels_back))]
-pub fn list_labels(words: &Words, items: &[Syntax], out: &mut Stack<u32>) -> Result<(), Memory>
+pub fn list_labels(words: &Words, items: &[SyntaxNode], out: &mut Stack<u32>) -> Result<(), Memory>
     ensures { OnOk result (out.new ≡ spec.list_labels (items_of (words_of words.now) items.now) out.old) }
 {
     let mut i = items.len();

@@ -12,7 +12,7 @@ use crate::arrays::{extent_of, is_bad_shape, read_length};
 use crate::extents::{Kinded, Length};
 use crate::initialisers::initial;
 use crate::slots::declare;
-use c_grammar::Syntax;
+use c_grammar::SyntaxNode;
 use c_kinds::{Fault, Known, Shape, report_if};
 use c_layers::{
     DeclarationLayer, DeclaratorLayer, SizeLayer, Words, declaration_layer, declarator_layer,
@@ -115,7 +115,7 @@ fn add_locals<'a>(
     slots: &mut List<Slot>,
     faults: &mut Stack<Fault>,
     kinded: Kinded,
-    names: &[Syntax],
+    names: &[SyntaxNode],
     out: &mut List<Item>,
 ) -> Result<(), Memory>
     ensures walk { OnOk result (spec.walk known.new.scopes slots.new ≡ spec.all_declared (words_of words.now) kinded (declarators_of (words_of words.now) names.now) (spec.walk known.old.scopes slots.old)) }
@@ -131,7 +131,7 @@ fn add_locals<'a>(
 }
 
 /// The kind of a type, which is `int` where no words are there.
-pub fn kind_in(words: &Words, node: Option<&Syntax>) -> IntKind
+pub fn kind_in(words: &Words, node: Option<&SyntaxNode>) -> IntKind
     ensures { result ≡ the_kind (words_of words.now) (type_words (words_of words.now) node.entry) }
 {
     match node {
@@ -158,7 +158,7 @@ pub fn add_declaration<'a>(
     known: &mut Known<'a>,
     slots: &mut List<Slot>,
     faults: &mut Stack<Fault>,
-    x: &Syntax,
+    x: &SyntaxNode,
     out: &mut List<Item>,
 ) -> Result<(), Memory>
     ensures walk { OnOk result (let d = declaration_of (words_of words.now) x.now in spec.walk known.new.scopes slots.new ≡ spec.all_declared (words_of words.now) (spec.kinded (words_of words.now) d) d.names (spec.walk known.old.scopes slots.old)) }

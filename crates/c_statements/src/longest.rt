@@ -7,13 +7,13 @@ ghost use Rattle.c_statements.specs.Measures as spec;
 ghost use Rattle.c_statements.specs.Nodes.{items_of};
 
 use crate::nodes::{greater, is_token};
-use c_grammar::Syntax;
+use c_grammar::SyntaxNode;
 use c_layers::{
     BodyLayer, ItemLayer, LabelLayer, StartLayer, StatementLayer, Words, body_layer,
     declaration_layer, declarator_layer, item_layer, label_layer, statement_layer,
 };
 
-fn label_length(words: &Words, x: &Syntax) -> u64
+fn label_length(words: &Words, x: &SyntaxNode) -> u64
     ensures { result ≡ spec.length_in (words_of words.now) (label_of (words_of words.now) x.now) }
 {
     match label_layer(words, x) {
@@ -25,7 +25,7 @@ fn label_length(words: &Words, x: &Syntax) -> u64
 }
 
 #[tactic(auto, using(crate::proofs::Lists::label_lengths))]
-fn longest_label(words: &Words, nodes: &[Syntax]) -> u64
+fn longest_label(words: &Words, nodes: &[SyntaxNode]) -> u64
     ensures { result ≡ spec.longest_label (words_of words.now) (labels_of (words_of words.now) nodes.now) }
 {
     let mut longest = 0;
@@ -35,7 +35,7 @@ fn longest_label(words: &Words, nodes: &[Syntax]) -> u64
     longest
 }
 
-fn name_length(words: &Words, x: &Syntax) -> u64
+fn name_length(words: &Words, x: &SyntaxNode) -> u64
     ensures { result ≡ spec.declared_length (words_of words.now) (declarator_of (words_of words.now) x.now) }
 {
     match declarator_layer(words, x) {
@@ -45,7 +45,7 @@ fn name_length(words: &Words, x: &Syntax) -> u64
 }
 
 #[tactic(auto, using(crate::proofs::Lists::name_lengths))]
-fn longest_name(words: &Words, nodes: &[Syntax]) -> u64
+fn longest_name(words: &Words, nodes: &[SyntaxNode]) -> u64
     ensures { result ≡ spec.longest_declared (words_of words.now) (declarators_of (words_of words.now) nodes.now) }
 {
     let mut longest = 0;
@@ -55,7 +55,7 @@ fn longest_name(words: &Words, nodes: &[Syntax]) -> u64
     longest
 }
 
-fn longest_declared(words: &Words, x: &Syntax) -> u64
+fn longest_declared(words: &Words, x: &SyntaxNode) -> u64
     ensures { result ≡ spec.longest_declared (words_of words.now) (declaration_of (words_of words.now) x.now).names }
 {
     longest_name(words, declaration_layer(words, x).names)
@@ -72,7 +72,7 @@ fn start_longest(words: &Words, start: StartLayer) -> u64
 }
 
 #[cycle(longest)]
-fn item_longest(words: &Words, x: &Syntax) -> u64
+fn item_longest(words: &Words, x: &SyntaxNode) -> u64
     ensures { result ≡ spec.item_longest (words_of words.now) (item_of (words_of words.now) x.now) }
 {
     match item_layer(words, x) {
@@ -85,7 +85,7 @@ fn item_longest(words: &Words, x: &Syntax) -> u64
 }
 
 #[cycle(longest)]
-fn plain_longest(words: &Words, x: &Syntax) -> u64
+fn plain_longest(words: &Words, x: &SyntaxNode) -> u64
     ensures { result ≡ spec.plain_longest (words_of words.now) (plain_of (words_of words.now) x.now) }
 {
     match statement_layer(words, x) {
@@ -110,7 +110,7 @@ fn plain_longest(words: &Words, x: &Syntax) -> u64
 
 /// The bytes of the longest name of a label or a variable that a list declares.
 #[cycle(longest)]
-pub fn body_longest(words: &Words, x: &Syntax) -> u64
+pub fn body_longest(words: &Words, x: &SyntaxNode) -> u64
     ensures { result ≡ spec.body_longest (words_of words.now) (body_of (words_of words.now) x.now) }
 {
     match body_layer(words, x) {
@@ -122,7 +122,7 @@ pub fn body_longest(words: &Words, x: &Syntax) -> u64
 /// The bytes of the longest name of a label or a variable among items.
 #[cycle(longest)]
 #[tactic(auto, using(crate::proofs::Lists::lengths))]
-pub fn list_longest(words: &Words, items: &[Syntax]) -> u64
+pub fn list_longest(words: &Words, items: &[SyntaxNode]) -> u64
     ensures { result ≡ spec.list_longest (words_of words.now) (items_of (words_of words.now) items.now) }
 {
     let mut longest = 0;

@@ -2,17 +2,17 @@ ghost use Rattle.std.specs.Prelude.{◌≡◌, ◌≤◌, cond, max};
 ghost use Rattle.c_grammar.specs.declared.syntax.Syntax.{out-Syntax};
 ghost use Rattle.c_layers.specs.Parts as parts;
 
-use c_grammar::{Production, Syntax};
+use c_grammar::{Production, SyntaxNode};
 
 /// Whether a node is one token.
-pub fn is_token(x: &Syntax) -> bool
+pub fn is_token(x: &SyntaxNode) -> bool
     ensures { result ≡ parts.is_token (out-Syntax x.now).rule }
 {
-    matches!(x.rule, Production::Token)
+    matches!(x.rule(), Production::Token)
 }
 
 /// How many values are written by a node of a list of values and tokens.
-pub fn value_count(x: &Syntax) -> usize
+pub fn value_count(x: &SyntaxNode) -> usize
     ensures value { result ≡ cond (parts.is_token (out-Syntax x.now).rule) 0 1 }
     ensures bound { result ≤ 1 }
 {

@@ -25,15 +25,15 @@ use Rattle.c_kinds.specs.declared.typed.Fault.{Fault}
 use Rattle.c_layers.specs.Tops.{Top}
 use Rattle.c_scopes.specs.Files.{File}
 use Rattle.c_kinds.specs.Typing.{typed}
-use Rattle.source_defs.specs.Derivations.{DeriveFile, IsUnexpected, IsTooMany}
-use Rattle.source_laws.proofs.TheLaws.{source_laws}
-use Rattle.rule_defs.specs.Violations.{IsLeast, IsFaultless}
-use Rattle.rule_defs.specs.Typings.{Typing}
-use Rattle.rule_defs.specs.Files.{IsViolation}
-use Rattle.rule_defs.specs.Programs.{program, file_written}
-use Rattle.meaning_laws.proofs.Typings.{typed_typing, sole_typing}
-use Rattle.program_laws.proofs.TheLaws.{program_laws}
-use Rattle.file_rule_laws.proofs.TheLaws.{file_laws}
+use Rattle.c_reading_defs.specs.Derivations.{DeriveFile, IsUnexpected, IsTooMany}
+use Rattle.c_source_laws.proofs.TheSourceLaws.{source_laws}
+use Rattle.c_reading_defs.specs.Violations.{IsLeast, IsFaultless}
+use Rattle.c_reading_defs.specs.Typings.{Typing}
+use Rattle.c_reading_defs.specs.Files.{IsViolation}
+use Rattle.c_reading_defs.specs.Programs.{program, file_written}
+use Rattle.c_violation_laws.proofs.Typings.{typed_typing, sole_typing}
+use Rattle.c_violation_laws.proofs.TheProgramLaws.{program_laws}
+use Rattle.c_violation_laws.proofs.TheFileLaws.{file_laws}
 use Rattle.c_scopes.specs.Resolving.{resolved, answer, program_of, violation_of, file_at, refused}
 use Rattle.c_tree.specs.declared.tree.Program.{Program}
 use Rattle.c_reading.specs.Reading.{of_syntax, of_tokens}

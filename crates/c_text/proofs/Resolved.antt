@@ -12,7 +12,7 @@ use Rattle.c_resolved_defs.specs.PrintableExpressions.{AreBytes}
 use Rattle.c_tree.specs.declared.tree.Program.{Program}
 use Rattle.c_resolved_laws.specs.Counts.{flat_counts, IsResolved}
 use Rattle.c_resolving_laws.proofs.TheLaws.{resolving_laws}
-use Rattle.c_limits_laws.proofs.CLimitsProvedLaws.{limit_laws}
+use Rattle.c_source_laws.proofs.TheLimitLaws.{limit_laws}
 use Rattle.c_text.specs.Reading.{counts_of, reading}
 use Rattle.c_text.proofs.Readings.{read_as}
 

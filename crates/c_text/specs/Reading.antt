@@ -10,11 +10,11 @@ use Rattle.c_kinds.specs.declared.typed.Fault.{Fault}
 use Rattle.c_statements.specs.Functions.{FlatCounts}
 use Rattle.c_reading.specs.Reading.{reading as reading_with}
 use Rattle.c_scopes.specs.Resolving.{refused}
-use Rattle.source_defs.specs.Derivations.{DeriveFile, IsUnexpected, IsTooMany}
-use Rattle.rule_defs.specs.Violations.{IsLeast, IsFaultless}
-use Rattle.rule_defs.specs.Typings.{Typing, IsTyping}
-use Rattle.rule_defs.specs.Files.{IsViolation}
-use Rattle.rule_defs.specs.Programs.{program, file_written}
+use Rattle.c_reading_defs.specs.Derivations.{DeriveFile, IsUnexpected, IsTooMany}
+use Rattle.c_reading_defs.specs.Violations.{IsLeast, IsFaultless}
+use Rattle.c_reading_defs.specs.Typings.{Typing, IsTyping}
+use Rattle.c_reading_defs.specs.Files.{IsViolation}
+use Rattle.c_reading_defs.specs.Programs.{program, file_written}
 use Rattle.c_tree.specs.declared.tree.Program.{Program}
 use Rattle.c_tree.specs.Trees.{trees_of}
 use Rattle.c_resolved_laws.specs.Counts.{flat_counts}

@@ -8,9 +8,9 @@ use c_types::{List, Memory};
 use flat_form::gotos_in;
 use flat_names::{FlatNames, ProgramNames};
 use flat_questions::named_labels;
-use lowered_bodies::{LoweredBody, lower_body};
-use lowered_items::Plan;
-use lowered_names::{constructs, name_lowered};
+use lower_bodies::{LoweredBody, lower_body};
+use lower_items::Plan;
+use lower_names::{constructs, name_lowered};
 use std::alloc::Global;
 use std::mem;
 

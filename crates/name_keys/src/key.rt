@@ -2,6 +2,7 @@ ghost use Rattle.std.specs.Prelude.{◌≡◌, Some, refl, nat_eq};
 ghost use Rattle.std.specs.Cmp.{partial_equiv_from_equiv};
 ghost use Rattle.std.specs.Cmp.Lexicographic.{pointwise, slice_cmp, nat_list_eq_equiv, nat_list_cmp_total, texts_ties, texts_po};
 ghost use Rattle.c_types.specs.Words.{name_cmp};
+ghost use Rattle.name_keys.specs.Fronts.{front};
 
 use crate::front::front_of;
 use std::cmp::Ordering;
@@ -33,6 +34,15 @@ impl<'a> Key<'a> {
     {
         self.text
     }
+}
+
+/// The key of a name with this front.
+#[inline]
+pub(crate) fn key_with(first: u64, text: &[u8]) -> Key<'_>
+    requires { first ≡ front 8 text.now }
+    ensures { result ≡ text.now }
+{
+    Key { first, text }
 }
 
 /// The key of a name.

@@ -2,6 +2,10 @@
 #![tactic(auto)]
 
 mod front;
+mod held;
 mod key;
+mod text_key;
 
+pub use held::HeldName;
 pub use key::{Key, key_of};
+pub use text_key::{TextKey, key_of_text};

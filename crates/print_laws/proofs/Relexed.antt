@@ -91,7 +91,7 @@ texts_are : (bs : List ℕ) (r : List ℕ) → written_all (map (character_in 34
 texts_are [] r = refl
 texts_are (b ∷ bs) r = escaped_is 34 b (written_all (map (character_in 34) bs) r) ∙ ap (λ l. escaped 34 b ++ l) (texts_are bs r)
 
-text_characters : (bs : List ℕ) (r : List ℕ) → list_all (λ b. nat_le b 255) bs ≡ true → AreCharacters is_text_byte (map (character_in 34) bs) r
+pub text_characters : (bs : List ℕ) (r : List ℕ) → list_all (λ b. nat_le b 255) bs ≡ true → AreCharacters is_text_byte (map (character_in 34) bs) r
 text_characters [] r h = tt
 text_characters (b ∷ bs) r h =
     let l = leb-true b 255 (first_of_and (nat_le b 255) _ h) in

@@ -37,8 +37,8 @@ use Rattle.reread_parts_laws.specs.WrittenFiles.{written_tops}
 use Rattle.reread_parts_laws.proofs.TheLaws.{reread_laws}
 use Rattle.c_resolved_laws.proofs.TheLaws.{resolved_laws}
 use Rattle.c_resolving_laws.specs.Laws.{AreCounts}
-use Rattle.c_limits_laws.proofs.Numbered.{Along}
-use Rattle.c_limits_laws.proofs.Weights.{IsWeighed, weights}
+use Rattle.c_source_laws.proofs.Numbered.{Along}
+use Rattle.c_source_laws.proofs.Weights.{IsWeighed, weights}
 use Rattle.reread_program_laws.specs.Limits.{AreMeasured}
 use Rattle.reread_program_laws.specs.RereadProgramLaws.{tokens_in, comments_in, BackLaws}
 use Rattle.reread_program_laws.proofs.Measured.{all_measured}

@@ -21,7 +21,7 @@ use Rattle.print_laws.proofs.Costs.{Within}
 use Rattle.print_laws.proofs.Levels.{lies_assigned, lies_chosen}
 use Rattle.print_laws.proofs.ExpressionFits.{fits, costs, laid_adds}
 use Rattle.reread_parts_laws.specs.PlacedNotes.{has_last}
-use Rattle.c_limits_laws.proofs.Counted.{expression_count, assignment_count, conditional_count, expression_held, assignment_held, conditional_held}
+use Rattle.c_source_laws.proofs.Counted.{expression_count, assignment_count, conditional_count, expression_held, assignment_held, conditional_held}
 use Rattle.reread_program_laws.proofs.CountLow.{FewOptional, FewSize, FewAssignment, FewValue, FewDeclarator, FewLocal, FewLabel, FewStart, FewItems, FewStatement}
 
 nothing : Within 0 []

@@ -9,12 +9,12 @@ use Rattle.c_grammar.specs.ExpressionSyntax.{type_end, expression_end, assignmen
 use Rattle.c_grammar.specs.Statements.{Size, NoSize, Unsized, Sized, Initialiser, OneValue, ValueList, Declarator, Declared, Local, Locals, Label, NameLabel, CaseLabel, DefaultLabel, ForStart, StartLocal, StartValue, Braces, Items, NoItems, LocalItem, StatementItem, Statement, Labelled, Unlabelled, Plain, Compound, Simple, If, IfElse, While, DoWhile, For, Switch, Goto, Break, Continue, Return, more_tokens, rest_tokens, optional_tokens, size_tokens, initialiser_tokens, value_tokens, declarator_tokens, local_tokens, label_tokens, for_start_tokens, items_tokens, statement_tokens, plain_tokens, FitsMore, FitsOptional, FitsSize, FitsInitialiser, FitsValue, FitsDeclarator, FitsLocal, FitsLabel, FitsForStart, FitsItems, FitsStatement, FitsPlain}
 use Rattle.c_grammar.specs.StatementSyntax.{word_end, more_end, optional_end, size_end, initialiser_end, value_end, declarator_end, local_end, label_end, for_start_end, items_end, statement_end, plain_end, word_parts, more_parts, rest_parts, optional_parts, size_parts, initialiser_parts, initialiser_node, value_parts, declarator_node, local_node, label_parts, label_node, for_start_parts, block_node, items_parts, statement_parts, statement_node, plain_parts}
 use Rattle.c_resolved_defs.specs.Within.{Each}
-use Rattle.c_limits_laws.proofs.Numbered.{Along}
-use Rattle.c_limits_laws.proofs.Weights.{IsWeighed}
-use Rattle.c_limits_laws.proofs.Counted.{expression_count, assignment_count, conditional_count}
-use Rattle.c_limits_laws.proofs.CountedNodes.{expression_most, assignment_most, conditional_most}
-use Rattle.c_limits_laws.proofs.CountedDeclarations.{most_in, Low, join_low, node_low, leaf_low, type_low, word_low}
-use Rattle.c_limits_laws.proofs.Past.{type_past, word_past, expression_past, assignment_past, optional_past, size_past, declarator_past, local_past, label_past, start_past, statement_past}
+use Rattle.c_source_laws.proofs.Numbered.{Along}
+use Rattle.c_source_laws.proofs.Weights.{IsWeighed}
+use Rattle.c_source_laws.proofs.Counted.{expression_count, assignment_count, conditional_count}
+use Rattle.c_source_laws.proofs.CountedNodes.{expression_most, assignment_most, conditional_most}
+use Rattle.c_source_laws.proofs.CountedDeclarations.{most_in, Low, join_low, node_low, leaf_low, type_low, word_low}
+use Rattle.c_source_laws.proofs.Past.{type_past, word_past, expression_past, assignment_past, optional_past, size_past, declarator_past, local_past, label_past, start_past, statement_past}
 
 -- ---- in each full expression of it count so many at most
 

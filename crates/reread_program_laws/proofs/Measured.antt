@@ -44,10 +44,10 @@ use Rattle.reread_parts_laws.specs.WrittenStatements.{written_block}
 use Rattle.reread_parts_laws.specs.WrittenFunctions.{written_function, written_function_body, function_parts}
 use Rattle.reread_parts_laws.specs.Words.{AreWords}
 use Rattle.reread_parts_laws.specs.Laws.{measured}
-use Rattle.c_limits_laws.proofs.Numbered.{Along}
-use Rattle.c_limits_laws.proofs.Weights.{IsWeighed}
-use Rattle.c_limits_laws.proofs.CountedDeclarations.{most_in, Low, join_low, greatest_low, node_low, leaf_low, type_low, word_low}
-use Rattle.c_limits_laws.proofs.Past.{word_past, result_past, parameters_past, top_past}
+use Rattle.c_source_laws.proofs.Numbered.{Along}
+use Rattle.c_source_laws.proofs.Weights.{IsWeighed}
+use Rattle.c_source_laws.proofs.CountedDeclarations.{most_in, Low, join_low, greatest_low, node_low, leaf_low, type_low, word_low}
+use Rattle.c_source_laws.proofs.Past.{word_past, result_past, parameters_past, top_past}
 use Rattle.reread_program_laws.specs.Limits.{IsMeasured, AreMeasured}
 use Rattle.reread_program_laws.proofs.BodiesRead.{IsReadBack, AllReadBack}
 use Rattle.reread_program_laws.proofs.LongestGiven.{longest_short}

@@ -1,25 +1,27 @@
 //! Places of refusals, which an independent model of the parser gave too, and shapes of syntax, worked out
 //! by hand from the grammar.
 use crate::test_reading_refusals::refused;
-use c_grammar::{Production, Syntax};
+use c_grammar::{Production, SyntaxNode};
 use c_lexer::tokens;
 use c_parser::parse;
 use c_types::ReadStop;
 use std::alloc::Global;
 use std::test::Fail;
 
-fn syntax(alloc: Global, text: &[u8]) -> Result<Syntax, ReadStop> {
+fn syntax(alloc: Global, text: &[u8]) -> Result<SyntaxNode, ReadStop> {
     let tokens = tokens(alloc, text)?;
     parse(alloc, text, &tokens)
 }
 
-/// The rule, the first token and the number of parts of the node to which these parts lead.
-fn node_at(file: &Syntax, path: &[usize]) -> Option<(Production, u32, usize)> {
+/// The rule, the first token and the number of parts of the node to which these parts lead, with the innermost rule of
+/// those that are kept as one.
+fn node_at(file: &SyntaxNode, path: &[usize]) -> Option<(Production, Production, u32, usize)> {
     let mut node = file;
     for at in path {
-        node = node.parts.get(*at)?;
+        node = node.opened().parts.get(*at)?;
     }
-    Some((node.rule, node.first, node.parts.len()))
+    let node = node.opened();
+    Some((node.top, node.base, node.first, node.parts.len()))
 }
 
 /// `before`, the bytes that many times, `after`.
@@ -107,34 +109,37 @@ fn knows_the_limits(rt: HostRuntime) -> Result<(), Fail> {
 fn gives_the_syntax(rt: HostRuntime) -> Result<(), Fail> {
     let alloc = rt.alloc();
     let empty = syntax(alloc, b"")?;
-    assert_eq!(rt; node_at(&empty, &[]), Some((Production::File, 0, 0)));
+    assert_eq!(rt;
+        node_at(&empty, &[]),
+        Some((Production::File, Production::File, 0, 0))
+    );
     // The nearest `if` has the `else`.
     let file = syntax(alloc, b"int f(void) { if (1) if (2) ; else ; }")?;
     assert_eq!(rt;
         node_at(&file, &[0, 5, 1, 0]),
-        Some((Production::Plain, 6, 5))
+        Some((Production::Plain, Production::Plain, 6, 5))
     );
     assert_eq!(rt;
         node_at(&file, &[0, 5, 1, 0, 4, 0]),
-        Some((Production::Plain, 10, 7))
+        Some((Production::Plain, Production::Plain, 10, 7))
     );
     // A type in brackets is a cast.
     let file = syntax(alloc, b"int y = (int)(x);")?;
     assert_eq!(rt;
-        node_at(&file, &[0, 0, 1, 2, 0, 0, 0, 0]),
-        Some((Production::Unary, 3, 4))
+        node_at(&file, &[0, 0, 1, 2, 0]),
+        Some((Production::Assignment, Production::Unary, 3, 4))
     );
     // A target in brackets is one.
     let file = syntax(alloc, b"int f(void) { ((a)) = 1; }")?;
     assert_eq!(rt;
-        node_at(&file, &[0, 5, 1, 0, 0, 0, 0, 1]),
-        Some((Production::Target, 7, 3))
+        node_at(&file, &[0, 5, 1, 0, 0, 0, 1]),
+        Some((Production::Target, Production::Target, 7, 3))
     );
     // A list may end with a comma.
     let file = syntax(alloc, b"int x[] = {1, 2,};")?;
     assert_eq!(rt;
         node_at(&file, &[0, 0, 1, 4]),
-        Some((Production::Initialiser, 5, 6))
+        Some((Production::Initialiser, Production::Initialiser, 5, 6))
     );
     Ok(())
 }

@@ -13,10 +13,10 @@ use Rattle.c_scopes.specs.Resolving.{file_at}
 use Rattle.tidy_refusal.specs.FileJumps.{first_jump}
 use Rattle.tidy_refusal.specs.JumplessLaws.{TopLacksJumps}
 use Rattle.tidy_refusal.proofs.Files.{jumpless_sources}
-use Rattle.rule_defs.specs.Typings.{Typing}
-use Rattle.rule_defs.specs.Programs.{program, file_written}
-use Rattle.source_laws.proofs.TheLaws.{source_laws}
-use Rattle.meaning_laws.proofs.Typings.{sole_typing}
+use Rattle.c_reading_defs.specs.Typings.{Typing}
+use Rattle.c_reading_defs.specs.Programs.{program, file_written}
+use Rattle.c_source_laws.proofs.TheSourceLaws.{source_laws}
+use Rattle.c_violation_laws.proofs.Typings.{sole_typing}
 use Rattle.c_text.specs.Reading.{counts_of, IsProgramOf}
 use Rattle.c_text.proofs.Readings.{faultless, same_program}
 use Rattle.tidy_refusal.specs.TextJumps.{jump_of_tokens, jump_of_syntax, text_jump, IsRefusedForJumps, IsWithoutJumps}

@@ -6,14 +6,14 @@ ghost use Rattle.c_layers.specs.Views.{words_of};
 ghost use Rattle.c_statements.specs.Nodes.{items_of};
 ghost use Rattle.tidy_refusal.specs.FileJumps as spec;
 
-use c_grammar::Syntax;
+use c_grammar::SyntaxNode;
 use c_layers::{
     BodyLayer, ItemLayer, LabelLayer, StatementLayer, TopLayer, Words, block_layer, body_layer,
     item_layer, label_layer, statement_layer, top_layer, tops_of,
 };
 use c_statements::is_token;
 
-fn label_jump(words: &Words, x: &Syntax, rest: Option<u32>) -> Option<u32>
+fn label_jump(words: &Words, x: &SyntaxNode, rest: Option<u32>) -> Option<u32>
     ensures { result ≡ spec.jump_in (label_of (words_of words.now) x.now) rest }
 {
     match label_layer(words, x) {
@@ -25,7 +25,7 @@ fn label_jump(words: &Words, x: &Syntax, rest: Option<u32>) -> Option<u32>
 }
 
 #[tactic(auto, using(crate::proofs::Nodes::labels_back))]
-fn labels_jump(words: &Words, nodes: &[Syntax], rest: Option<u32>) -> Option<u32>
+fn labels_jump(words: &Words, nodes: &[SyntaxNode], rest: Option<u32>) -> Option<u32>
     ensures { result ≡ spec.labels_jump (labels_of (words_of words.now) nodes.now) rest }
 {
     let mut found = rest;
@@ -38,7 +38,7 @@ fn labels_jump(words: &Words, nodes: &[Syntax], rest: Option<u32>) -> Option<u32
 }
 
 #[cycle(jumps)]
-fn item_jump(words: &Words, x: &Syntax, rest: Option<u32>) -> Option<u32>
+fn item_jump(words: &Words, x: &SyntaxNode, rest: Option<u32>) -> Option<u32>
     ensures { result ≡ spec.item_jump (item_of (words_of words.now) x.now) rest }
 {
     match item_layer(words, x) {
@@ -52,7 +52,7 @@ fn item_jump(words: &Words, x: &Syntax, rest: Option<u32>) -> Option<u32>
 }
 
 #[cycle(jumps)]
-fn plain_jump(words: &Words, x: &Syntax, rest: Option<u32>) -> Option<u32>
+fn plain_jump(words: &Words, x: &SyntaxNode, rest: Option<u32>) -> Option<u32>
     ensures { result ≡ spec.plain_jump (plain_of (words_of words.now) x.now) rest }
 {
     match statement_layer(words, x) {
@@ -77,7 +77,7 @@ fn plain_jump(words: &Words, x: &Syntax, rest: Option<u32>) -> Option<u32>
 }
 
 #[cycle(jumps)]
-fn body_jump(words: &Words, x: &Syntax, rest: Option<u32>) -> Option<u32>
+fn body_jump(words: &Words, x: &SyntaxNode, rest: Option<u32>) -> Option<u32>
     ensures { result ≡ spec.body_jump (body_of (words_of words.now) x.now) rest }
 {
     match body_layer(words, x) {
@@ -88,7 +88,7 @@ fn body_jump(words: &Words, x: &Syntax, rest: Option<u32>) -> Option<u32>
 
 #[cycle(jumps)]
 #[tactic(auto, using(crate::proofs::Nodes::items_back))]
-fn list_jump(words: &Words, items: &[Syntax], rest: Option<u32>) -> Option<u32>
+fn list_jump(words: &Words, items: &[SyntaxNode], rest: Option<u32>) -> Option<u32>
     ensures { result ≡ spec.list_jump (items_of (words_of words.now) items.now) rest }
 {
     let mut found = rest;
@@ -103,7 +103,7 @@ fn list_jump(words: &Words, items: &[Syntax], rest: Option<u32>) -> Option<u32>
 }
 
 #[cycle(jumps)]
-fn switch_jump(words: &Words, x: &Syntax, rest: Option<u32>) -> Option<u32>
+fn switch_jump(words: &Words, x: &SyntaxNode, rest: Option<u32>) -> Option<u32>
     ensures { result ≡ spec.switch_jump (body_of (words_of words.now) x.now) rest }
 {
     match body_layer(words, x) {
@@ -114,7 +114,7 @@ fn switch_jump(words: &Words, x: &Syntax, rest: Option<u32>) -> Option<u32>
 
 #[cycle(jumps)]
 #[tactic(auto, using(crate::proofs::Nodes::items_back))]
-fn sections_jump(words: &Words, items: &[Syntax], rest: Option<u32>) -> Option<u32>
+fn sections_jump(words: &Words, items: &[SyntaxNode], rest: Option<u32>) -> Option<u32>
     ensures { result ≡ spec.sections_jump (items_of (words_of words.now) items.now) rest }
 {
     let mut found = rest;
@@ -129,7 +129,7 @@ fn sections_jump(words: &Words, items: &[Syntax], rest: Option<u32>) -> Option<u
 }
 
 #[cycle(jumps)]
-fn section_jump(words: &Words, x: &Syntax, rest: Option<u32>) -> Option<u32>
+fn section_jump(words: &Words, x: &SyntaxNode, rest: Option<u32>) -> Option<u32>
     ensures { result ≡ spec.section_jump (item_of (words_of words.now) x.now) rest }
 {
     match item_layer(words, x) {
@@ -139,7 +139,7 @@ fn section_jump(words: &Words, x: &Syntax, rest: Option<u32>) -> Option<u32>
     }
 }
 
-fn block_jump(words: &Words, x: &Syntax, rest: Option<u32>) -> Option<u32>
+fn block_jump(words: &Words, x: &SyntaxNode, rest: Option<u32>) -> Option<u32>
     ensures { result ≡ spec.block_jump (block_in (part_of (words_of words.now) x.now)) rest }
 {
     match block_layer(words, x) {
@@ -149,7 +149,7 @@ fn block_jump(words: &Words, x: &Syntax, rest: Option<u32>) -> Option<u32>
     }
 }
 
-fn top_jump(words: &Words, x: &Syntax, rest: Option<u32>) -> Option<u32>
+fn top_jump(words: &Words, x: &SyntaxNode, rest: Option<u32>) -> Option<u32>
     ensures { result ≡ spec.top_jump (top_of (words_of words.now) x.now) rest }
 {
     match top_layer(words, x) {
@@ -162,7 +162,7 @@ fn top_jump(words: &Words, x: &Syntax, rest: Option<u32>) -> Option<u32>
 }
 
 #[tactic(auto, using(crate::proofs::Nodes::tops_back))]
-fn tops_jump(words: &Words, nodes: &[Syntax]) -> Option<u32>
+fn tops_jump(words: &Words, nodes: &[SyntaxNode]) -> Option<u32>
     ensures { result ≡ spec.first_jump (map (top_of (words_of words.now)) nodes.now) }
 {
     let mut found = None;
@@ -176,7 +176,7 @@ fn tops_jump(words: &Words, nodes: &[Syntax]) -> Option<u32>
 
 /// The token of the first jump of a file, if it has one: of a `goto`, or of a case or default label that begins no
 /// section of a switch.
-pub fn first_jump(words: &Words, x: &Syntax) -> Option<u32>
+pub fn first_jump(words: &Words, x: &SyntaxNode) -> Option<u32>
     ensures { result ≡ spec.first_jump (file_of (words_of words.now) x.now) }
 {
     tops_jump(words, tops_of(words, x))

@@ -5,7 +5,7 @@ ghost use Rattle.c_parser.specs.Answers.{parsed};
 ghost use Rattle.tidy_refusal.specs.TextJumps as spec;
 
 use crate::first_jump;
-use c_grammar::Syntax;
+use c_grammar::SyntaxNode;
 use c_layers::Words;
 use c_lexer::{Scanned, Token, refusal_at, scan};
 use c_parser::parse;
@@ -26,7 +26,7 @@ fn offset_of(text: &[u8], tokens: &[Token], at: u32) -> u64
     }
 }
 
-fn jump_refusal(text: &[u8], tokens: &[Token], syntax: &Syntax) -> Option<Refusal>
+fn jump_refusal(text: &[u8], tokens: &[Token], syntax: &SyntaxNode) -> Option<Refusal>
     requires { All (λ token. IsWithin text.now token.start token.end) tokens.now }
     ensures { result ≡ spec.jump_refusal text.now tokens.now syntax.now }
 {

@@ -1,5 +1,4 @@
 use Rattle.std.proofs.Common.{◌≡◌, ◌++◌, ap, ◌∙◌}
-use Rattle.c_tree.specs.declared.tree.Section.{out-Section}
 use Rattle.c_copies.specs.Names.{expressions_names, option_names, test_names, selector_names, item_names, section_names, items_names, sections_names}
 use Rattle.c_copies.proofs.NameLemmas.{then_names, after_names, names_step, item_names-If, item_names-While, item_names-Do, item_names-For, item_names-Switch, section_names-is}
 use Rattle.c_copies.proofs.program_names.+add_items.Goals as goal

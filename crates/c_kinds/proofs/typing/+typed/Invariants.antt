@@ -1,5 +1,5 @@
 use Rattle.std.proofs.Common.{◌≡◌, ◌+◌, ◌-◌, ◌*◌, ◌++◌, drop}
-use Rattle.c_layers.specs.Views.{weight, weights}
+use Rattle.c_grammar.specs.Weights.{weight, weights}
 use Rattle.c_kinds.specs.Typing.{commas, unused_faults, given, given_faults}
 use Rattle.c_kinds.specs.Views.{env_of, terms}
 use Rattle.c_kinds.proofs.typing.+typed.Given as goal

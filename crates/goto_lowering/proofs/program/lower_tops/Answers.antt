@@ -2,7 +2,7 @@ use Rattle.std.proofs.Common.{◌≡◌, ℕ, List, [], sym, ap, ◌∙◌, subs
 use Rattle.std.specs.Vec.Iter.{into_iter_items}
 use Rattle.flat_names.specs.Gathered.{AreGathered}
 use Rattle.lower_laws.specs.Lowering.{tops_gotos}
-use Rattle.lowered_items.proofs.Moving.{emptied}
+use Rattle.lower_items.proofs.Moving.{emptied}
 use Rattle.goto_lowering.proofs.Tops.{Awaits, awaits_next, awaits_end}
 use Rattle.goto_lowering.proofs.program.lower_tops.Goals as goal
 

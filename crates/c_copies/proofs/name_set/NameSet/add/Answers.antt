@@ -1,6 +1,5 @@
-use Rattle.std.proofs.Common.{◌≡◌, map, ap, ◌∙◌}
+use Rattle.std.proofs.Common.{map, ap, ◌∙◌}
 use Rattle.std.specs.String.{string_bytes}
-use Rattle.c_copies.specs.Names.{with_name}
 use Rattle.c_copies.proofs.SetLemmas.{map-insert_key}
 use Rattle.c_copies.proofs.name_set.NameSet.add.Goals as goal
 

@@ -1,4 +1,3 @@
-use Rattle.std.proofs.Common.{◌≡◌}
 use Rattle.c_copies.proofs.SetLemmas.{list_any-has_name}
 use Rattle.c_copies.proofs.name_set.NameSet.contains.Goals as goal
 

@@ -1,5 +1,0 @@
-pub mod Classed
-pub mod Directives
-pub mod Formed
-pub mod CSourceLaws
-pub mod CLimitsLaws

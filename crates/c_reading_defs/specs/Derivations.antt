@@ -1,0 +1,53 @@
+-- Which tokens derive a file, and the first that is at fault.
+use Rattle.std.specs.Prelude.{◌≡◌, ℕ, List, [], ◌∷◌, ◌++◌, length, Option, Some, None}
+use Rattle.c_grammar.specs.declared.class.Class.{Class}
+use Rattle.c_grammar.specs.declared.class.Class.TheVariants as c
+use Rattle.c_grammar.specs.Derives.{NotBefore}
+use Rattle.c_layers.specs.Tops.{Top}
+use Rattle.c_reading_defs.specs.Entries.{Entry, classes_in, first_over}
+use Rattle.c_reading_defs.specs.DerivedTops.{IsFile}
+
+-- the tokens of entries, and the end behind them
+abbrev pub with_end : List Entry → List Class
+with_end xs = classes_in xs ++ c.End ∷ []
+
+-- the number of the first token that opens a level or counts past the limit
+abbrev pub first_too_many : List Entry → Option ℕ
+first_too_many xs = first_over 0 0 0 xs
+
+-- the tokens derive this file, within the limits
+pub record DeriveFile (tokens : List Class) (file : List Top) : Type 0 where
+  pub entries : List Entry
+  pub derives : IsFile 0 entries file
+  pub spelled : with_end entries ≡ tokens ++ c.End ∷ []
+  pub within : first_too_many entries ≡ None
+
+-- a list that the tokens of some file, with the end behind them, begin with
+pub record Viable (tokens : List Class) : Type 0 where
+  pub entries : List Entry
+  pub file : List Top
+  pub derives : IsFile 0 entries file
+  pub more : List Class
+  pub begins : with_end entries ≡ tokens ++ more
+
+-- token k is the first whose addition gives a list that isn't viable, and none before it is over a limit
+pub record IsUnexpected (tokens : List Class) (k : ℕ) : Type 0 where
+  pub front : List Class
+  pub token : Class
+  pub rest : List Class
+  pub split : tokens ≡ front ++ token ∷ rest
+  pub place : length front ≡ k
+  pub viable : Viable front
+  pub none : Viable (front ++ token ∷ []) → ⊥
+  -- in whichever file goes on from there, no token before k is over a limit
+  pub within : (v : Viable front) → NotBefore k (first_too_many v.entries)
+
+-- token k is the first that opens a level or counts past the limit, in each derivation that begins with the tokens up to it
+pub record IsTooMany (tokens : List Class) (k : ℕ) : Type 0 where
+  pub front : List Class
+  pub token : Class
+  pub rest : List Class
+  pub split : tokens ≡ front ++ token ∷ rest
+  pub place : length front ≡ k
+  pub viable : Viable (front ++ token ∷ [])
+  pub over : (v : Viable (front ++ token ∷ [])) → first_too_many v.entries ≡ Some k

@@ -1,0 +1,132 @@
+-- The items that statements are, each at its place (ISO/IEC 9899:2011, 6.8).
+use Rattle.std.specs.Prelude.{ℕ, cond, ◌||◌, List, [], ◌∷◌, ◌++◌, map, option_map}
+use Rattle.c_tree.specs.declared.tree.Item as item
+use Rattle.c_tree.specs.declared.tree.Section.{Section, out-Section}
+use Rattle.c_tree.specs.declared.tree.Selector as selector
+use Rattle.c_layers.specs.Items.{Declarator, Declaration, Label, Start, NoStart, StartValue, StartNames, Declares, States, Plain, From, Statement, Null, Evaluate, If, IfElse, While, DoWhile, For, Switch, Block, Goto, Break, Continue, Return, Unread, Body, Braces, Lone, Items, NoItem, Then, first_label}
+use Rattle.c_layers.specs.Items as items
+use Rattle.c_statements.specs.declared.extents.Kinded.{Kinded}
+use Rattle.c_statements.specs.declared.anchors.Anchor.TheVariants.{Before, AtEnd, AtSection}
+use Rattle.c_statements.specs.Declarations.{kinded, initial}
+use Rattle.c_statements.specs.Labels.{has_case, has_default}
+use Rattle.c_statements.specs.Sections.{Reading, ended, front, is_passing, with_labels}
+use Rattle.c_statements.specs.Statements.{is_null, begins}
+use Rattle.c_kinds.specs.Scopes.{Env}
+use Rattle.c_reading_defs.specs.Typings.{Typing}
+use Rattle.c_reading_defs.specs.Labels.{InFunction, notes_at, label_number}
+use Rattle.c_reading_defs.specs.Written.{dropped_at, labels_items, section_cases, section_marks, test_at, value_at}
+use Rattle.c_reading_defs.specs.Places.{Place, env_of, within, behind_name, behind_names, behind_start}
+use Rattle.c_reading_defs.specs.Behind.{each_behind}
+use Rattle.c_reading_defs.specs.Slots.{past_body, behind}
+
+-- the names at a place
+abbrev pub names : InFunction → Place → Env
+names f p = env_of f.word p
+
+-- a name is in scope in its own initialiser
+abbrev pub local : Typing → (ℕ → List ℕ) → Kinded → Declarator → Place → item.Item
+local typing word k d p = item.Local p.variables (initial (value_at typing (env_of word (behind_name word k d p))) d.value)
+
+-- one Local for each name, in order
+abbrev pub locals : Typing → (ℕ → List ℕ) → Kinded → List Declarator → Place → List item.Item
+locals typing word k ds p = each_behind (λ before d. local typing word k d (behind_names word k before p)) ds
+
+abbrev pub declaration_items : Typing → InFunction → Declaration → Place → List item.Item
+declaration_items typing f d p = locals typing f.word (kinded f.word d) d.names p
+
+-- with the Notes in front of it
+abbrev pub declares_items : Typing → InFunction → ℕ → Declaration → Place → List item.Item
+declares_items typing f first d p = notes_at f (Before first) ++ declaration_items typing f d p
+
+abbrev pub start_items : Typing → InFunction → Start → Place → List item.Item
+start_items typing f NoStart p = []
+start_items typing f (StartValue t) p = item.Evaluate (dropped_at typing (names f p) t) ∷ []
+start_items typing f (StartNames d) p = declaration_items typing f d p
+
+-- ---- the sections of a switch
+
+-- the items of a list in front of its first section, and its sections
+pub record Parted : Type 0 where
+  pub outside : List item.Item
+  pub sections : List Reading
+
+-- with these items in front
+abbrev pub preceded : List item.Item → Parted → Parted
+preceded xs rest = record { outside = xs ++ rest.outside; sections = rest.sections }
+
+-- a section with these labels, which begins with these items
+abbrev pub headed : Typing → InFunction → Place → List Label → List item.Item → Parted → Parted
+headed typing f p ls xs rest = record {
+  outside = [];
+  sections = record { cases = section_cases typing (names f p) ls; default = has_default ls; list = (notes_at f (AtSection (first_label ls)) ++ section_marks f ls ++ xs) ++ rest.outside } ∷ rest.sections;
+}
+
+-- a section in front of these: one with an empty list and no end gives its cases and its default to the next, if there is one
+abbrev pub in_front : Section → List Section → List Section
+in_front s [] = s ∷ []
+in_front s (t ∷ ts) = cond (is_passing s) (with_labels (out-Section s).cases (out-Section s).default t ∷ ts) (s ∷ t ∷ ts)
+
+abbrev pub passed_on : List Section → List Section
+passed_on [] = []
+passed_on (s ∷ ss) = in_front s (passed_on ss)
+
+-- ---- items
+
+abbrev mutual
+  pub item_items : Typing → InFunction → items.Item → Place → List item.Item
+  item_items typing f (Declares first after d) p = declares_items typing f first d p
+  item_items typing f (States ls s) p = labels_items typing f (names f p) ls ++ plain_items typing f s p
+
+  pub plain_items : Typing → InFunction → Plain → Place → List item.Item
+  plain_items typing f (From first after s) p = notes_at f (Before first) ++ statement_items typing f s p
+
+  -- a null statement is no item
+  pub statement_items : Typing → InFunction → Statement → Place → List item.Item
+  statement_items typing f Null p = []
+  statement_items typing f (Evaluate t) p = item.Evaluate (dropped_at typing (names f p) t) ∷ []
+  statement_items typing f (If t b) p = item.If (test_at typing (names f p) t) (body_items typing f b p) [] ∷ []
+  statement_items typing f (IfElse t b c) p = item.If (test_at typing (names f p) t) (body_items typing f b p) (body_items typing f c (past_body typing f.word b p)) ∷ []
+  statement_items typing f (While t b) p = item.While (test_at typing (names f p) t) (body_items typing f b p) ∷ []
+  statement_items typing f (DoWhile b t) p = item.Do (body_items typing f b p) (test_at typing (names f p) t) ∷ []
+  statement_items typing f (For start t u b) p =
+      let inner = behind_start f.word start (within p) in
+      item.For (start_items typing f start (within p)) (option_map (value_at typing (names f inner)) t) (option_map (dropped_at typing (names f inner)) u) (body_items typing f b inner) ∷ []
+  statement_items typing f (Switch t b) p = item.Switch (selector.Source (value_at typing (names f p) t)) (passed_on (switch_sections typing f b p)) ∷ []
+  statement_items typing f (Block b) p = item.Block (body_items typing f b p) ∷ []
+  statement_items typing f (Goto at) p = item.Goto (label_number f.labels (f.word at)) ∷ []
+  statement_items typing f Break p = item.Break ∷ []
+  statement_items typing f Continue p = item.Continue ∷ []
+  statement_items typing f (Return t) p = item.Return (option_map (value_at typing (names f p)) t) ∷ []
+  statement_items typing f Unread p = []
+
+  pub body_items : Typing → InFunction → Body → Place → List item.Item
+  body_items typing f (Braces first after xs) p = list_items typing f xs (within p) ++ notes_at f (AtEnd first)
+  body_items typing f (Lone first after x) p = item_items typing f x (within p) ++ notes_at f (AtEnd first)
+
+  pub list_items : Typing → InFunction → Items → Place → List item.Item
+  list_items typing f NoItem p = []
+  list_items typing f (Then x xs) p = item_items typing f x p ++ list_items typing f xs (behind typing f.word x p)
+
+  -- the sections of a switch, and what stands in front of them
+  pub switch_sections : Typing → InFunction → Body → Place → List Section
+  switch_sections typing f (Braces first after xs) p = front (outside_items typing f xs (within p)) ++ map ended (parts typing f xs (notes_at f (AtEnd first)) (within p)).sections
+  switch_sections typing f (Lone first after x) p = front (outside_item typing f x (within p)) ++ map ended (part typing f x (record { outside = notes_at f (AtEnd first); sections = [] }) (within p)).sections
+
+  -- up to the first section; null statements are left out
+  pub outside_items : Typing → InFunction → Items → Place → List item.Item
+  outside_items typing f NoItem p = []
+  outside_items typing f (Then x xs) p = cond (begins x) [] (outside_item typing f x p ++ outside_items typing f xs (behind typing f.word x p))
+
+  pub outside_item : Typing → InFunction → items.Item → Place → List item.Item
+  outside_item typing f (Declares first after d) p = declares_items typing f first d p
+  outside_item typing f (States ls s) p = cond (has_case ls || is_null ls s) [] (labels_items typing f (names f p) ls ++ plain_items typing f s p)
+
+  -- a list that ends with these Notes
+  pub parts : Typing → InFunction → Items → List item.Item → Place → Parted
+  parts typing f NoItem notes p = record { outside = notes; sections = [] }
+  parts typing f (Then x xs) notes p = part typing f x (parts typing f xs notes (behind typing f.word x p)) p
+
+  -- an item in front of these
+  pub part : Typing → InFunction → items.Item → Parted → Place → Parted
+  part typing f (Declares first after d) rest p = preceded (declares_items typing f first d p) rest
+  part typing f (States ls s) rest p = cond (has_case ls) (headed typing f p ls (plain_items typing f s p) rest) (preceded (labels_items typing f (names f p) ls ++ plain_items typing f s p) rest)

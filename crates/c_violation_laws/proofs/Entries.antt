@@ -1,0 +1,251 @@
+-- The case and default labels of a switch, and what a walk finds at them.
+use Rattle.std.proofs.Common.{◌≡◌, ◌⊎◌, inl, inr, ℕ, Bool, true, false, ◌||◌, List, [], ◌∷◌, ◌++◌, Option, Some, None, refl, sym, ap, subst, ◌∙◌, append_assoc, arith, true≢false}
+use Rattle.std.proofs.lemmas.Bool.{or_cases, or_left, or_right}
+use Rattle.std.specs.Prelude.{ℤ, ◌<ℤ◌}
+use Rattle.std.specs.Cmp.{int_ranks}
+use Rattle.std.specs.declared.cmp.Ordering.{Ordering}
+use Rattle.std.specs.declared.cmp.Ordering.TheVariants.{Less, Equal, Greater}
+use Rattle.std.specs.Ordering.{int_cmp, is_eq, match_ordering, MatchOrdering}
+use Rattle.std.proofs.lemmas.Int.{ints}
+use Rattle.c_types.specs.declared.kinds.IntKind.{IntKind}
+use Rattle.c_types.specs.Numbers.{promoted, converted}
+use Rattle.c_tree.specs.declared.tree.Expression.{Expression}
+use Rattle.c_layers.specs.Items.{Label, Named, Case, Default, Item, Declares, States, Plain, From, Statement, Null, Evaluate, If, IfElse, While, DoWhile, For, Switch, Block, Goto, Break, Continue, Return, Unread, Body, Braces, Lone, Items, NoItem, Then}
+use Rattle.c_kinds.specs.declared.typed.Fault.{Fault}
+use Rattle.c_kinds.specs.Constants.{constant_of}
+use Rattle.c_kinds.specs.Scopes.{fault_if}
+use Rattle.c_kinds.specs.Typing.{typed}
+use Rattle.c_statements.specs.declared.entries.Entry.{Entry}
+use Rattle.c_statements.specs.declared.entries.Entry.TheVariants.{Value, Other}
+use Rattle.c_statements.specs.Context.{Context, Walk, env_at, enter}
+use Rattle.c_statements.specs.Statements.{behind_start, behind_item, behind_body}
+use Rattle.c_statements.specs.Cases as walked
+use Rattle.c_statements.specs.Cases.{is_among, with_value, entry_faults, default_faults, switch_faults}
+use Rattle.c_violation_laws.proofs.Behind.{Behind, finds_behind}
+use Rattle.c_reading_defs.specs.Places.{Place, env_of, within}
+use Rattle.c_reading_defs.specs.Slots.{past_body, behind}
+use Rattle.c_reading_defs.specs.Places as places
+use Rattle.c_reading_defs.specs.Switches.{case_entry, label_entries, item_entries, plain_entries, statement_entries, body_entries, list_entries, HasCase, HasDefault, EntryBreaks, EntriesBreak}
+use Rattle.c_reading_defs.specs.Violations.{broken}
+use Rattle.c_violation_laws.specs.Finds.{Finds}
+use Rattle.c_violation_laws.proofs.Finding.{finds_none, finds_both, finds_same, finds_if}
+use Rattle.c_violation_laws.proofs.Standing.{Stands, stands_item, stands_start, stands_body, stands_within}
+use Rattle.c_violation_laws.proofs.AlikeTerms.{typed_alike}
+
+-- ---- they are those by places
+
+append_none : (es : List Entry) → es ≡ es ++ []
+append_none [] = refl
+append_none (e ∷ es) = ap (λ x. e ∷ x) (append_none es)
+
+module _ (ctx : Context) where
+  labelled : (w : Walk) (p : Place) → Stands w p → (ls : List Label) (found : List Entry) → walked.label_entries (env_at ctx w) ls found ≡ found ++ label_entries typed (env_of ctx.word p) ls
+  labelled w p s [] found = append_none found
+  labelled w p s (Named at after ∷ ls) found = labelled w p s ls found
+  labelled w p s (Default at after ∷ ls) found = labelled w p s ls (found ++ Other at ∷ []) ∙ append_assoc found (Other at ∷ []) (label_entries typed (env_of ctx.word p) ls)
+  labelled w p s (Case at after t ∷ ls) found =
+      ap (λ x. walked.label_entries (env_at ctx w) ls (walked.case_entry at (constant_of x) found)) (typed_alike ctx.word w.scopes p.scopes s.maps t)
+      ∙ by (constant_of (typed (env_of ctx.word p) t)) (λ f. labelled w p s ls f)
+    where
+      by : (o : Option (Expression × ℤ)) → ((f : List Entry) → walked.label_entries (env_at ctx w) ls f ≡ f ++ label_entries typed (env_of ctx.word p) ls)
+          → walked.label_entries (env_at ctx w) ls (walked.case_entry at o found) ≡ found ++ (case_entry at o ++ label_entries typed (env_of ctx.word p) ls)
+      by (Some c) f = f (found ++ Value at c.1 ∷ []) ∙ append_assoc found (Value at c.1 ∷ []) (label_entries typed (env_of ctx.word p) ls)
+      by None f = f found
+
+  mutual
+    item : (x : Item) (w : Walk) (p : Place) → Stands w p → (found : List Entry) → walked.item_entries ctx x w found ≡ found ++ item_entries typed ctx.word p x
+    item (Declares first after d) w p s found = append_none found
+    item (States ls x) w p s found =
+        plain x w p s (walked.label_entries (env_at ctx w) ls found)
+        ∙ ap (λ f. f ++ plain_entries typed ctx.word p x) (labelled w p s ls found)
+        ∙ append_assoc found (label_entries typed (env_of ctx.word p) ls) (plain_entries typed ctx.word p x)
+
+    plain : (x : Plain) (w : Walk) (p : Place) → Stands w p → (found : List Entry) → walked.plain_entries ctx x w found ≡ found ++ plain_entries typed ctx.word p x
+    plain (From first after x) w p s found = statement x w p s found
+
+    statement : (x : Statement) (w : Walk) (p : Place) → Stands w p → (found : List Entry) → walked.statement_entries ctx x w found ≡ found ++ statement_entries typed ctx.word p x
+    statement (If t b) w p s found = body b w p s found
+    statement (IfElse t b c) w p s found =
+        body c (behind_body ctx b w) (past_body typed ctx.word b p) (stands_body ctx b w p s) (walked.body_entries ctx b w found)
+        ∙ ap (λ f. f ++ body_entries typed ctx.word (past_body typed ctx.word b p) c) (body b w p s found)
+        ∙ append_assoc found (body_entries typed ctx.word p b) (body_entries typed ctx.word (past_body typed ctx.word b p) c)
+    statement (While t b) w p s found = body b w p s found
+    statement (DoWhile b t) w p s found = body b w p s found
+    statement (For start t u b) w p s found =
+        body b (behind_start ctx start (enter w)) (places.behind_start ctx.word start (within p)) (stands_start ctx start (enter w) (within p) (stands_within w p s)) found
+    statement (Block b) w p s found = body b w p s found
+    statement Null w p s found = append_none found
+    statement (Evaluate t) w p s found = append_none found
+    statement (Switch t b) w p s found = append_none found
+    statement (Goto at) w p s found = append_none found
+    statement Break w p s found = append_none found
+    statement Continue w p s found = append_none found
+    statement (Return t) w p s found = append_none found
+    statement Unread w p s found = append_none found
+
+    pub body : (b : Body) (w : Walk) (p : Place) → Stands w p → (found : List Entry) → walked.body_entries ctx b w found ≡ found ++ body_entries typed ctx.word p b
+    body (Braces first after xs) w p s found = list xs (enter w) (within p) (stands_within w p s) found
+    body (Lone first after x) w p s found = item x (enter w) (within p) (stands_within w p s) found
+
+    list : (xs : Items) (w : Walk) (p : Place) → Stands w p → (found : List Entry) → walked.list_entries ctx xs w found ≡ found ++ list_entries typed ctx.word p xs
+    list NoItem w p s found = append_none found
+    list (Then x xs) w p s found =
+        list xs (behind_item ctx x w) (behind typed ctx.word x p) (stands_item ctx x w p s) (walked.item_entries ctx x w found)
+        ∙ ap (λ f. f ++ list_entries typed ctx.word (behind typed ctx.word x p) xs) (item x w p s found)
+        ∙ append_assoc found (item_entries typed ctx.word p x) (list_entries typed ctx.word (behind typed ctx.word x p) xs)
+
+-- ---- numbers that were seen
+
+itself : (q : ℤ) → is_eq (int_cmp q q) ≡ true
+itself q = by (int_cmp q q) (int_ranks q q)
+  where
+    by : (o : Ordering) → MatchOrdering o (q <ℤ q) (q ≡ q) (q <ℤ q) → is_eq o ≡ true
+    by Less m = grind (arith, ints)
+    by Equal m = refl
+    by Greater m = grind (arith, ints)
+
+equal_is : (v x : ℤ) (o : Ordering) → MatchOrdering o (v <ℤ x) (v ≡ x) (x <ℤ v) → is_eq o ≡ true → v ≡ x
+equal_is v x Equal m e = m
+equal_is v x Less m e = absurd (true≢false (sym e))
+equal_is v x Greater m e = absurd (true≢false (sym e))
+
+is_equal : (q v : ℤ) → is_eq (int_cmp q v) ≡ true → q ≡ v
+is_equal q v e = equal_is q v (int_cmp q v) (int_ranks q v) e
+
+equal_same : (q v : ℤ) → q ≡ v → is_eq (int_cmp q v) ≡ true
+equal_same q v e = subst (λ z. is_eq (int_cmp q z) ≡ true) e (itself q)
+
+turned : (a b c : Bool) → (a || (b || c)) ≡ (b || (a || c))
+turned true true c = refl
+turned true false c = refl
+turned false true c = refl
+turned false false c = refl
+
+doubled : (a c : Bool) → (a || c) ≡ (a || (a || c))
+doubled true c = refl
+doubled false c = refl
+
+-- a number is among these and one more
+among_more : (q v : ℤ) (seen : List ℤ) → is_among q (with_value v seen) ≡ (is_eq (int_cmp q v) || is_among q seen)
+among_more q v [] = refl
+among_more q v (x ∷ xs) = by (int_cmp v x) refl (among_more q v xs)
+  where
+    by : (o : Ordering) → int_cmp v x ≡ o → is_among q (with_value v xs) ≡ (is_eq (int_cmp q v) || is_among q xs) → is_among q (match_ordering o (v ∷ x ∷ xs) (x ∷ xs) (x ∷ with_value v xs)) ≡ (is_eq (int_cmp q v) || is_among q (x ∷ xs))
+    by Less i r = refl
+    by Equal i r =
+        let same : v ≡ x = is_equal v x (ap is_eq i) in
+        doubled (is_eq (int_cmp q x)) (is_among q xs) ∙ ap (λ z. is_eq (int_cmp q z) || is_among q (x ∷ xs)) (sym same)
+    by Greater i r = ap (λ b. is_eq (int_cmp q x) || b) r ∙ turned (is_eq (int_cmp q x)) (is_eq (int_cmp q v)) (is_among q xs)
+
+-- ---- what is found at them
+
+module _ (kind : IntKind) where
+  abbrev K : ℤ → ℤ
+  K n = converted (promoted kind) n
+
+  -- the numbers of the cases among these labels, and whether there is a default
+  record Seen (before : List Entry) (seen : List ℤ) (default : Bool) : Type 0 where
+    cases : (n : ℤ) → is_among (K n) seen ≡ true → HasCase (promoted kind) n before
+    back : (n : ℤ) → HasCase (promoted kind) n before → is_among (K n) seen ≡ true
+    other : default ≡ true → HasDefault before
+    other_back : HasDefault before → default ≡ true
+
+  case_more : (n : ℤ) (before : List Entry) (e : Entry) → HasCase (promoted kind) n (before ++ e ∷ []) → HasCase (promoted kind) n before ⊎ HasCase (promoted kind) n (e ∷ [])
+  case_more n [] e h = inr h
+  case_more n (Value at m ∷ es) e (inl p) = inl (inl p)
+  case_more n (Value at m ∷ es) e (inr h) = elim (case_more n es e h) [ inl a ↦ inl (inr a) | inr b ↦ inr b ]
+  case_more n (Other at ∷ es) e h = case_more n es e h
+
+  more_case : (n : ℤ) (before : List Entry) (e : Entry) → HasCase (promoted kind) n before ⊎ HasCase (promoted kind) n (e ∷ []) → HasCase (promoted kind) n (before ++ e ∷ [])
+  more_case n [] e (inl h) = absurd h
+  more_case n [] e (inr h) = h
+  more_case n (Value at m ∷ es) e (inl (inl p)) = inl p
+  more_case n (Value at m ∷ es) e (inl (inr h)) = inr (more_case n es e (inl h))
+  more_case n (Value at m ∷ es) e (inr h) = inr (more_case n es e (inr h))
+  more_case n (Other at ∷ es) e h = more_case n es e h
+
+default_more : (before : List Entry) (e : Entry) → HasDefault (before ++ e ∷ []) → HasDefault before ⊎ HasDefault (e ∷ [])
+default_more [] e h = inr h
+default_more (Value at m ∷ es) e h = default_more es e h
+default_more (Other at ∷ es) e h = inl tt
+
+more_default : (before : List Entry) (e : Entry) → HasDefault before ⊎ HasDefault (e ∷ []) → HasDefault (before ++ e ∷ [])
+more_default [] e (inl h) = absurd h
+more_default [] e (inr h) = h
+more_default (Value at m ∷ es) e h = more_default es e h
+more_default (Other at ∷ es) e h = tt
+
+module _ (kind : IntKind) where
+  seen_value : (before : List Entry) (seen : List ℤ) (default : Bool) (at : ℕ) (m : ℤ) → Seen kind before seen default → Seen kind (before ++ Value at m ∷ []) (with_value (K kind m) seen) default
+  seen_value before seen default at m s = record {
+    cases = λ n e. more_case kind n before (Value at m) (elim (or_cases (is_eq (int_cmp (K kind n) (K kind m))) (is_among (K kind n) seen) (sym (among_more (K kind n) (K kind m) seen) ∙ e)) [
+      | inl g ↦ inr (inl (is_equal (K kind n) (K kind m) g))
+      | inr g ↦ inl (s.cases n g)
+    ]);
+    back = λ n h. among_more (K kind n) (K kind m) seen ∙ elim (case_more kind n before (Value at m) h) [
+      | inl a ↦ or_right (is_eq (int_cmp (K kind n) (K kind m))) (is_among (K kind n) seen) (s.back n a)
+      | inr b ↦ or_left (is_eq (int_cmp (K kind n) (K kind m))) (is_among (K kind n) seen) (elim b [ inl g ↦ equal_same (K kind n) (K kind m) g | inr g ↦ absurd g ])
+    ];
+    other = λ e. more_default before (Value at m) (inl (s.other e));
+    other_back = λ h. elim (default_more before (Value at m) h) [ inl a ↦ s.other_back a | inr b ↦ absurd b ];
+  }
+
+  seen_other : (before : List Entry) (seen : List ℤ) (default : Bool) (at : ℕ) → Seen kind before seen default → Seen kind (before ++ Other at ∷ []) seen true
+  seen_other before seen default at s = record {
+    cases = λ n e. more_case kind n before (Other at) (inl (s.cases n e));
+    back = λ n h. elim (case_more kind n before (Other at) h) [ inl a ↦ s.back n a | inr b ↦ absurd b ];
+    other = λ e. more_default before (Other at) (inr tt);
+    other_back = λ h. refl;
+  }
+
+  some_kind : (j : IntKind) → Some kind ≡ Some j → kind ≡ j
+  some_kind j e = cc
+
+  entries : (es before : List Entry) (seen : List ℤ) (default : Bool) → Seen kind before seen default
+      → Finds (entry_faults (promoted kind) seen default es) (λ v. Behind (λ b e. EntryBreaks (Some kind) b e v) before es)
+  entries [] before seen default s = finds_none
+  entries (Value at n ∷ es) before seen default s =
+      finds_both (fault_if (is_among (K kind n) seen) at 30) (entry_faults (promoted kind) (with_value (K kind n) seen) default es) _ _
+      (finds_same (fault_if (is_among (K kind n) seen) at 30) _ (λ v. EntryBreaks (Some kind) before (Value at n) v) (finds_if (is_among (K kind n) seen) at 30)
+      (λ v p. subst (EntryBreaks (Some kind) before (Value at n)) (sym p.1) (EntryBreaks.equal_cases kind refl (s.cases n p.0))) fro)
+      (entries es (before ++ Value at n ∷ []) (with_value (K kind n) seen) default (seen_value before seen default at n s))
+    where
+      fro : (v : Fault) → EntryBreaks (Some kind) before (Value at n) v → (is_among (K kind n) seen ≡ true) × (v ≡ broken at 30)
+      fro v (EntryBreaks.equal_cases j e h) = (s.back n (subst (λ k. HasCase (promoted k) n before) (sym (some_kind j e)) h), refl)
+  entries (Other at ∷ es) before seen default s =
+      finds_both (fault_if default at 31) (entry_faults (promoted kind) seen true es) _ _
+      (finds_same (fault_if default at 31) _ (λ v. EntryBreaks (Some kind) before (Other at) v) (finds_if default at 31)
+      (λ v p. subst (EntryBreaks (Some kind) before (Other at)) (sym p.1) (EntryBreaks.second_default (s.other p.0))) fro)
+      (entries es (before ++ Other at ∷ []) seen true (seen_other before seen default at s))
+    where
+      fro : (v : Fault) → EntryBreaks (Some kind) before (Other at) v → (default ≡ true) × (v ≡ broken at 31)
+      fro v (EntryBreaks.second_default h) = (s.other_back h, refl)
+
+  seen_none : Seen kind [] [] false
+  seen_none = record { cases = λ n e. true≢false (sym e); back = λ n h. absurd h; other = λ e. true≢false (sym e); other_back = λ h. absurd h }
+
+-- of a selector without a value, defaults alone
+defaults : (es before : List Entry) (default : Bool) → (default ≡ true → HasDefault before) → (HasDefault before → default ≡ true)
+    → Finds (default_faults default es) (λ v. Behind (λ b e. EntryBreaks None b e v) before es)
+defaults [] before default f g = finds_none
+defaults (Value at n ∷ es) before default f g =
+    finds_both (λ vs. vs) (default_faults default es) _ _ (finds_same (λ vs. vs) (λ v. ⊥) (λ v. EntryBreaks None before (Value at n) v) finds_none (λ v h. absurd h) fro)
+    (defaults es (before ++ Value at n ∷ []) default (λ e. more_default before (Value at n) (inl (f e))) (λ h. elim (default_more before (Value at n) h) [ inl a ↦ g a | inr b ↦ absurd b ]))
+  where
+    no_kind : (j : IntKind) → None ≡ Some j → ⊥
+    no_kind j e = cc
+
+    fro : (v : Fault) → EntryBreaks None before (Value at n) v → ⊥
+    fro v (EntryBreaks.equal_cases j e h) = no_kind j e
+defaults (Other at ∷ es) before default f g =
+    finds_both (fault_if default at 31) (default_faults true es) _ _
+    (finds_same (fault_if default at 31) _ (λ v. EntryBreaks None before (Other at) v) (finds_if default at 31)
+    (λ v p. subst (EntryBreaks None before (Other at)) (sym p.1) (EntryBreaks.second_default (f p.0))) fro)
+    (defaults es (before ++ Other at ∷ []) true (λ e. more_default before (Other at) (inr tt)) (λ h. refl))
+  where
+    fro : (v : Fault) → EntryBreaks None before (Other at) v → (default ≡ true) × (v ≡ broken at 31)
+    fro v (EntryBreaks.second_default h) = (g h, refl)
+
+pub switch_entries : (selector : Option IntKind) (es : List Entry) → Finds (switch_faults selector es) (λ v. EntriesBreak selector es v)
+switch_entries (Some kind) es = finds_behind (switch_faults (Some kind) es) (λ v b e. EntryBreaks (Some kind) b e v) es (entries kind es [] [] false (seen_none kind))
+switch_entries None es = finds_behind (switch_faults None es) (λ v b e. EntryBreaks None b e v) es (defaults es [] false (λ e. absurd (true≢false (sym e))) (λ h. absurd h))

@@ -1,0 +1,7 @@
+-- The laws of this crate.
+use Rattle.c_violation_laws.specs.ProgramLaws.{ProgramLaws}
+use Rattle.c_violation_laws.proofs.Programs.{program_same}
+use Rattle.c_violation_laws.proofs.SameFunctions.{program_written, violation_written}
+
+pub program_laws : ProgramLaws
+program_laws = record { same = program_same; written = program_written; violation = violation_written }

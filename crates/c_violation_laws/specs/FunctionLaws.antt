@@ -1,0 +1,12 @@
+-- What the function of this crate states: the walk over a function finds the rules that are broken in it.
+use Rattle.std.specs.Prelude.{ℕ, List}
+use Rattle.c_layers.specs.Tops.{Function}
+use Rattle.c_kinds.specs.Scopes.{Scope}
+use Rattle.c_statements.specs.declared.anchors.Anchor.{Anchor}
+use Rattle.c_statements.specs.Functions.{FlatCounts, function_faults}
+use Rattle.c_kinds.specs.Typing.{typed}
+use Rattle.c_reading_defs.specs.Functions.{FunctionBreaks}
+use Rattle.c_violation_laws.specs.Finds.{Finds}
+
+abbrev pub FunctionLaws : Type 0
+FunctionLaws = (flat : FlatCounts) (word : ℕ → List ℕ) (notes : Anchor → List (List ℕ)) (f : Function) (ss : List Scope) → Finds (function_faults flat word notes f ss) (λ v. FunctionBreaks typed flat word notes f ss v)

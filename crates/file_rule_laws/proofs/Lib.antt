@@ -1,3 +1,0 @@
-pub mod FileScope
-pub mod FunctionNames
-pub mod TheLaws

@@ -1,7 +1,0 @@
-pub mod Lookups
-pub mod Formats
-pub mod Calls
-pub mod Meanings
-pub mod Constants
-pub mod Typings
-pub mod TheLaws

@@ -1,4 +1,0 @@
-pub mod Scopes
-pub mod AlikeTerms
-pub mod Standing
-pub mod FileStanding
