@@ -13,15 +13,25 @@ fn syntax(alloc: Global, text: &[u8]) -> Result<SyntaxNode, ReadStop> {
     parse(alloc, text, &tokens)
 }
 
-/// The rule, the first token and the number of parts of the node to which these parts lead, with the innermost rule of
-/// those that are kept as one.
-fn node_at(file: &SyntaxNode, path: &[usize]) -> Option<(Production, Production, u32, usize)> {
+/// What a node says: its outermost and its innermost rule, its first token, and how many parts it has.
+type Said = (Production, Production, u32, usize);
+
+/// What the node says to which these parts lead.
+fn node_at(file: &SyntaxNode, path: &[usize]) -> Option<Said> {
     let mut node = file;
     for at in path {
         node = node.opened().parts.get(*at)?;
     }
     let node = node.opened();
     Some((node.top, node.base, node.first, node.parts.len()))
+}
+
+/// What the node says to which these parts of a text's syntax lead.
+fn said_at(alloc: Global, text: &[u8], path: &[usize]) -> Result<Option<Said>, ReadStop> {
+    let file = syntax(alloc, text)?;
+    let said = node_at(&file, path);
+    drop(file);
+    Ok(said)
 }
 
 /// `before`, the bytes that many times, `after`.
@@ -107,39 +117,35 @@ fn knows_the_limits(rt: HostRuntime) -> Result<(), Fail> {
 
 #[test]
 fn gives_the_syntax(rt: HostRuntime) -> Result<(), Fail> {
-    let alloc = rt.alloc();
-    let empty = syntax(alloc, b"")?;
-    assert_eq!(rt;
-        node_at(&empty, &[]),
-        Some((Production::File, Production::File, 0, 0))
-    );
-    // The nearest `if` has the `else`.
-    let file = syntax(alloc, b"int f(void) { if (1) if (2) ; else ; }")?;
-    assert_eq!(rt;
-        node_at(&file, &[0, 5, 1, 0]),
-        Some((Production::Plain, Production::Plain, 6, 5))
-    );
-    assert_eq!(rt;
-        node_at(&file, &[0, 5, 1, 0, 4, 0]),
-        Some((Production::Plain, Production::Plain, 10, 7))
-    );
-    // A type in brackets is a cast.
-    let file = syntax(alloc, b"int y = (int)(x);")?;
-    assert_eq!(rt;
-        node_at(&file, &[0, 0, 1, 2, 0]),
-        Some((Production::Assignment, Production::Unary, 3, 4))
-    );
-    // A target in brackets is one.
-    let file = syntax(alloc, b"int f(void) { ((a)) = 1; }")?;
-    assert_eq!(rt;
-        node_at(&file, &[0, 5, 1, 0, 0, 0, 1]),
-        Some((Production::Target, Production::Target, 7, 3))
-    );
-    // A list may end with a comma.
-    let file = syntax(alloc, b"int x[] = {1, 2,};")?;
-    assert_eq!(rt;
-        node_at(&file, &[0, 0, 1, 4]),
-        Some((Production::Initialiser, Production::Initialiser, 5, 6))
-    );
+    use Production::{Assignment, File, Initialiser, Plain, Target, Unary};
+    let nested: &[u8] = b"int f(void) { if (1) if (2) ; else ; }";
+    let nodes: [(&[u8], &[usize], Said); 6] = [
+        (b"", &[], (File, File, 0, 0)),
+        // The nearest `if` has the `else`.
+        (nested, &[0, 5, 1, 0], (Plain, Plain, 6, 5)),
+        (nested, &[0, 5, 1, 0, 4, 0], (Plain, Plain, 10, 7)),
+        // A type in brackets is a cast.
+        (
+            b"int y = (int)(x);",
+            &[0, 0, 1, 2, 0],
+            (Assignment, Unary, 3, 4),
+        ),
+        // A target in brackets is one.
+        (
+            b"int f(void) { ((a)) = 1; }",
+            &[0, 5, 1, 0, 0, 0, 1],
+            (Target, Target, 7, 3),
+        ),
+        // A list may end with a comma.
+        (
+            b"int x[] = {1, 2,};",
+            &[0, 0, 1, 4],
+            (Initialiser, Initialiser, 5, 6),
+        ),
+    ];
+    for (text, path, want) in nodes {
+        let said = said_at(rt.alloc(), text, path)?;
+        assert_eq!(rt; said, Some(want));
+    }
     Ok(())
 }
