@@ -37,13 +37,14 @@ def said_of(crate: str) -> str:
 
 
 def table_of_crates() -> str:
-    """The table of what each crate holds, in the order of crates.txt."""
-    return "\n".join(["| crate | what it holds |", "|---|---|", *(f"| {it} | {said_of(it)} |" for it in crates())])
+    """The table of what each crate holds, stage by stage; in a stage in the order of crates.txt."""
+    rows = (f"| {stage if it == names[0] else ''} | {it} | {said_of(it)} |" for stage, names in stages().items() for it in names)
+    return "\n".join(["| stage | crate | what it holds |", "|---|---|---|", *rows])
 
 
 def stages() -> dict[str, list[str]]:
     """The crates of each stage, lowest first, in the order of the table of stages."""
     order = list(crates())
     table = re.findall(r"^\| \*\*(.+?)\*\* \| (.*?) \|", text_of("docs/ARCHITECTURE.md"), re.M)
-    named = {stage: set(re.findall(r"\w+", cell)) for stage, cell in table}
+    named = {stage: set(re.findall(r"\w+", re.sub(r"\(.*?\)", "", cell))) for stage, cell in table}
     return {stage: [it for it in order if it in names] for stage, names in named.items()}
