@@ -94,6 +94,17 @@ end: return 0; }";
 }
 
 // What a carriage return, a `/*` and a `//` on a line of their own don't refuse.
+/// Where the first token ends, or the first comment of a text without tokens; 0 where it has neither.
+fn first_end(scanned: &Scanned) -> u64 {
+    match scanned.tokens.as_slice() {
+        [token, ..] => token.end,
+        [] => match scanned.comments.as_slice() {
+            [comment, ..] => comment.end,
+            [] => 0,
+        },
+    }
+}
+
 #[test]
 fn reads_lines_as_compilers_do(rt: HostRuntime) -> Result<(), Fail> {
     let lines: [(&[u8], u64); 8] = [
@@ -108,11 +119,7 @@ fn reads_lines_as_compilers_do(rt: HostRuntime) -> Result<(), Fail> {
     ];
     for (text, end) in lines {
         let found = scan(rt.alloc(), text)?;
-        let last = match found.tokens.as_slice() {
-            [] => found.comments.as_slice()[0].end,
-            [token, ..] => token.end,
-        };
-        assert_eq!(rt; last, end);
+        assert_eq!(rt; first_end(&found), end);
     }
     Ok(())
 }
