@@ -1,26 +1,21 @@
 -- Which tokens derive a file, and the first that is at fault.
-use Rattle.std.specs.Prelude.{◌≡◌, ℕ, List, [], ◌∷◌, ◌++◌, length, Option, Some, None}
+use Rattle.std.specs.Prelude.{◌≡◌, ◌<◌, ℕ, List, [], ◌∷◌, ◌++◌, length}
 use Rattle.c_grammar.specs.declared.class.Class.{Class}
 use Rattle.c_grammar.specs.declared.class.Class.TheVariants as c
-use Rattle.c_grammar.specs.Derives.{NotBefore}
 use Rattle.c_layers.specs.Tops.{Top}
-use Rattle.c_reading_defs.specs.Entries.{Entry, classes_in, first_over}
+use Rattle.c_reading_defs.specs.Entries.{Entry, classes_in, IsOver}
 use Rattle.c_reading_defs.specs.DerivedTops.{IsFile}
 
 -- the tokens of entries, and the end behind them
 abbrev pub with_end : List Entry → List Class
 with_end xs = classes_in xs ++ c.End ∷ []
 
--- the number of the first token that opens a level or counts past the limit
-abbrev pub first_too_many : List Entry → Option ℕ
-first_too_many xs = first_over 0 0 0 xs
-
 -- the tokens derive this file, within the limits
 pub record DeriveFile (tokens : List Class) (file : List Top) : Type 0 where
   pub entries : List Entry
   pub derives : IsFile 0 entries file
   pub spelled : with_end entries ≡ tokens ++ c.End ∷ []
-  pub within : first_too_many entries ≡ None
+  pub within : (k : ℕ) → IsOver entries k → ⊥
 
 -- a list that the tokens of some file, with the end behind them, begin with
 pub record Viable (tokens : List Class) : Type 0 where
@@ -40,7 +35,7 @@ pub record IsUnexpected (tokens : List Class) (k : ℕ) : Type 0 where
   pub viable : Viable front
   pub none : Viable (front ++ token ∷ []) → ⊥
   -- in whichever file goes on from there, no token before k is over a limit
-  pub within : (v : Viable front) → NotBefore k (first_too_many v.entries)
+  pub within : (v : Viable front) (j : ℕ) → j < k → IsOver v.entries j → ⊥
 
 -- token k is the first that opens a level or counts past the limit, in each derivation that begins with the tokens up to it
 pub record IsTooMany (tokens : List Class) (k : ℕ) : Type 0 where
@@ -50,4 +45,6 @@ pub record IsTooMany (tokens : List Class) (k : ℕ) : Type 0 where
   pub split : tokens ≡ front ++ token ∷ rest
   pub place : length front ≡ k
   pub viable : Viable (front ++ token ∷ [])
-  pub over : (v : Viable (front ++ token ∷ [])) → first_too_many v.entries ≡ Some k
+  pub over : (v : Viable (front ++ token ∷ [])) → IsOver v.entries k
+  -- and none before it is
+  pub first : (v : Viable (front ++ token ∷ [])) (j : ℕ) → j < k → IsOver v.entries j → ⊥

@@ -49,7 +49,7 @@ pub data IsFunction : ℕ → List Entry → s.Function → Type 0 where
         name = behind (behind at xs) ys;
         parameters = ps;
         body = b;
-        counted = most_counted 0 (xs ++ ys ++ Outside c.Name ∷ Outside c.Open ∷ zs ++ Outside c.Close ∷ ws);
+        counted = most_counted (xs ++ ys ++ Outside c.Name ∷ Outside c.Open ∷ zs ++ Outside c.Close ∷ ws);
       })
 
 -- directive | enum | declaration | function, where enum = "enum" "{" enumerator { "," enumerator } [ "," ] "}" ";" and

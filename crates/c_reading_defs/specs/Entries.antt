@@ -1,6 +1,7 @@
 -- What a derivation spells: its tokens, and what the limits count of each.
-use Rattle.std.specs.Prelude.{ℕ, zero, suc, ◌+◌, ◌-◌, cond, nat_lt, max, List, [], ◌∷◌, length, Option, Some, None}
+use Rattle.std.specs.Prelude.{◌≡◌, ◌<◌, ◌⊎◌, ℕ, zero, suc, ◌+◌, ◌-◌, max, List, [], ◌∷◌, length, reverse}
 use Rattle.c_grammar.specs.declared.class.Class.{Class}
+use Rattle.c_reading_defs.specs.Behind.{SomeBehind}
 
 pub data Entry : Type 0 where
   -- an operator, a comma operator, `(`, `[` or `?` of a full expression
@@ -41,19 +42,26 @@ numbers_of at xs = numbers at (length (classes_in xs))
 abbrev pub limit : ℕ
 limit = 400
 
--- The number of the first token that opens a level or counts past the limit. In front of these entries stand so many tokens,
--- so many count in the full expression that is open there, and so many levels are open.
-abbrev pub first_over : ℕ → ℕ → ℕ → List Entry → Option ℕ
-first_over at count level [] = None
-first_over at count level (Counted k ∷ xs) = cond (nat_lt limit (count + 1)) (Some at) (first_over (at + 1) (count + 1) level xs)
-first_over at count level (Uncounted k ∷ xs) = first_over (at + 1) count level xs
-first_over at count level (Outside k ∷ xs) = first_over (at + 1) 0 level xs
-first_over at count level (Opens ∷ xs) = cond (nat_lt limit (level + 1)) (Some at) (first_over at count (level + 1) xs)
-first_over at count level (Closes ∷ xs) = first_over at count (level - 1) xs
+-- how many of these count, up to the first that is outside of full expressions
+abbrev pub counted : List Entry → ℕ
+counted [] = 0
+counted (Counted k ∷ xs) = counted xs + 1
+counted (Outside k ∷ xs) = 0
+counted (_ ∷ xs) = counted xs
 
--- the most tokens that count in one full expression, where so many do in front of these
-abbrev pub most_counted : ℕ → List Entry → ℕ
-most_counted count [] = 0
-most_counted count (Counted k ∷ xs) = max (count + 1) (most_counted (count + 1) xs)
-most_counted count (Outside k ∷ xs) = most_counted 0 xs
-most_counted count (_ ∷ xs) = most_counted count xs
+-- the most that count in one full expression
+abbrev pub most_counted : List Entry → ℕ
+most_counted [] = 0
+most_counted (x ∷ xs) = max (counted (x ∷ xs)) (most_counted xs)
+
+-- how many levels are open behind these, which stand with the last first
+abbrev pub levels : List Entry → ℕ
+levels [] = 0
+levels (Opens ∷ xs) = levels xs + 1
+levels (Closes ∷ xs) = levels xs - 1
+levels (_ ∷ xs) = levels xs
+
+-- token k is over a limit: behind an entry with k tokens in front of it more levels are open, or more tokens count in the full
+-- expression that is open there
+abbrev pub IsOver : List Entry → ℕ → Type 0
+IsOver xs k = SomeBehind (λ front x. (length (classes_in front) ≡ k) × ((limit < counted (x ∷ reverse front)) ⊎ (limit < levels (x ∷ reverse front)))) xs

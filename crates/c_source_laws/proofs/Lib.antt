@@ -35,6 +35,7 @@ pub mod Placed
 pub mod SameTerms
 pub mod SameItems
 pub mod SameTops
+pub mod WalkedLimits
 pub mod Limits
 pub mod Most
 pub mod StatementsMost

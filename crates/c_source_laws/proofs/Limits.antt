@@ -1,15 +1,15 @@
 -- What the limits count of a derivation: by the events of its tokens, the last of them first, and by what it spells.
-use Rattle.std.proofs.Common.{◌≡◌, ◌≤◌, ◌+◌, ◌-◌, ℕ, Bool, true, false, cond, nat_lt, max, List, [], ◌∷◌, ◌++◌, Option, Some, None, refl, ap, sym, ◌∙◌, arith}
+use Rattle.std.proofs.Common.{◌≡◌, ◌≤◌, ◌+◌, ◌-◌, ℕ, Bool, true, false, cond, nat_lt, max, List, [], ◌∷◌, ◌++◌, Option, Some, None, refl, ap, sym, subst, ◌∙◌, arith}
 use Rattle.c_grammar.specs.Events.{Event, count_of, number_of, earlier}
 use Rattle.c_grammar.specs.Events as ev
 use Rattle.c_grammar.specs.Counts.{function_events, file_events}
 use Rattle.c_grammar.specs.Files.{Function, Top}
 use Rattle.c_grammar.specs.Derives as old
-use Rattle.c_reading_defs.specs.Entries.{Entry, Counted, Uncounted, Outside, Opens, Closes, first_over, most_counted}
+use Rattle.c_reading_defs.specs.Entries.{Entry, Counted, Uncounted, Outside, Opens, Closes, most_counted, IsOver}
 use Rattle.c_source_laws.proofs.FileEntries.{function_entries, file_entries}
-use Rattle.c_reading_defs.specs.Derivations.{first_too_many}
 use Rattle.c_source_laws.proofs.Spelt.{events}
 use Rattle.c_source_laws.proofs.StatementsSpelt.{function_spelt, file_spelt}
+use Rattle.c_source_laws.proofs.WalkedLimits.{walked_over, walked_most, walked_most_is, walked_first, IsFirst}
 
 -- ---- the most tokens that count in one full expression
 
@@ -21,7 +21,7 @@ count_low : (q : List Event) → count_of q ≤ peak q
 count_low [] = omega arith
 count_low (e ∷ q) = omega arith
 
-peak_of : (level : ℕ) (xs : List Entry) (q : List Event) → peak (events level xs q) ≡ max (peak q) (most_counted (count_of q) xs)
+peak_of : (level : ℕ) (xs : List Entry) (q : List Event) → peak (events level xs q) ≡ max (peak q) (walked_most (count_of q) xs)
 peak_of level [] q = omega arith
 peak_of level (Counted k ∷ xs) q = let h = peak_of level xs (ev.Counted ∷ q) in omega (arith, h)
 peak_of level (Uncounted k ∷ xs) q = let h = peak_of level xs (ev.Uncounted ∷ q) in let l = count_low q in omega (arith, h, l)
@@ -33,12 +33,13 @@ all_of : (xs : List Entry) → xs ++ [] ≡ xs
 all_of [] = refl
 all_of (x ∷ xs) = ap (λ l. x ∷ l) (all_of xs)
 
-pub function_peak : (x : Function) → peak (function_events x []) ≡ most_counted 0 (function_entries x)
+pub function_peak : (x : Function) → peak (function_events x []) ≡ most_counted (function_entries x)
 function_peak x =
     let e : events 0 (function_entries x) [] ≡ function_events x [] = ap (λ l. events 0 l []) (sym (all_of (function_entries x))) ∙ (function_spelt x).counts [] [] in
     let h = peak_of 0 (function_entries x) [] in
     let g = ap peak e in
-    omega (arith, g, h)
+    let m = walked_most_is (function_entries x) in
+    omega (arith, g, h, m)
 
 -- ---- the first token over a limit
 
@@ -55,7 +56,8 @@ stopped None p true n = refl
 stopped None p false n = refl
 stopped (Some m) p b n = refl
 
-over_of : (level : ℕ) (xs : List Entry) (q : List Event) → ev.first_over (events level xs q) ≡ earlier (ev.first_over q) (first_over (number_of q) (count_of q) level xs)
+over_of : (level : ℕ) (xs : List Entry) (q : List Event)
+    → ev.first_over (events level xs q) ≡ earlier (ev.first_over q) (walked_over (number_of q) (count_of q) level xs)
 over_of level [] q = earlier_none (ev.first_over q)
 over_of level (Counted k ∷ xs) q = over_of level xs (ev.Counted ∷ q) ∙ stopped (ev.first_over q) _ (nat_lt 400 (count_of q + 1)) (number_of q)
 over_of level (Uncounted k ∷ xs) q = over_of level xs (ev.Uncounted ∷ q) ∙ passed (ev.first_over q) _
@@ -63,7 +65,8 @@ over_of level (Outside k ∷ xs) q = over_of level xs (ev.Outside ∷ q) ∙ pas
 over_of level (Opens ∷ xs) q = over_of (level + 1) xs (ev.Opened (level + 1) ∷ q) ∙ stopped (ev.first_over q) _ (nat_lt 400 (level + 1)) (number_of q)
 over_of level (Closes ∷ xs) q = over_of (level - 1) xs q
 
-pub file_over : (xs : List Top) → old.first_too_many xs ≡ first_too_many (file_entries xs)
-file_over xs =
+-- what the grammar finds in a file is the first of its tokens that is over a limit
+pub file_first : (xs : List Top) → IsFirst (old.first_too_many xs) (IsOver (file_entries xs))
+file_first xs =
     let e : events 0 (file_entries xs) [] ≡ file_events xs [] = ap (λ l. events 0 l []) (sym (all_of (file_entries xs))) ∙ (file_spelt xs).counts [] [] in
-    ap ev.first_over (sym e) ∙ over_of 0 (file_entries xs) []
+    subst (λ o. IsFirst o (IsOver (file_entries xs))) (sym (over_of 0 (file_entries xs) []) ∙ ap ev.first_over e) (walked_first (file_entries xs))

@@ -38,7 +38,7 @@ function_of at (Defined static n xs b) =
       name = x;
       parameters = parameters_of (x + 1 + 1) xs;
       body = option_map (block_of (y + 1)) b;
-      counted = most_counted 0 (function_entries (Defined static n xs b));
+      counted = most_counted (function_entries (Defined static n xs b));
     }
 
 abbrev pub top_of : ℕ → Top → s.Form

@@ -89,7 +89,7 @@ function_given at us x (r.function {xs = xs} {ys = ys} {zs = zs} {ws = ws} {stat
         name = behind (behind at (g i)) (h.entries i);
         parameters = ((λ j. parameters_of (behind (behind at (g j)) (h.entries j) + 1 + 1) (k.d)) ∙ k.written) i;
         body = ((λ j. option_map (block_of (behind (behind (behind at (g j)) (h.entries j) + 1 + 1) (k.entries j) + 1)) (m.d)) ∙ m.written) i;
-        counted = most_counted 0 (g i ++ h.entries i ++ Outside c.Name ∷ Outside c.Open ∷ k.entries i ++ Outside c.Close ∷ m.entries i);
+        counted = most_counted (g i ++ h.entries i ++ Outside c.Name ∷ Outside c.Open ∷ k.entries i ++ Outside c.Close ∷ m.entries i);
       };
     }
 
