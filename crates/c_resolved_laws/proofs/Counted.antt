@@ -20,7 +20,8 @@ use Rattle.flat_laws.proofs.Counts.{one_if}
 use Rattle.flat_laws.proofs.Once.{flat_once}
 use Rattle.flat_laws.specs.FlatMade.{IsFlatItem}
 use Rattle.flat_laws.specs.FlatWellMadeLaws.{IsGoodSource}
-use Rattle.flat_laws.proofs.Relabelled.{relabelled, relabelled_item, relabelled_among, flat_labels}
+use Rattle.flat_laws.specs.Relabelled.{relabelled, relabelled_item, relabelled_among}
+use Rattle.flat_laws.proofs.Relabelled.{flat_labels}
 use Rattle.flat_laws.proofs.WellMade.{made_laws}
 use Rattle.c_resolved_laws.specs.Counts.{goto_of, counts_of, measured_form, without_strays, without_stray, codes_of, is_case_code, labels_from, named_labels, bound_counts, flat_counts}
 use Rattle.c_resolved_laws.proofs.GoodSource.{good_source}

@@ -13,7 +13,8 @@ use Rattle.flat_looser_laws.specs.Loose.{NoArrival}
 use Rattle.flat_laws.specs.FlatForm.{flat, marks, marks_in, marks_among, place_in, coded, first_here, flat_body}
 use Rattle.flat_laws.proofs.Counts.{one_if}
 use Rattle.flat_laws.specs.FlatMade.{IsFlatItem, IsFlatMade}
-use Rattle.flat_laws.proofs.Relabelled.{relabelled, relabelled_item, relabelled_among, flat_labels}
+use Rattle.flat_laws.specs.Relabelled.{relabelled, relabelled_item, relabelled_among}
+use Rattle.flat_laws.proofs.Relabelled.{flat_labels}
 
 same_one : (l : ℕ) → one_if (eqb l l) ≡ 1
 same_one l = ap one_if (eq-eqb l l refl)

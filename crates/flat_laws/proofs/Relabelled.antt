@@ -15,30 +15,10 @@ use Rattle.jump_meaning.specs.Step.{switch_kind}
 use Rattle.flat_looser_laws.specs.Pieces.{Aim, Stays, Becomes, Absent, mark_of, test_or_one, third_items, assign_number, assign_cell, zero_tree, assigned_cells, Names, is_number, test_for, tests_for, tests, tests_in, tests_among, case_marks}
 use Rattle.flat_looser_laws.specs.Loose.{Arrivals, NoArrival, Arrives}
 use Rattle.flat_laws.specs.Parts.{is_some_number, is_scattered, switch_labels, has_default, leaves, holds_jump, holds_jump_among, Here, past, past_item, inside, Ending, Gone, Breaks, Jumps, Otherwise, ending, is_gone, kept_breaks, ends_then}
+use Rattle.flat_laws.specs.Relabelled.{relabelled, relabelled_item, relabelled_among}
 use Rattle.flat_laws.specs.FlatForm.{Plan, names_of, scatter_aim, otherwise_label, end_goto, aim, exit, is_moved, is_jumpy_switch, assigned, mark_if, arrival, dissolved, if_breaks, flat_for, flat, flat_item, flat_last, flat_last_item, flat_sections, spread}
 
 module _ (f : ℕ → ℕ) where
-  abbrev mutual
-    -- with f l in the place of each label l
-    pub relabelled : Forest → Forest
-    relabelled Nil = Nil
-    relabelled (Then x xs) = Then (relabelled_item x) (relabelled xs)
-
-    pub relabelled_item : Tree → Tree
-    relabelled_item (If t a b) = If t (relabelled a) (relabelled b)
-    relabelled_item (While t a) = While t (relabelled a)
-    relabelled_item (Do a t) = Do (relabelled a) t
-    relabelled_item (For first t u a) = For (relabelled first) t u (relabelled a)
-    relabelled_item (Switch s d) = Switch s (relabelled_among d)
-    relabelled_item (Block a) = Block (relabelled a)
-    relabelled_item (Goto l) = Goto (f l)
-    relabelled_item (Mark l) = Mark (f l)
-    relabelled_item x = x
-
-    pub relabelled_among : Sections → Sections
-    relabelled_among NoSection = NoSection
-    relabelled_among (Section cases default a ends d) = Section cases default (relabelled a) ends (relabelled_among d)
-
   abbrev aimed : Aim → Aim
   aimed Stays = Stays
   aimed (Becomes l) = Becomes (f l)
@@ -60,54 +40,55 @@ module _ (f : ℕ → ℕ) where
     case_label = λ j. f (p.case_label j);
   }
 
-  join_labels : (a b : Forest) → relabelled (join a b) ≡ join (relabelled a) (relabelled b)
+  join_labels : (a b : Forest) → relabelled f (join a b) ≡ join (relabelled f a) (relabelled f b)
   join_labels Nil b = refl
-  join_labels (Then x a) b = ap (Then (relabelled_item x)) (join_labels a b)
+  join_labels (Then x a) b = ap (Then (relabelled_item f x)) (join_labels a b)
 
-  mark_labels : (b : Aim) → relabelled (mark_of b) ≡ mark_of (aimed b)
+  mark_labels : (b : Aim) → relabelled f (mark_of b) ≡ mark_of (aimed b)
   mark_labels Stays = refl
   mark_labels (Becomes l) = refl
   mark_labels Absent = refl
 
-  third_labels : (u : Option ExpressionTree) → relabelled (third_items u) ≡ third_items u
+  third_labels : (u : Option ExpressionTree) → relabelled f (third_items u) ≡ third_items u
   third_labels None = refl
   third_labels (Some e) = refl
 
-  cells_labels : (k : IntKind) (x i : ℕ) (es : List ExpressionTree) (m : ℕ) → relabelled (assigned_cells k x i es m) ≡ assigned_cells k x i es m
+  cells_labels : (k : IntKind) (x i : ℕ) (es : List ExpressionTree) (m : ℕ) → relabelled f (assigned_cells k x i es m) ≡ assigned_cells k x i es m
   cells_labels k x i (e ∷ es) m = ap (Then (Evaluate (assign_cell k x i e))) (cells_labels k x (suc i) es m)
   cells_labels k x i [] zero = refl
   cells_labels k x i [] (suc m) = ap (Then (Evaluate (assign_cell k x i zero_tree))) (cells_labels k x (suc i) [] m)
 
-  assigned_labels : (k : IntKind) (x : ℕ) (o : Option ℕ) (es : List ExpressionTree) → relabelled (assigned k x o es) ≡ assigned k x o es
+  assigned_labels : (k : IntKind) (x : ℕ) (o : Option ℕ) (es : List ExpressionTree) → relabelled f (assigned k x o es) ≡ assigned k x o es
   assigned_labels k x None [] = refl
   assigned_labels k x None (e ∷ es) = refl
   assigned_labels k x (Some n) es = cells_labels k x 0 es (n - length es)
 
-  marks_labels : (names : Names) (cases : List ExpressionTree) (default : Bool) → relabelled (case_marks names cases default) ≡ case_marks (named names) cases default
+  marks_labels : (names : Names) (cases : List ExpressionTree) (default : Bool)
+      → relabelled f (case_marks names cases default) ≡ case_marks (named names) cases default
   marks_labels names [] true = refl
   marks_labels names [] false = refl
   marks_labels names (e ∷ es) default = ap (Then (Mark (f (names (Some e))))) (marks_labels names es default)
 
-  if_labels : (y : Bool) (l : ℕ) → relabelled (mark_if y l) ≡ mark_if y (f l)
+  if_labels : (y : Bool) (l : ℕ) → relabelled f (mark_if y l) ≡ mark_if y (f l)
   if_labels true l = refl
   if_labels false l = refl
 
-  arrival_labels : (r : Arrivals) (e : Option ExpressionTree) → relabelled (arrival r e) ≡ arrival (arriving r) e
+  arrival_labels : (r : Arrivals) (e : Option ExpressionTree) → relabelled f (arrival r e) ≡ arrival (arriving r) e
   arrival_labels NoArrival e = refl
   arrival_labels (Arrives names) e = refl
 
-  end_labels : (y : Bool) (b : Aim) → relabelled (end_goto y b) ≡ end_goto y (aimed b)
+  end_labels : (y : Bool) (b : Aim) → relabelled f (end_goto y b) ≡ end_goto y (aimed b)
   end_labels true Stays = refl
   end_labels true (Becomes l) = refl
   end_labels true Absent = refl
   end_labels false b = refl
 
-  break_labels : (b : Aim) → relabelled (exit b Break) ≡ exit (aimed b) Break
+  break_labels : (b : Aim) → relabelled f (exit b Break) ≡ exit (aimed b) Break
   break_labels Stays = refl
   break_labels (Becomes l) = refl
   break_labels Absent = refl
 
-  continue_labels : (b : Aim) → relabelled (exit b Continue) ≡ exit (aimed b) Continue
+  continue_labels : (b : Aim) → relabelled f (exit b Continue) ≡ exit (aimed b) Continue
   continue_labels Stays = refl
   continue_labels (Becomes l) = refl
   continue_labels Absent = refl
@@ -130,42 +111,44 @@ module _ (f : ℕ → ℕ) where
   moved_labels (Becomes l) = refl
   moved_labels Absent = refl
 
-  cond_labels : (y : Bool) (a b : Forest) → relabelled (cond y a b) ≡ cond y (relabelled a) (relabelled b)
+  cond_labels : (y : Bool) (a b : Forest) → relabelled f (cond y a b) ≡ cond y (relabelled f a) (relabelled f b)
   cond_labels true a b = refl
   cond_labels false a b = refl
 
-  breaks_labels : (e : Ending) (a b : Forest) → relabelled (if_breaks e a b) ≡ if_breaks e (relabelled a) (relabelled b)
+  breaks_labels : (e : Ending) (a b : Forest) → relabelled f (if_breaks e a b) ≡ if_breaks e (relabelled f a) (relabelled f b)
   breaks_labels Breaks a b = refl
   breaks_labels Gone a b = refl
   breaks_labels Jumps a b = refl
   breaks_labels Otherwise a b = refl
 
-  for_labels : (y : Bool) (t u : Option ExpressionTree) (a : Forest) (b c : Aim) → relabelled (flat_for y t u a b c) ≡ flat_for y t u (relabelled a) (aimed b) (aimed c)
+  for_labels : (y : Bool) (t u : Option ExpressionTree) (a : Forest) (b c : Aim)
+      → relabelled f (flat_for y t u a b c) ≡ flat_for y t u (relabelled f a) (aimed b) (aimed c)
   for_labels true t u a b c =
       ap₂ (λ z w. Then (While (Source (test_or_one t)) z) w)
-      (join_labels a (join (mark_of c) (third_items u)) ∙ ap (join (relabelled a)) (join_labels (mark_of c) (third_items u) ∙ ap₂ join (mark_labels c) (third_labels u)))
+      (join_labels a (join (mark_of c) (third_items u)) ∙ ap (join (relabelled f a)) (join_labels (mark_of c) (third_items u)
+      ∙ ap₂ join (mark_labels c) (third_labels u)))
       (mark_labels b)
-  for_labels false t u a b c = ap₂ (λ z w. Then (For Nil t u z) w) (join_labels a (mark_of c) ∙ ap (join (relabelled a)) (mark_labels c)) (mark_labels b)
+  for_labels false t u a b c = ap₂ (λ z w. Then (For Nil t u z) w) (join_labels a (mark_of c) ∙ ap (join (relabelled f a)) (mark_labels c)) (mark_labels b)
 
   module _ (number : IntKind → ℤ → ExpressionTree) (k : IntKind) (v : ℕ) (names : Names) where
-    test_labels : (e : ExpressionTree) → relabelled (test_for number k v names e) ≡ test_for number k v (named names) e
+    test_labels : (e : ExpressionTree) → relabelled f (test_for number k v names e) ≡ test_for number k v (named names) e
     test_labels e = at (case_number k e)
       where
-        at : (o : Option ℤ) → relabelled (option_map_or (λ n. one (If (Source (is_number k v (number k n))) (one (Goto (names (Some e)))) Nil)) o Nil)
+        at : (o : Option ℤ) → relabelled f (option_map_or (λ n. one (If (Source (is_number k v (number k n))) (one (Goto (names (Some e)))) Nil)) o Nil)
             ≡ option_map_or (λ n. one (If (Source (is_number k v (number k n))) (one (Goto (f (names (Some e))))) Nil)) o Nil
         at None = refl
         at (Some n) = refl
 
-    tests_for_labels : (es : List ExpressionTree) → relabelled (tests_for number k v names es) ≡ tests_for number k v (named names) es
+    tests_for_labels : (es : List ExpressionTree) → relabelled f (tests_for number k v names es) ≡ tests_for number k v (named names) es
     tests_for_labels [] = refl
     tests_for_labels (e ∷ es) = join_labels (test_for number k v names e) (tests_for number k v names es) ∙ ap₂ join (test_labels e) (tests_for_labels es)
 
     mutual
-      tests_labels : (a : Forest) → relabelled (tests number k v names a) ≡ tests number k v (named names) a
+      tests_labels : (a : Forest) → relabelled f (tests number k v names a) ≡ tests number k v (named names) a
       tests_labels Nil = refl
       tests_labels (Then x a) = join_labels (tests_in number k v names x) (tests number k v names a) ∙ ap₂ join (tests_labels_in x) (tests_labels a)
 
-      tests_labels_in : (x : Tree) → relabelled (tests_in number k v names x) ≡ tests_in number k v (named names) x
+      tests_labels_in : (x : Tree) → relabelled f (tests_in number k v names x) ≡ tests_in number k v (named names) x
       tests_labels_in (If t a b) = join_labels (tests number k v names a) (tests number k v names b) ∙ ap₂ join (tests_labels a) (tests_labels b)
       tests_labels_in (While t a) = tests_labels a
       tests_labels_in (Do a t) = tests_labels a
@@ -175,7 +158,7 @@ module _ (f : ℕ → ℕ) where
       tests_labels_in (Arrival (Some e)) = test_labels e
       tests_labels_in x = refl
 
-    tests_among_labels : (d : Sections) → relabelled (tests_among number k v names d) ≡ tests_among number k v (named names) d
+    tests_among_labels : (d : Sections) → relabelled f (tests_among number k v names d) ≡ tests_among number k v (named names) d
     tests_among_labels NoSection = refl
     tests_among_labels (Section cases default a ends d) =
         join_labels (tests_for number k v names cases) (join (tests number k v names a) (tests_among number k v names d))
@@ -185,8 +168,9 @@ module _ (f : ℕ → ℕ) where
   case_names p h k d None = refl
   case_names p h k d (Some e) = refl
 
-  loop_labels : (loop : Forest → Tree) → ((a : Forest) → relabelled_item (loop a) ≡ loop (relabelled a)) → (a a' : Forest) (b c b' c' : Aim) → relabelled a ≡ a' → aimed b ≡ b' → aimed c ≡ c'
-      → relabelled (Then (loop (join a (mark_of c))) (mark_of b)) ≡ Then (loop (join a' (mark_of c'))) (mark_of b')
+  loop_labels : (loop : Forest → Tree) → ((a : Forest) → relabelled_item f (loop a) ≡ loop (relabelled f a))
+      → (a a' : Forest) (b c b' c' : Aim) → relabelled f a ≡ a' → aimed b ≡ b' → aimed c ≡ c'
+      → relabelled f (Then (loop (join a (mark_of c))) (mark_of b)) ≡ Then (loop (join a' (mark_of c'))) (mark_of b')
   loop_labels loop i a a' b c b' c' e x y =
       ap₂ Then (i (join a (mark_of c)) ∙ ap loop (join_labels a (mark_of c) ∙ ap₂ join e (mark_labels c ∙ ap mark_of y))) (mark_labels b ∙ ap mark_of x)
 
@@ -201,11 +185,12 @@ module _ (f : ℕ → ℕ) where
     jumpy_labels c d = ap (λ z. holds_jump_among p.live d || (z && is_some_number (continues_in d))) (sym (moved_labels c))
 
     mutual
-      pub flat_labels : (xs : Forest) (h : Here) (b c : Aim) (r : Arrivals) → relabelled (flat p h b c r xs) ≡ flat q h (aimed b) (aimed c) (arriving r) xs
+      pub flat_labels : (xs : Forest) (h : Here) (b c : Aim) (r : Arrivals) → relabelled f (flat p h b c r xs) ≡ flat q h (aimed b) (aimed c) (arriving r) xs
       flat_labels Nil h b c r = refl
       flat_labels (Then x xs) h b c r = join_labels (flat_item p h b c r x) (flat p (past_item x h) b c r xs) ∙ ap₂ join (flat_labels_in x h b c r) (flat_labels xs (past_item x h) b c r)
 
-      flat_labels_in : (x : Tree) (h : Here) (b c : Aim) (r : Arrivals) → relabelled (flat_item p h b c r x) ≡ flat_item q h (aimed b) (aimed c) (arriving r) x
+      flat_labels_in : (x : Tree) (h : Here) (b c : Aim) (r : Arrivals)
+          → relabelled f (flat_item p h b c r x) ≡ flat_item q h (aimed b) (aimed c) (arriving r) x
       flat_labels_in (If t x y) h b c r = ap₂ (λ a b. one (If t a b)) (flat_labels x h b c r) (flat_labels y (past x h) b c r)
       flat_labels_in (While t a) h b c r =
           let y = holds_jump p.live a in
@@ -271,14 +256,16 @@ module _ (f : ℕ → ℕ) where
           ∙ ap (λ v. Then (Switch s (flat_sections q h' v (aim v n (f l)) (aimed c) d)) (mark_of (aim v n (f l)))) (jumpy_labels c d))
       flat_labels_in x h b c r = refl
 
-      sections_labels : (d : Sections) (h : Here) (y : Bool) (b c : Aim) → relabelled_among (flat_sections p h y b c d) ≡ flat_sections q h y (aimed b) (aimed c) d
+      sections_labels : (d : Sections) (h : Here) (y : Bool) (b c : Aim)
+          → relabelled_among f (flat_sections p h y b c d) ≡ flat_sections q h y (aimed b) (aimed c) d
       sections_labels NoSection h y b c = refl
       sections_labels (Section cases default a ends d) h y b c =
           let e = ending p.live a in
           ap₂ (λ z w. Section cases default z (ends_then y ends e) w)
           (breaks_labels e (flat_last p h b c NoArrival a) (flat p h b c NoArrival a) ∙ ap₂ (if_breaks e) (last_labels a h b c NoArrival) (flat_labels a h b c NoArrival)) (sections_labels d (past a h) y b c)
 
-      spread_labels : (d : Sections) (h : Here) (b c : Aim) (names : Names) → relabelled (spread p h b c names d) ≡ spread q h (aimed b) (aimed c) (named names) d
+      spread_labels : (d : Sections) (h : Here) (b c : Aim) (names : Names)
+          → relabelled f (spread p h b c names d) ≡ spread q h (aimed b) (aimed c) (named names) d
       spread_labels NoSection h b c names = mark_labels b
       spread_labels (Section cases default a ends d) h b c names =
           let fa = flat p h b c (Arrives names) a in
@@ -287,7 +274,8 @@ module _ (f : ℕ → ℕ) where
           ∙ ap₂ join (marks_labels names cases default)
           (join_labels fa (join (end_goto ends b) sp) ∙ ap₂ join (flat_labels a h b c (Arrives names)) (join_labels (end_goto ends b) sp ∙ ap₂ join (end_labels ends b) (spread_labels d (past a h) b c names)))
 
-      last_labels : (xs : Forest) (h : Here) (b c : Aim) (r : Arrivals) → relabelled (flat_last p h b c r xs) ≡ flat_last q h (aimed b) (aimed c) (arriving r) xs
+      last_labels : (xs : Forest) (h : Here) (b c : Aim) (r : Arrivals)
+          → relabelled f (flat_last p h b c r xs) ≡ flat_last q h (aimed b) (aimed c) (arriving r) xs
       last_labels Nil h b c r = refl
       last_labels (Then x xs) h b c r =
           let A = flat_item p h b c r x in
@@ -295,6 +283,7 @@ module _ (f : ℕ → ℕ) where
           cond_labels (is_gone (ending p.live xs)) (flat_last_item p h b c r x) (join A B)
           ∙ ap₂ (cond (is_gone (ending p.live xs))) (last_labels_in x h b c r) (join_labels A B ∙ ap₂ join (flat_labels_in x h b c r) (last_labels xs (past_item x h) b c r))
 
-      last_labels_in : (x : Tree) (h : Here) (b c : Aim) (r : Arrivals) → relabelled (flat_last_item p h b c r x) ≡ flat_last_item q h (aimed b) (aimed c) (arriving r) x
+      last_labels_in : (x : Tree) (h : Here) (b c : Aim) (r : Arrivals)
+          → relabelled f (flat_last_item p h b c r x) ≡ flat_last_item q h (aimed b) (aimed c) (arriving r) x
       last_labels_in (Block a) h b c r = last_labels a h b c r
       last_labels_in x h b c r = refl
