@@ -7,3 +7,5 @@ pub mod Totals
 pub mod Gathered
 pub mod Without
 pub mod CalmLaws
+pub mod Renumbered
+pub mod Numbered

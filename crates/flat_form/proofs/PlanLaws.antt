@@ -1,4 +1,4 @@
--- The plans of the code are those of the definition.
+-- The plan of the code is that of the definition.
 use Rattle.std.proofs.Common.{◌≡◌, ℕ, ℤ, ◌+◌, ◌*◌, Bool, List, [], get_or, None, arith, refl, ap, ◌∙◌}
 use Rattle.std.specs.Option.{option_map_or}
 use Rattle.std.proofs.Math.Path.{fun_ext}
@@ -8,12 +8,10 @@ use Rattle.c_tree.specs.ExpressionTrees.{ExpressionTree}
 use Rattle.c_tree.specs.Numerals.{constant}
 use Rattle.c_tree.specs.Trees.{Forest}
 use Rattle.flat_laws.specs.Parts.{is_named}
-use Rattle.flat_laws.specs.FlatForm.{Plan, coded, numbered, place_in}
+use Rattle.flat_laws.specs.FlatForm.{Plan, coded}
 use Rattle.flat_questions.specs.Reading.{is_flagged}
 use Rattle.flat_items.specs.declared.plans.Plan as L
-use Rattle.flat_items.specs.declared.plans.Places as Q
 use Rattle.flat_items.specs.Plans.{number_at, plan_of}
-use Rattle.flat_form.specs.Codes.{with_places}
 
 plan_equal : {a a' : ℕ → Bool} {b b' c c' d d' e e' f f' : ℕ → ℕ} {g g' : List Slot} {n n' : IntKind → ℤ → ExpressionTree} → a ≡ a' → b ≡ b' → c ≡ c' → d ≡ d' → e ≡ e' → f ≡ f' → g ≡ g' → n ≡ n'
     → (let p : Plan = record { live = a; source = b; break_label = c; continue_label = d; default_label = e; case_label = f; slots = g; number = n } in p)
@@ -41,13 +39,4 @@ coded_is p slots n body h =
     (fun_ext (λ (k : ℕ). same (p.count + (4 * k + 1)) ∙ ap (λ m. m + (4 * k + 1)) h.count))
     (fun_ext (λ (k : ℕ). same (p.count + (4 * k + 2)) ∙ ap (λ m. m + (4 * k + 2)) h.count))
     (fun_ext (λ (k : ℕ). same (p.count + (4 * k + 3)) ∙ ap (λ m. m + (4 * k + 3)) h.count))
-    h.slots_are refl
-
-pub numbered_is : (p : L.Plan) (q : Q.Places) (ls : List ℕ) (slots : List Slot) (n : ℕ) (body : Forest) → IsCoded p slots n body → ((c : ℕ) → number_at q c ≡ place_in ls c) → plan_of (with_places p q) ≡ numbered ls (coded constant slots n body)
-numbered_is p q ls slots n body h same =
-    plan_equal (fun_ext h.named) (fun_ext same)
-    (fun_ext (λ (k : ℕ). same (p.count + 4 * k) ∙ ap (λ m. place_in ls (m + 4 * k)) h.count))
-    (fun_ext (λ (k : ℕ). same (p.count + (4 * k + 1)) ∙ ap (λ m. place_in ls (m + (4 * k + 1))) h.count))
-    (fun_ext (λ (k : ℕ). same (p.count + (4 * k + 2)) ∙ ap (λ m. place_in ls (m + (4 * k + 2))) h.count))
-    (fun_ext (λ (k : ℕ). same (p.count + (4 * k + 3)) ∙ ap (λ m. place_in ls (m + (4 * k + 3))) h.count))
     h.slots_are refl

@@ -6,13 +6,11 @@ use Rattle.c_tree.specs.Trees.{Forest}
 use Rattle.flat_looser_laws.specs.Loose.{NoArrival}
 use Rattle.flat_looser_laws.specs.Pieces.{Stays}
 use Rattle.flat_laws.specs.FlatForm.{flat, coded, first_here, marks}
-use Rattle.flat_items.specs.declared.plans.Plan.{Plan}
-use Rattle.flat_items.specs.declared.plans.Places.{Places}
+
+-- the flat form of a body, in which each label has its code as its number
+abbrev pub coded_form : Function → Forest → Forest
+coded_form f body = flat (coded constant f.slots (length f.labels) body) (first_here (length f.slots)) Stays Stays NoArrival body
 
 -- the labels of the flat form of a body, by their codes, in text order
 abbrev pub label_codes : Function → Forest → List ℕ
-label_codes f body = marks (flat (coded constant f.slots (length f.labels) body) (first_here (length f.slots)) Stays Stays NoArrival body)
-
--- a plan with other numbers of labels
-abbrev pub with_places : Plan → Places → Plan
-with_places p q = record p { places = q }
+label_codes f body = marks (coded_form f body)

@@ -1,16 +1,14 @@
 ghost use Rattle.std.specs.Prelude.{◌≡◌, ℕ, [], length, IfOk};
 ghost use Rattle.c_tree.specs.Numerals.{constant};
 ghost use Rattle.c_tree.specs.Trees.{trees_of};
-ghost use Rattle.flat_looser_laws.specs.Loose.{NoArrival};
-ghost use Rattle.flat_looser_laws.specs.Pieces.{Stays};
 ghost use Rattle.flat_laws.specs.Parts.{is_named};
-ghost use Rattle.flat_laws.specs.FlatForm.{flat, first_here, marks, flat_body as the_flat_body};
+ghost use Rattle.flat_laws.specs.FlatForm.{flat_body as the_flat_body};
 ghost use Rattle.flat_questions.specs.Reading.{is_flagged};
-ghost use Rattle.flat_items.specs.Plans.{plan_of};
-ghost use Rattle.flat_form.specs.Codes.{label_codes, with_places as the_with_places};
+ghost use Rattle.flat_form.specs.Codes.{label_codes, coded_form};
 
 use crate::flat_bodies_labels::labels_in;
 use crate::places::places_of;
+use crate::renumbering::renumber;
 use c_copies::copy_slots;
 use c_tree::{Function, Item};
 use c_types::{List, Memory};
@@ -50,34 +48,12 @@ fn coded_plan(alloc: Global, function: &Function, body: &List<Item>) -> Result<P
     })
 }
 
-fn with_places(plan: Plan, places: Places) -> Plan
-    ensures { result ≡ the_with_places plan places }
+/// The items of the flat form, in which each label has its code as its number.
+fn coded_items(alloc: Global, function: &Function, body: &List<Item>) -> Result<List<Item>, Memory>
+    ensures { IfOk result (λ it. trees_of it ≡ coded_form function.now (trees_of body.now)) }
 {
-    let Plan {
-        named,
-        places: _,
-        count,
-        slots,
-    } = plan;
-    Plan {
-        named,
-        places,
-        count,
-        slots,
-    }
-}
-
-/// The codes of the labels that stand in the flat form by a plan, in text order.
-fn codes_of(
-    alloc: Global,
-    plan: &Plan,
-    variables: u32,
-    body: &List<Item>,
-) -> Result<List<u32>, Memory>
-    ensures { IfOk result (λ it. it ≡ marks (flat (plan_of plan.now) (first_here variables) Stays Stays NoArrival (trees_of body.now))) }
-{
-    let first = write_body(alloc, plan, variables, body)?;
-    labels_in(alloc, &first)
+    let plan = coded_plan(alloc, function, body)?;
+    write_body(alloc, &plan, function.slots.len() as u32, body)
 }
 
 /// The flat form of the body of a function with jumps. Its variables are those of the function, and
@@ -87,12 +63,9 @@ pub fn flat_body(alloc: Global, function: &Function, body: &List<Item>) -> Resul
     ensures items { IfOk result (λ it. trees_of it.items ≡ the_flat_body constant function.now.slots (length function.now.labels) (trees_of body.now)) }
     ensures codes { IfOk result (λ it. it.codes ≡ label_codes function.now (trees_of body.now)) }
 {
-    let coded = coded_plan(alloc, function, body)?;
-    let variables = function.slots.len() as u32;
-    let codes = codes_of(alloc, &coded, variables, body)?;
-    let list = codes.as_slice();
-    let places = places_of(alloc, list)?;
-    let plan = with_places(coded, places);
-    let items = write_body(alloc, &plan, variables, body)?;
+    let mut items = coded_items(alloc, function, body)?;
+    let codes = labels_in(alloc, &items)?;
+    let places = places_of(alloc, codes.as_slice())?;
+    renumber(&places, &mut items)?;
     Ok(FlatBody { items, codes })
 }

@@ -8,6 +8,7 @@ mod flat_bodies_labels;
 mod flat_counts_labels;
 mod forms;
 mod places;
+mod renumbering;
 mod strays;
 mod unlabelling;
 
