@@ -29,7 +29,8 @@ module _ (f : ℕ → ℕ) where
       ∙ sym (ap (relabelled f) (trees-first x xs))
 
   pub sections_done : (xs ys : List Real.Section) → length ys ≡ length xs
-      → ((k : ℕ) (d : Real.Section) → k < length ys → alone (get_or ys k d) ≡ relabelled_among f (alone (get_or xs k d))) → sections_of ys ≡ relabelled_among f (sections_of xs)
+      → ((k : ℕ) (d : Real.Section) → k < length ys → alone (get_or ys k d) ≡ relabelled_among f (alone (get_or xs k d)))
+      → sections_of ys ≡ relabelled_among f (sections_of xs)
   sections_done [] [] e h = sections-none ∙ sym (ap (relabelled_among f) sections-none)
   sections_done [] (y ∷ ys) e h = absurd (omega (arith, e))
   sections_done (x ∷ xs) [] e h = absurd (omega (arith, e))

@@ -8,4 +8,5 @@ abbrev pub invariant-renumber_items-loop-i : goal.invariant-renumber_items-loop-
 invariant-renumber_items-loop-i l = goal.unvisited-renumber_items-loop-i l × DoneTo tree_at (relabelled_item (number_at l.places)) l.i l.initial.items l.items
 
 abbrev pub invariant-renumber_sections-loop-i : goal.invariant-renumber_sections-loop-i
-invariant-renumber_sections-loop-i l = goal.unvisited-renumber_sections-loop-i l × DoneTo alone (relabelled_among (number_at l.places)) l.i l.initial.sections l.sections
+invariant-renumber_sections-loop-i l =
+    goal.unvisited-renumber_sections-loop-i l × DoneTo alone (relabelled_among (number_at l.places)) l.i l.initial.sections l.sections
