@@ -1,6 +1,6 @@
 -- The labels of a resolved function each stand once, so that all of its flat form's count.
 use mathlib.Core.Path.{ap₂}
-use Rattle.std.proofs.Common.{ℕ, zero, suc, ◌+◌, ◌≤◌, Bool, true, false, cond, eqb, ◌==◌, ◌||◌, List, [], ◌∷◌, ◌++◌, length, map, Option, Some, None, ◌≡◌, refl, sym, ap, subst, ◌∙◌, arith, append_assoc, eqb-true, eq-eqb}
+use Rattle.std.proofs.Common.{ℕ, zero, suc, ◌+◌, ◌≤◌, Bool, true, false, cond, eqb, ◌||◌, List, [], ◌∷◌, ◌++◌, length, Some, None, ◌≡◌, refl, sym, ap, subst, ◌∙◌, arith, append_assoc, eqb-true, eq-eqb}
 use Rattle.c_tree.specs.declared.tree.Function.{Function}
 use Rattle.c_tree.specs.declared.tree.Top.{Top}
 use Rattle.c_tree.specs.Everywhere.{total, total_of, Everywhere, EverywhereOf, EverywhereIn}

@@ -9,6 +9,7 @@ pub mod OneScope
 pub mod Scoped
 pub mod GoodSource
 pub mod Measures
+pub mod Bounds
 pub mod Counted
 mod Tried
 pub mod TheLaws

@@ -11,6 +11,13 @@ use Rattle.flat_laws.specs.FlatWellMadeLaws.{label_count}
 use Rattle.flat_laws.proofs.SameCounts.{stays, no_arrival, weight, flat_same, marks_counted}
 use Rattle.c_resolved_laws.specs.Counts.{goto_of, measured_form}
 
+goto_weighs : (x : Tree) → goto_of x ≡ weight 1 0 x
+goto_weighs (Goto l) = refl
+goto_weighs _ = refl
+
+pub goto_weights : (a : Forest) → total goto_of a ≡ total (weight 1 0) a
+goto_weights a = ap (λ (f : Tree → ℕ). total f a) (λ i x. goto_weighs x i)
+
 module _ (slots : List Slot) (n : ℕ) (body : Forest) where
   abbrev own : Plan
   own = coded constant slots n body
@@ -40,13 +47,6 @@ module _ (slots : List Slot) (n : ℕ) (body : Forest) where
 
   pub same_labels : label_count slots n body ≡ length (marks (measured_form body))
   same_labels = marks_counted by_codes ∙ codes_weigh 0 1 ∙ sym (marks_counted (measured_form body))
-
-  goto_weighs : (x : Tree) → goto_of x ≡ weight 1 0 x
-  goto_weighs (Goto l) = refl
-  goto_weighs _ = refl
-
-  goto_weights : (a : Forest) → total goto_of a ≡ total (weight 1 0) a
-  goto_weights a = ap (λ (f : Tree → ℕ). total f a) (λ i x. goto_weighs x i)
 
   pub same_gotos : total goto_of (flat_body constant slots n body) ≡ total goto_of (measured_form body)
   same_gotos = goto_weights (flat_body constant slots n body) ∙ form_weighs 1 0 ∙ sym (goto_weights (measured_form body))
