@@ -4,6 +4,7 @@ pub mod Measured
 pub mod CountedPlaces
 pub mod StrayLists
 pub mod Totals
+pub mod MostLaws
 pub mod Gathered
 pub mod Without
 pub mod CalmLaws
