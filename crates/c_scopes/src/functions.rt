@@ -41,9 +41,9 @@ struct Inside {
     body: Option<List<Item>>,
 }
 
-/// Reports a function with jumps that is too tangled.
+/// Reports a function with jumps that is too tangled, by the flat form of its body.
 #[tactic(auto, using(crate::proofs::Tangles::bounded_tangled))]
-fn report_tangle<C: FlatCounter>(
+fn report_counted<C: FlatCounter>(
     counter: &C,
     words: &Words,
     faults: &mut Stack<Fault>,
@@ -57,6 +57,30 @@ fn report_tangle<C: FlatCounter>(
         Some((jumps, labels)) => {
             let tangled = is_tangled(measures_of(words, f, body, jumps, labels));
             report_if(faults, tangled, f.name, 39)
+        }
+        None => Ok(()),
+    }
+}
+
+/// Reports a function with jumps that is too tangled. Its flat form is counted only where it may be:
+/// to count it is to make it, and most functions have too few statements to be.
+fn report_tangle<C: FlatCounter>(
+    counter: &C,
+    words: &Words,
+    faults: &mut Stack<Fault>,
+    f: FunctionLayer,
+    body: Block,
+    items: &List<Item>,
+) -> Result<(), Memory>
+    ensures { OnOk result (faults.new ≡ spec.tangle_fault (C.flat counter.now) (words_of words.now) (function_form (words_of words.now) f.entry) (block_form (words_of words.now) body.entry) items.now faults.old) }
+{
+    match counter.most(items)? {
+        Some((jumps, labels)) => {
+            if is_tangled(measures_of(words, f, body, jumps, labels)) {
+                report_counted(counter, words, faults, f, body, items)
+            } else {
+                Ok(())
+            }
         }
         None => Ok(()),
     }

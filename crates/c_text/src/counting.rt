@@ -5,7 +5,7 @@ ghost use Rattle.c_text.specs.Reading.{counts_of};
 use c_scopes::FlatCounter;
 use c_tree::Item;
 use c_types::{List, Memory};
-use flat_form::flat_counts;
+use flat_form::{flat_counts, most_counts};
 use std::alloc::Global;
 
 /// Counts by making the flat form.
@@ -16,6 +16,10 @@ pub struct FlatForms {
 
 impl FlatCounter for FlatForms {
     ghost flat = { λ self. counts_of };
+
+    fn most(&self, body: &List<Item>) -> Result<Option<(u64, u64)>, Memory> {
+        most_counts(body)
+    }
 
     fn count(&self, body: &List<Item>) -> Result<Option<(u64, u64)>, Memory> {
         flat_counts(self.alloc, body)

@@ -13,6 +13,10 @@ impl FlatCounter for NoJumps {
 
     ghost flat = { λ s items. None };
 
+    fn most(&self, _body: &List<Item>) -> Result<Option<(u64, u64)>, Memory> {
+        Ok(None)
+    }
+
     fn count(&self, _body: &List<Item>) -> Result<Option<(u64, u64)>, Memory> {
         Ok(None)
     }
