@@ -13,6 +13,16 @@ use c_tree::Item;
 use c_types::{List, Memory};
 use std::alloc::Global;
 
+/// The items, with no more room than they take where memory can be given back: the list of a function lives until it is
+/// made flat.
+fn fitted(items: List<Item>) -> List<Item>
+    ensures { result ≡ items }
+{
+    let mut items = items.into_vec();
+    items.shrink_to_fit();
+    List::from_vec(items)
+}
+
 /// The items of a function's body, behind its parameters.
 pub fn read_block<'n, 'a>(
     alloc: Global,
@@ -25,5 +35,6 @@ pub fn read_block<'n, 'a>(
     ensures faults { OnOk result (state.new.faults ≡ spec.body_faults (context_of ctx.now) (block_form (words_of ctx.now.words) body.entry) (walk_of state.old) state.old.faults) }
 {
     let list = BodyLayer::Braces(body.first, body.after, body.items);
-    function_body(alloc, ctx, state, list)
+    let items = function_body(alloc, ctx, state, list)?;
+    Ok(fitted(items))
 }
