@@ -1,10 +1,11 @@
 //! The most gotos and labels that a flat form can have, told without making it.
 
-ghost use Rattle.std.specs.Prelude.{◌≡◌, ◌+◌, ◌≤◌, None, cond, length, IfOk, IfNone, IfSome, IsSomeAnd, OnOk};
+ghost use Rattle.std.specs.Prelude.{◌≡◌, ◌+◌, ◌≤◌, None, Some, cond, length, IfOk, IfNone, IfSome, IsSomeAnd, OnOk};
 ghost use Rattle.c_tree.specs.Everywhere.{total, total_of, total_in};
 ghost use Rattle.c_tree.specs.declared.tree.Section.{out-Section};
 ghost use Rattle.c_tree.specs.Trees.{trees_of, sections_of};
 ghost use Rattle.c_tree.specs.Views.{tree_at};
+ghost use Rattle.flat_laws.specs.Parts.{has_jumps as jumps};
 ghost use Rattle.c_resolved_laws.specs.Bounds.{entries, section_ends, most_gotos, most_labels};
 ghost use Rattle.c_resolved_laws.specs.Counts.{flat_counts as the_flat_counts};
 
@@ -128,8 +129,10 @@ fn add_entries(section: &Section, most: &mut Most) -> Result<(), Memory>
 }
 
 /// The most gotos and labels that the flat form of a function with this body can have, told without
-/// making it; `None` where it has no jumps. More than `u64` holds count as want of memory.
+/// making it: what its items give at most, added up. `None` where it has no jumps. Want of memory is the
+/// only failure; more than `u64` holds count as that.
 pub fn most_counts(body: &List<Item>) -> Result<Option<(u64, u64)>, Memory>
+    ensures value { IfOk result (λ most. most ≡ cond (jumps (trees_of body.now)) (Some (total most_gotos (trees_of body.now), total most_labels (trees_of body.now))) None) }
     ensures none { IfOk result (λ most. IfNone most (the_flat_counts (trees_of body.now) ≡ None)) }
     ensures some { IfOk result (λ most. IfSome most (λ m. IsSomeAnd (the_flat_counts (trees_of body.now)) (λ n. n.0 ≤ m.0 × n.1 ≤ m.1))) }
 {
