@@ -6,7 +6,8 @@ use Rattle.std.proofs.lemmas.Bool.{eqb-true, leb-true}
 use Rattle.std.proofs.lemmas.Nat.{mul-mod_first}
 use Rattle.std.proofs.Math.Nat.{mod-add-mod, mod-eq_of_lt}
 use Rattle.c_lexer.specs.Bytes.{is_octal_digit, is_hexadecimal_digit, digit_value}
-use Rattle.c_lexer.specs.Numbers.{value_from}
+use Rattle.c_lexer.specs.NumberSteps.{value_from}
+use Rattle.c_lexer.proofs.NumberLemmas.{value_is}
 use Rattle.c_lexer.proofs.Truths.{both_true}
 use Rattle.c_layers.specs.declared.decoding.Decoding.TheVariants as d
 use Rattle.c_layers.specs.DecodingSteps.{decoded_from}
@@ -115,6 +116,7 @@ octal_escape m c w f h e =
     escape_on m c w (Octal (c ∷ ds)) (x ∙ ap (λ run. Octal (take 3 run)) (run_more is_octal_digit c w e))
     (a ∙ ap (λ n. decoded_from (d.Octal 1 n) w) (sym (octal_digit c e)) ∙ octal_first w (digit_value c)
     ∙ ap (λ n. behind_digits 8 n ds w) (from_nothing (digit_value c))
+    ∙ ap (λ n. n % 256 ∷ decoded_from d.Plain (drop (length ds) w)) (value_is 8 (c ∷ ds))
     ∙ ap (λ l. value (Octal (c ∷ ds)) ∷ l) (f (drop (length ds) w) (fewer (length ds) m w h)))
 
 hexadecimal_escape : (m c : ℕ) (w : List ℕ) → IsDecoded m → length w ≤ m → is_octal_digit c ≡ false → (c == 120) ≡ true → Escapes m c w
@@ -122,7 +124,7 @@ hexadecimal_escape m c w f h e k =
     let ds = take_while is_hexadecimal_digit w in
     let a : decoded_from d.Backslash (c ∷ w) ≡ decoded_from (d.Hexadecimal 0) w = rw (e, k) refl in
     escape_on m c w (Hexadecimal ds) (rw (e, k) refl)
-    (a ∙ hexadecimal w 0 ∙ ap (λ l. value (Hexadecimal ds) ∷ l) (f (drop (length ds) w) (fewer (length ds) m w h)))
+    (a ∙ hexadecimal w 0 ∙ ap (λ n. n % 256 ∷ decoded_from d.Plain (drop (length ds) w)) (value_is 16 ds) ∙ ap (λ l. value (Hexadecimal ds) ∷ l) (f (drop (length ds) w) (fewer (length ds) m w h)))
 
 simple_escape : (m c : ℕ) (w : List ℕ) → IsDecoded m → length w ≤ m → is_octal_digit c ≡ false → (c == 120) ≡ false → Escapes m c w
 simple_escape m c w f h e k =

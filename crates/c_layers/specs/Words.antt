@@ -6,7 +6,7 @@ use Rattle.c_types.specs.declared.kinds.IntKind.{IntKind}
 use Rattle.c_types.specs.declared.kinds.IntKind.TheVariants.{Char, UChar, Int, UInt, Long, ULong}
 use Rattle.c_lexer.specs.declared.token.Token.{Token}
 use Rattle.c_lexer.specs.Bytes.{is_octal_digit, is_hexadecimal_digit}
-use Rattle.c_lexer.specs.Numbers.{value_from}
+use Rattle.c_lexer.specs.Numbers.{value_of}
 
 -- ---- tokens
 
@@ -60,8 +60,8 @@ written (Hexadecimal ds) = 92 ∷ 120 ∷ ds
 abbrev pub value : Element → ℕ
 value (Itself b) = b
 value (Simple b) = escape_value b
-value (Octal ds) = value_from 8 0 ds % 256
-value (Hexadecimal ds) = value_from 16 0 ds % 256
+value (Octal ds) = value_of 8 ds % 256
+value (Hexadecimal ds) = value_of 16 ds % 256
 
 -- the escape of `\` and this byte, in front of those: with as many digits as there are, three octal ones at most
 abbrev pub escape : ℕ → List ℕ → Element

@@ -10,9 +10,11 @@ use Rattle.c_lexer.specs.declared.token.TokenKind.{TokenKind}
 use Rattle.c_lexer.specs.declared.token.TokenKind.TheVariants as k
 use Rattle.c_lexer.specs.declared.token.Span.{Span}
 use Rattle.c_lexer.specs.declared.token.Scanned.{Scanned}
-use Rattle.c_lexer.specs.Pieces.{Piece, Space, Word, Number, Char, Text, Sign, Directive, Line, Block, spelled, text, Fits, Good, first_behind, behind, onto_bare, bare, word_kind, token, span, token_of, comment_of, all_of, tokens_of, comments_of, scanned_of, IsWithin}
+use Rattle.c_lexer.specs.Pieces.{Piece, Space, Word, Number, Char, Text, Sign, Directive, Line, Block, spelled, text, Fits, behind, onto_bare, bare, word_kind, token, span, token_of, comment_of, scanned_of, IsWithin}
+use Rattle.c_lexer.specs.PieceSteps.{Good, first_behind, all_of}
 use Rattle.c_lexer.specs.Answers.{scanning, IsReading}
 use Rattle.c_lexer.proofs.PieceLemmas.{spelled_split}
+use Rattle.c_lexer.proofs.PieceWalks.{spells_walked, tokens_are, comments_are}
 use Rattle.c_lexer.proofs.Later.{has_byte}
 use Rattle.c_lexer.proofs.Theorem.{scan_reading}
 
@@ -77,13 +79,13 @@ same_length t u e = let h = ap length e in omega arith
 
 tokens_within : (t : List ℕ) (found : Scanned) → IsReading scanned_of t (Ok found) → All (λ (x : Token). IsWithin t x.start x.end) found.tokens
 tokens_within t found (ps, s, e) =
-    All-same (λ (x : Token). IsWithin t x.start x.end) found.tokens (tokens_of ps) (ap (λ (x : Scanned). x.tokens) e)
-    (all_inside (λ (x : Token). x.start) (λ (x : Token). x.end) token_of tokens_inside true ps 0 (length t) s.good (same_length t (text ps []) s.spells))
+    All-same (λ (x : Token). IsWithin t x.start x.end) found.tokens (all_of token_of ps 0) (ap (λ (x : Scanned). x.tokens) e ∙ tokens_are ps)
+    (all_inside (λ (x : Token). x.start) (λ (x : Token). x.end) token_of tokens_inside true ps 0 (length t) (spells_walked ps t s) (same_length t (text ps []) s.spells))
 
 comments_within : (t : List ℕ) (found : Scanned) → IsReading scanned_of t (Ok found) → All (λ (x : Span). IsWithin t x.start x.end) found.comments
 comments_within t found (ps, s, e) =
-    All-same (λ (x : Span). IsWithin t x.start x.end) found.comments (comments_of ps) (ap (λ (x : Scanned). x.comments) e)
-    (all_inside (λ (x : Span). x.start) (λ (x : Span). x.end) comment_of comments_inside true ps 0 (length t) s.good (same_length t (text ps []) s.spells))
+    All-same (λ (x : Span). IsWithin t x.start x.end) found.comments (all_of comment_of ps 0) (ap (λ (x : Scanned). x.comments) e ∙ comments_are ps)
+    (all_inside (λ (x : Span). x.start) (λ (x : Span). x.end) comment_of comments_inside true ps 0 (length t) (spells_walked ps t s) (same_length t (text ps []) s.spells))
 
 pub tokens_bound : (t : List ℕ) (r : Result Scanned ReadStop) → Gives (λ (x : Scanned). x) r (scanning t) → IfOk r (λ found. All (λ (x : Token). IsWithin t x.start x.end) found.tokens)
 tokens_bound t (Ok found) h = tokens_within t found (subst (λ (x : Result Scanned Refusal). IsReading scanned_of t x) h (scan_reading t))

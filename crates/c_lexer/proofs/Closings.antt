@@ -7,7 +7,7 @@ use Rattle.c_lexer.specs.declared.state.State.TheVariants.{InComment}
 use Rattle.c_lexer.specs.declared.state.Ended.TheVariants as ended
 use Rattle.c_lexer.specs.declared.state.Taken.TheVariants.{Go}
 use Rattle.c_lexer.specs.Bytes.{is_space}
-use Rattle.c_lexer.specs.Pieces.{slash_follows, is_single, closes}
+use Rattle.c_lexer.specs.PieceSteps.{slash_follows, is_single, closes}
 use Rattle.c_lexer.specs.Machine.{continued_step, closing_else, closing_step, in_comment}
 use Rattle.c_lexer.proofs.Truths.{not_true, not_false}
 

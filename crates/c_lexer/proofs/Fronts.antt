@@ -14,13 +14,15 @@ use Rattle.c_lexer.specs.declared.state.Taken.{Taken}
 use Rattle.c_lexer.specs.declared.state.Taken.TheVariants.{Go, Fault}
 use Rattle.c_types.specs.Words.{is_letter, is_digit, is_word_byte}
 use Rattle.c_lexer.specs.Bytes.{is_octal_digit, is_hexadecimal_digit, is_simple_escape, is_text_byte, is_character_byte, digit_value, NotFirst}
-use Rattle.c_lexer.specs.Numbers.{continues, ends_with_power, value_from}
+use Rattle.c_lexer.specs.NumberSteps.{continues_from, power_from, value_from}
 use Rattle.c_lexer.specs.Characters.{Character, Simple, OneDigit, TwoDigits, ThreeDigits, Hexadecimal, written, written_all, three_digits, IsCharacter, TakesDigits, AreCharacters}
 use Rattle.c_lexer.specs.Marks.{mark_text}
-use Rattle.c_lexer.specs.Pieces.{Piece, spelled, text, closes, Fits, Longest, first_behind, first_behind_all, Good}
+use Rattle.c_lexer.specs.Pieces.{Piece, spelled, text, Fits, Longest}
+use Rattle.c_lexer.specs.PieceSteps.{closes, first_behind, first_behind_all, Good}
 use Rattle.c_lexer.specs.Faults.{reason_of, reach_of, HasNoPiece}
 use Rattle.c_lexer.specs.Machine.{escape_step}
 use Rattle.c_lexer.proofs.PieceLemmas.{past, ends, ends_all, Stands, stands_along, stands_text, stands_past, slice_is}
+use Rattle.c_lexer.proofs.NumberLemmas.{value_is}
 use Rattle.c_lexer.proofs.Truths.{both_true}
 use Rattle.c_lexer.proofs.Lines.{has_no_newline}
 use Rattle.c_lexer.proofs.Closings.{closes_from}
@@ -138,7 +140,7 @@ escape_progresses (InHexadecimal v) w (a, ds, e, all, value, low) b =
     choose (is_hexadecimal_digit b) _ _ b w
     (λ x. choose (nat_le (v * 16 + digit_value b) 255) _ _ b w
     (λ y. (a, ds ++ b ∷ [], along w (92 ∷ 120 ∷ a ∷ ds) b e, all_more is_hexadecimal_digit (a ∷ ds) b all x, value_snoc (a ∷ ds) 0 b ∙ ap (λ (n : ℕ). n * 16 + digit_value b) value, y)) (λ y. tt))
-    (λ x. (Hexadecimal a ds, record { bytes = bytes_of (Hexadecimal a ds) (92 ∷ 120 ∷ a ∷ ds) w e (λ r. refl); is = λ plain. (all, ap (λ (n : ℕ). nat_le n 255) value ∙ low); digits = not_hexadecimal b x }))
+    (λ x. (Hexadecimal a ds, record { bytes = bytes_of (Hexadecimal a ds) (92 ∷ 120 ∷ a ∷ ds) w e (λ r. refl); is = λ plain. (all, ap (λ (n : ℕ). nat_le n 255) (sym (value_is 16 (a ∷ ds)) ∙ value) ∙ low); digits = not_hexadecimal b x }))
 
 -- ---- characters at the end
 
@@ -160,7 +162,7 @@ Part s at ps w P = ((r : List ℕ) → P.bytes r ≡ text ps (w ++ r)) × ((r : 
 abbrev pub Ready : State → ℕ → Front → Type 0
 Ready (Between first) at P = (ps : List Piece) × Part at at ps [] P × (first_behind_all P.first ps ≡ first)
 Ready (InWord s) at P = (ps : List Piece) × (b : ℕ) × (w : List ℕ) × Part s at ps (b ∷ w) P × (is_letter b ≡ true) × (list_all is_word_byte w ≡ true)
-Ready (InNumber s power) at P = (ps : List Piece) × (b : ℕ) × (w : List ℕ) × Part s at ps (b ∷ w) P × (is_digit b ≡ true) × (continues false w ≡ true) × (ends_with_power false w ≡ power)
+Ready (InNumber s power) at P = (ps : List Piece) × (b : ℕ) × (w : List ℕ) × Part s at ps (b ∷ w) P × (is_digit b ≡ true) × (continues_from false w ≡ true) × (power_from false w ≡ power)
 Ready (InMark s m) at P = (ps : List Piece) × Part s at ps (mark_text m) P
 Ready (Dots s) at P = (ps : List Piece) × Part s at ps (46 ∷ 46 ∷ []) P
 Ready (CharOpened s) at P = (ps : List Piece) × Part s at ps (39 ∷ []) P

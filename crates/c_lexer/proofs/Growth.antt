@@ -17,18 +17,23 @@ use Rattle.c_lexer.specs.declared.state.Ended.{Ended}
 use Rattle.c_lexer.specs.declared.state.Ended.TheVariants as ended
 use Rattle.c_types.specs.Words.{is_letter, is_digit, is_word_byte}
 use Rattle.c_lexer.specs.Bytes.{is_space, is_newline, is_power, is_run_byte, is_text_byte, is_character_byte, NotFirst}
-use Rattle.c_lexer.specs.Numbers.{continues, ends_with_power, integer_of}
+use Rattle.c_lexer.specs.Numbers.{continues, integer_of}
+use Rattle.c_lexer.specs.NumberSteps.{continues_from, power_from}
 use Rattle.c_lexer.specs.Characters.{Character, Plain, written, written_all, IsCharacter, AreCharacters}
-use Rattle.c_lexer.specs.Marks.{mark_text, mark_at, longer, is_slash, is_dot}
-use Rattle.c_lexer.specs.Pieces.{Piece, Space, Word, Number, Char, Text, Sign, Directive, Line, Block, spelled, text, closes, own_line, NewlineNext, is_directive, Fits, IsLine, Longest, first_behind, first_behind_all, Good}
+use Rattle.c_lexer.specs.Marks.{mark_text}
+use Rattle.c_lexer.specs.MarkSteps.{mark_at, longer, is_slash, is_dot}
+use Rattle.c_lexer.specs.Pieces.{Piece, Space, Word, Number, Char, Text, Sign, Directive, Line, Block, spelled, text, own_line, NewlineNext, is_directive, Fits, IsLine, Longest}
+use Rattle.c_lexer.specs.PieceSteps.{closes, first_behind, first_behind_all, Good}
 use Rattle.c_lexer.specs.Machine.{begin, of_mark, after_mark, escape_step, char_held, char_escape, in_text, text_escape, broken_at, end_directive, end_line, closing_step, in_comment, step}
 use Rattle.c_lexer.proofs.MarkLemmas.{longer_text, mark_first, longest_mark, no_dots}
 use Rattle.c_lexer.proofs.PieceLemmas.{Stands, past, character_ends, characters_end, ends, ends_all}
+use Rattle.c_lexer.proofs.NumberLemmas.{run_continues, run_power}
 use Rattle.c_lexer.proofs.Truths.{both_true}
 use Rattle.c_lexer.proofs.Lines.{has_no_newline, runs_to_newline, own_whole, broken}
 use Rattle.c_lexer.proofs.Pieceless.{no_comment, no_directive}
+use Rattle.c_lexer.proofs.CommentEnds.{closed}
 use Rattle.c_lexer.proofs.Closings.{closes_from, goes_on, closes_on}
-use Rattle.c_lexer.proofs.Reading.{digit_power, two_on}
+use Rattle.c_lexer.proofs.Reading.{two_on}
 use Rattle.c_lexer.proofs.Fronts.{Front, onward, text_more, good_more, ends_more, first_more, all_more, snoc, past_snoc, Progresses, escape_progresses, written_more, characters_more, Part, Ready, StuckAt, IsFaulty, Goes, branch, grown, part_along, stuck_before, stuck_part, part_slice, part_slice_behind}
 
 -- ---- reasons
@@ -133,17 +138,14 @@ line_ended p s b at P ps w i k n f l h =
 both : (a b : Bool) → a ≡ true → b ≡ true → (a && b) ≡ true
 both a b h k = rw (h, k)
 
-continues_more : (power : Bool) (w : List ℕ) (b : ℕ) → continues power w ≡ true → is_run_byte (ends_with_power power w) b ≡ true → continues power (w ++ b ∷ []) ≡ true
+continues_more : (power : Bool) (w : List ℕ) (b : ℕ) → continues_from power w ≡ true → is_run_byte (power_from power w) b ≡ true → continues_from power (w ++ b ∷ []) ≡ true
 continues_more power [] b h k = rw k
 continues_more power (x ∷ w) b h k =
-    let q = both_true (is_run_byte power x) (continues (is_power x) w) h in both (is_run_byte power x) (continues (is_power x) (w ++ b ∷ [])) q.0 (continues_more (is_power x) w b q.1 k)
+    let q = both_true (is_run_byte power x) (continues_from (is_power x) w) h in both (is_run_byte power x) (continues_from (is_power x) (w ++ b ∷ [])) q.0 (continues_more (is_power x) w b q.1 k)
 
-power_more : (power : Bool) (w : List ℕ) (b : ℕ) → ends_with_power power (w ++ b ∷ []) ≡ is_power b
+power_more : (power : Bool) (w : List ℕ) (b : ℕ) → power_from power (w ++ b ∷ []) ≡ is_power b
 power_more power [] b = refl
 power_more power (x ∷ w) b = power_more (is_power x) w b
-
-pub number_power : (x : ℕ) (w : List ℕ) → is_digit x ≡ true → ends_with_power false (x ∷ w) ≡ ends_with_power false w
-number_power x w h = ap (λ (c : Bool). ends_with_power c w) (digit_power x h)
 
 -- ---- marks
 
@@ -247,7 +249,7 @@ comment_goes s closing.Open b at P ps w i o = comment_grows s closing.Open b at 
 comment_goes s closing.Continued b at P ps w i o = comment_grows s closing.Continued b at P ps w i o refl
 comment_goes s closing.Starred b at P ps w i o =
     branch (b == 47) _ _ _ _
-    (λ h. finished (Block (w ++ b ∷ [])) s b at P ps (47 ∷ 42 ∷ w) i (λ r. ap (λ (u : List ℕ). 47 ∷ 42 ∷ u) (sym (snoc w b r))) (past_snoc w (s + 1 + 1) b) (o (b ∷ []) ∙ ap (λ (i : ℕ). closes_from closing.Starred (i ∷ [])) (eqb-true b 47 h)) refl (λ r. tt))
+    (λ h. finished (Block (w ++ b ∷ [])) s b at P ps (47 ∷ 42 ∷ w) i (λ r. ap (λ (u : List ℕ). 47 ∷ 42 ∷ u) (sym (snoc w b r))) (past_snoc w (s + 1 + 1) b) (closed (w ++ b ∷ []) (o (b ∷ []) ∙ ap (λ (i : ℕ). closes_from closing.Starred (i ∷ [])) (eqb-true b 47 h))) refl (λ r. tt))
     (λ h. comment_grows s closing.Starred b at P ps w i o (ap not h))
 comment_goes s closing.Returned b at P ps w i o =
     branch (b == 47) _ _ _ _ (λ h r. stuck_part s at ps 47 (42 ∷ w) P 3 i (λ q. (refl, refl)) (b ∷ r)) (λ h. comment_grows s closing.Returned b at P ps w i o (ap not h))
@@ -339,8 +341,8 @@ goes t (InWord s) at P (ps, x, w, i, letter, each) b rest e =
 goes t (InNumber s power) at P (ps, x, w, i, digit, run, last) b rest e =
     branch (is_run_byte power b) _ _ _ _ (λ h. (ps, x, w ++ b ∷ [], grown s at ps (x ∷ w) b P i, digit, continues_more false w b run (ap (λ (c : Bool). is_run_byte c b) last ∙ h), power_more false w b))
     (λ h. branch (is_some (integer_of (slice_range t s at))) _ _ _ _
-    (λ g. after (Number (x ∷ w)) _ s b at P ps (x ∷ w) i (λ r. refl) refl (both (is_digit x) (continues false w) digit run, ap (λ (v : List ℕ). is_some (integer_of v)) (sym (part_slice t s at ps (x ∷ w) P (b ∷ rest) i e)) ∙ g) refl
-    (λ r. ap (λ (c : Bool). is_run_byte c b) (number_power x w digit ∙ last) ∙ h))
+    (λ g. after (Number (x ∷ w)) _ s b at P ps (x ∷ w) i (λ r. refl) refl (both (is_digit x) (continues (x ∷ w)) digit (sym (run_continues x w digit) ∙ run), ap (λ (v : List ℕ). is_some (integer_of v)) (sym (part_slice t s at ps (x ∷ w) P (b ∷ rest) i e)) ∙ g) refl
+    (λ r. ap (λ (c : Bool). is_run_byte c b) (sym (run_power x w digit) ∙ last) ∙ h))
     (λ g r. stuck_part s at ps x w P 5 i (λ q. digit_fault _ x (w ++ q) digit) (b ∷ r)))
 goes t (InMark s m) at P (ps, i) b rest e =
     branch (is_slash m && b == 42) _ _ _ _ (λ h. (ps, [], slash_grown m s at b 42 P ps i (both_true (is_slash m) (b == 42) h), (λ v. refl)))

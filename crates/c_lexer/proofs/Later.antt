@@ -16,8 +16,10 @@ use Rattle.c_lexer.specs.declared.state.Taken.TheVariants.{Go, Fault}
 use Rattle.c_types.specs.Words.{is_letter, is_digit, is_word_byte}
 use Rattle.c_lexer.specs.Bytes.{is_space, is_run_byte, is_character_byte}
 use Rattle.c_lexer.specs.Numbers.{integer_of}
-use Rattle.c_lexer.specs.Marks.{mark_text, mark_at, longer, is_slash, is_dot}
-use Rattle.c_lexer.specs.Pieces.{Piece, Space, Word, Number, Char, Text, Sign, Directive, Line, Block, spelled, is_directive, Fits, Longest, first_behind}
+use Rattle.c_lexer.specs.Marks.{mark_text}
+use Rattle.c_lexer.specs.MarkSteps.{mark_at, longer, is_slash, is_dot}
+use Rattle.c_lexer.specs.Pieces.{Piece, Space, Word, Number, Char, Text, Sign, Directive, Line, Block, spelled, is_directive, Fits, Longest}
+use Rattle.c_lexer.specs.PieceSteps.{first_behind}
 use Rattle.c_lexer.specs.Machine.{of_mark, begin, after_mark, escape_step, char_held, char_escape, in_text, text_escape, broken_at, end_directive, end_line, in_comment, step, finish, Lexed, Read, Faulty, go_on}
 use Rattle.c_lexer.proofs.PieceLemmas.{ends, ends_is, Stands}
 use Rattle.c_lexer.proofs.Reading.{add_all, scan, kept, read}

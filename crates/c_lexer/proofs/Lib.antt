@@ -1,21 +1,25 @@
 pub mod Bounds
 pub mod Closings
+pub mod CommentEnds
 pub mod Fronts
 pub mod Growth
 pub mod KeywordLemmas
 pub mod Later
 pub mod Lines
 pub mod MarkLemmas
+pub mod MarkTable
 pub mod NumberLemmas
 pub mod OpenComments
 pub mod OpenLines
 pub mod Order
 pub mod Pieceless
 pub mod PieceLemmas
+pub mod PieceWalks
 pub mod QuickLemmas
 pub mod Reading
 pub mod ScanLemmas
 pub mod Tails
 pub mod Theorem
+mod Tried
 pub mod Truths
 pub mod Whole

@@ -4,7 +4,8 @@ use Rattle.std.proofs.lemmas.Bool.{eqb-true}
 use Rattle.std.proofs.lemmas.List.{append-nil}
 use Rattle.c_lexer.specs.declared.mark.Mark.{Mark}
 use Rattle.c_lexer.specs.declared.mark.Mark.TheVariants.{OpenBracket, CloseBracket, OpenParenthesis, CloseParenthesis, OpenBrace, CloseBrace, Dot, Arrow, PlusPlus, MinusMinus, Ampersand, Star, Plus, Minus, Tilde, Exclamation, Slash, Percent, ShiftLeft, ShiftRight, Less, Greater, LessEquals, GreaterEquals, EqualsEquals, ExclamationEquals, Caret, Bar, AmpersandAmpersand, BarBar, Question, Colon, Semicolon, Ellipsis, Equals, StarEquals, SlashEquals, PercentEquals, PlusEquals, MinusEquals, ShiftLeftEquals, ShiftRightEquals, AmpersandEquals, CaretEquals, BarEquals, Comma}
-use Rattle.c_lexer.specs.Marks.{mark_text, mark_at, longer, is_dot}
+use Rattle.c_lexer.specs.Marks.{mark_text}
+use Rattle.c_lexer.specs.MarkSteps.{mark_at, longer, is_dot, grown, grown_mark}
 use Rattle.c_lexer.specs.Pieces.{Begins}
 
 one_more : (b d : ℕ) (p : Mark) (o : Option Mark) (n : Mark) (w : List ℕ) → mark_text p ≡ w ++ d ∷ [] → ((o ≡ Some n) → mark_text n ≡ w ++ b ∷ []) → cond (b == d) (Some p) o ≡ Some n → mark_text n ≡ w ++ b ∷ []
@@ -53,79 +54,67 @@ longer_newline Plus = refl
 longer_newline _ = refl
 
 -- no byte makes a mark of two dots, but a third dot does
-abbrev pub scan_from : Option Mark → List ℕ → Option Mark
-scan_from o [] = o
-scan_from None (b ∷ w) = None
-scan_from (Some m) (b ∷ w) = scan_from (longer m b) w
-
-abbrev pub scan_text : List ℕ → Option Mark
-scan_text [] = None
-scan_text (b ∷ w) = scan_from (mark_at b) w
-
 abbrev pub is_ellipsis : Mark → Bool
 is_ellipsis Ellipsis = true
 is_ellipsis _ = false
 
-pub scan_mark : (m : Mark) → (is_ellipsis m ≡ false) → scan_text (mark_text m) ≡ Some m
-scan_mark OpenBracket h = refl
-scan_mark CloseBracket h = refl
-scan_mark OpenParenthesis h = refl
-scan_mark CloseParenthesis h = refl
-scan_mark OpenBrace h = refl
-scan_mark CloseBrace h = refl
-scan_mark Dot h = refl
-scan_mark Arrow h = refl
-scan_mark PlusPlus h = refl
-scan_mark MinusMinus h = refl
-scan_mark Ampersand h = refl
-scan_mark Star h = refl
-scan_mark Plus h = refl
-scan_mark Minus h = refl
-scan_mark Tilde h = refl
-scan_mark Exclamation h = refl
-scan_mark Slash h = refl
-scan_mark Percent h = refl
-scan_mark ShiftLeft h = refl
-scan_mark ShiftRight h = refl
-scan_mark Less h = refl
-scan_mark Greater h = refl
-scan_mark LessEquals h = refl
-scan_mark GreaterEquals h = refl
-scan_mark EqualsEquals h = refl
-scan_mark ExclamationEquals h = refl
-scan_mark Caret h = refl
-scan_mark Bar h = refl
-scan_mark AmpersandAmpersand h = refl
-scan_mark BarBar h = refl
-scan_mark Question h = refl
-scan_mark Colon h = refl
-scan_mark Semicolon h = refl
-scan_mark Ellipsis h = absurd cc
-scan_mark Equals h = refl
-scan_mark StarEquals h = refl
-scan_mark SlashEquals h = refl
-scan_mark PercentEquals h = refl
-scan_mark PlusEquals h = refl
-scan_mark MinusEquals h = refl
-scan_mark ShiftLeftEquals h = refl
-scan_mark ShiftRightEquals h = refl
-scan_mark AmpersandEquals h = refl
-scan_mark CaretEquals h = refl
-scan_mark BarEquals h = refl
-scan_mark Comma h = refl
+-- each mark but `...` grows from its bytes
+pub grows : (m : Mark) → is_ellipsis m ≡ false → grown_mark (mark_text m) ≡ Some m
+grows OpenBracket h = refl
+grows CloseBracket h = refl
+grows OpenParenthesis h = refl
+grows CloseParenthesis h = refl
+grows OpenBrace h = refl
+grows CloseBrace h = refl
+grows Dot h = refl
+grows Arrow h = refl
+grows PlusPlus h = refl
+grows MinusMinus h = refl
+grows Ampersand h = refl
+grows Star h = refl
+grows Plus h = refl
+grows Minus h = refl
+grows Tilde h = refl
+grows Exclamation h = refl
+grows Slash h = refl
+grows Percent h = refl
+grows ShiftLeft h = refl
+grows ShiftRight h = refl
+grows Less h = refl
+grows Greater h = refl
+grows LessEquals h = refl
+grows GreaterEquals h = refl
+grows EqualsEquals h = refl
+grows ExclamationEquals h = refl
+grows Caret h = refl
+grows Bar h = refl
+grows AmpersandAmpersand h = refl
+grows BarBar h = refl
+grows Question h = refl
+grows Colon h = refl
+grows Semicolon h = refl
+grows Ellipsis h = absurd cc
+grows Equals h = refl
+grows StarEquals h = refl
+grows SlashEquals h = refl
+grows PercentEquals h = refl
+grows PlusEquals h = refl
+grows MinusEquals h = refl
+grows ShiftLeftEquals h = refl
+grows ShiftRightEquals h = refl
+grows AmpersandEquals h = refl
+grows CaretEquals h = refl
+grows BarEquals h = refl
+grows Comma h = refl
 
-scan_none : (w : List ℕ) → scan_from None w ≡ None
-scan_none [] = refl
-scan_none (b ∷ w) = refl
+grown_more : (o : Option Mark) (u v : List ℕ) → grown o (u ++ v) ≡ grown (grown o u) v
+grown_more None u v = refl
+grown_more (Some m) [] v = refl
+grown_more (Some m) (b ∷ u) v = grown_more (longer m b) u v
 
-scan_more : (o : Option Mark) (u v : List ℕ) → scan_from o (u ++ v) ≡ scan_from (scan_from o u) v
-scan_more o [] v = refl
-scan_more None (b ∷ u) v = sym (scan_none v)
-scan_more (Some m) (b ∷ u) v = scan_more (longer m b) u v
-
-scan_text_more : (m : Mark) (u v : List ℕ) → scan_text u ≡ Some m → scan_text (u ++ v) ≡ scan_from (Some m) v
-scan_text_more m [] v h = absurd cc
-scan_text_more m (b ∷ u) v h = scan_more (mark_at b) u v ∙ ap (λ (o : Option Mark). scan_from o v) h
+grows_more : (m : Mark) (u v : List ℕ) → grown_mark u ≡ Some m → grown_mark (u ++ v) ≡ grown (Some m) v
+grows_more m [] v h = absurd cc
+grows_more m (b ∷ u) v h = grown_more (mark_at b) u v ∙ ap (λ (o : Option Mark). grown o v) h
 
 split_at : (u n : List ℕ) (b : ℕ) (r q : List ℕ) → u ++ b ∷ r ≡ n ++ q → length u < length n → (w : List ℕ) × (n ≡ u ++ b ∷ w)
 split_at u [] b r q e h = absurd (omega arith)
@@ -146,7 +135,7 @@ none_some n h = cc
 no_longer : (m : Mark) (b : ℕ) (r : List ℕ) → is_ellipsis m ≡ false → longer m b ≡ None → (n : Mark) → is_ellipsis n ≡ false → Begins (mark_text n) (mark_text m ++ b ∷ r) → length (mark_text n) ≤ length (mark_text m)
 no_longer m b r a h n c (q, e) = le_or (length (mark_text n)) (length (mark_text m)) (λ lt.
     let k = split_at (mark_text m) (mark_text n) b r q e lt in
-    none_some n (sym (sym (scan_mark n c) ∙ ap scan_text k.1 ∙ scan_text_more m (mark_text m) (b ∷ k.0) (scan_mark m a) ∙ ap (λ (o : Option Mark). scan_from o k.0) h ∙ scan_none k.0)))
+    none_some n (sym (sym (grows n c) ∙ ap grown_mark k.1 ∙ grows_more m (mark_text m) (b ∷ k.0) (grows m a) ∙ ap (λ (o : Option Mark). grown o k.0) h)))
 
 -- three dots begin here
 abbrev pub dots_begin : List ℕ → Bool

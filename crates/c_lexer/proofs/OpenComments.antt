@@ -4,7 +4,7 @@ use Rattle.std.specs.Prelude.{is_some, codes}
 use Rattle.std.specs.Option.{option_map_or}
 use Rattle.std.proofs.lemmas.Bool.{eqb-true, eqb-false, ne_eqb}
 use Rattle.c_lexer.specs.declared.directive.Before.TheVariants.{Outside, Name, Comment, Line, Doubt}
-use Rattle.c_lexer.specs.Includes.{begins_with, behind_comment, has_open, past_comments, from_quote, behind_name, behind_header, leaves_open}
+use Rattle.c_lexer.specs.Includes.{begins_with, behind_comment, has_open, is_quote, from_quote, past_comment, behind_name, behind_header, leaves_open}
 use Rattle.c_lexer.specs.IncludeSteps.{past, open_behind}
 use Rattle.c_lexer.proofs.Truths.{and_false, or_true}
 
@@ -267,9 +267,32 @@ rest_none : (named : Bool) → rest named [] ≡ false
 rest_none true = refl
 rest_none false = refl
 
-none_past : (m : ℕ) → past_comments m [] ≡ []
-none_past zero = refl
-none_past (suc m) = refl
+-- a quote stops it, and other bytes don't
+quote_here : (b : ℕ) (w : List ℕ) → (47 == b) ≡ false → is_quote b ≡ true → from_quote (b ∷ w) ≡ b ∷ w
+quote_here b [] s q = ap (λ c. cond c (b ∷ []) []) q
+quote_here b (c ∷ w) s q =
+    ap (λ x. cond (x && (47 == c && true)) [] (cond (x && (42 == c && true)) (cond (is_some (behind_comment w)) (past_comment w) (b ∷ c ∷ w)) (cond (is_quote b) (b ∷ c ∷ w) (from_quote (c ∷ w))))) s
+    ∙ ap (λ x. cond x (b ∷ c ∷ w) (from_quote (c ∷ w))) q
+
+passed : (b : ℕ) (w : List ℕ) → (47 == b) ≡ false → is_quote b ≡ false → from_quote (b ∷ w) ≡ from_quote w
+passed b [] s q = ap (λ c. cond c (b ∷ []) []) q
+passed b (c ∷ w) s q =
+    ap (λ x. cond (x && (47 == c && true)) [] (cond (x && (42 == c && true)) (cond (is_some (behind_comment w)) (past_comment w) (b ∷ c ∷ w)) (cond (is_quote b) (b ∷ c ∷ w) (from_quote (c ∷ w))))) s
+    ∙ ap (λ x. cond x (b ∷ c ∷ w) (from_quote (c ∷ w))) q
+
+-- what is left behind a comment
+past_it : (u r : List ℕ) → behind_comment u ≡ Some r → past_comment u ≡ from_quote r
+past_it [] r h = absurd cc
+past_it (b ∷ []) r h = absurd (let y : None ≡ Some r = sym (ap (λ x. cond x (Some []) None) (and_false (42 == b))) ∙ h in cc)
+past_it (b ∷ c ∷ w) r h = go (begins_with (codes "*/") (b ∷ c ∷ w)) (λ e. past_it (c ∷ w) r e) h
+  where
+    some : (x y : List ℕ) → Some x ≡ Some y → x ≡ y
+    some x y e = cc
+
+    go : (x : Bool) → (behind_comment (c ∷ w) ≡ Some r → past_comment (c ∷ w) ≡ from_quote r)
+        → cond x (Some w) (behind_comment (c ∷ w)) ≡ Some r → cond x (from_quote w) (past_comment (c ∷ w)) ≡ from_quote r
+    go true f e = ap from_quote (some w r e)
+    go false f e = f e
 
 -- a comment without end
 unended : (named : Bool) (u : List ℕ) → behind_comment u ≡ None → true ≡ rest named (47 ∷ 42 ∷ u)
@@ -286,18 +309,18 @@ record AtQuotes (named : Bool) : Type 0 where
   less : (w : List ℕ) → open_behind (past (Outside named false) 60) w ≡ rest named (60 ∷ w)
 
 abbrev Along : Bool → ℕ → Type 0
-Along named m = (v : List ℕ) → length v ≤ m → open_behind (Outside named false) v ≡ rest named (past_comments m v)
+Along named m = (v : List ℕ) → length v ≤ m → open_behind (Outside named false) v ≡ rest named (from_quote v)
 
 block_along : (named : Bool) (m : ℕ) (u : List ℕ) → Along named m → suc (suc (length u)) ≤ suc m
-    → open_behind (Comment named false) u ≡ rest named (past_comments (suc m) (47 ∷ 42 ∷ u))
+    → open_behind (Comment named false) u ≡ rest named (from_quote (47 ∷ 42 ∷ u))
 block_along named m u f h = in_comment named u ∙ go (behind_comment u) refl
   where
-    go : (o : Option (List ℕ)) → behind_comment u ≡ o → ended named o ≡ rest named (option_map_or (past_comments m) o (47 ∷ 42 ∷ u))
+    go : (o : Option (List ℕ)) → behind_comment u ≡ o → ended named o ≡ rest named (cond (is_some o) (past_comment u) (47 ∷ 42 ∷ u))
     go None e = unended named u e
-    go (Some r) e = f r (let k = shorter u r e in omega arith)
+    go (Some r) e = f r (let k = shorter u r e in omega arith) ∙ ap (rest named) (sym (past_it u r e))
 
 slash_along : (named : Bool) (m c : ℕ) (u : List ℕ) → Along named m → suc (suc (length u)) ≤ suc m → Sort c
-    → open_behind (past (Outside named true) c) u ≡ rest named (past_comments (suc m) (47 ∷ c ∷ u))
+    → open_behind (past (Outside named true) c) u ≡ rest named (from_quote (47 ∷ c ∷ u))
 slash_along named m c u f h Double = f (34 ∷ u) (omega arith)
 slash_along named m c u f h Single = f (39 ∷ u) (omega arith)
 slash_along named m c u f h Star = block_along named m u f h
@@ -310,19 +333,22 @@ slash_along named m c u f h (Other k) =
     ap (λ s. open_behind s u) e ∙ rw (k.no_star, k.no_slash) (f (c ∷ u) (omega arith))
 
 along_on : (named : Bool) (m b : ℕ) (w : List ℕ) → AtQuotes named → Along named m → suc (length w) ≤ suc m → Sort b
-    → open_behind (past (Outside named false) b) w ≡ rest named (past_comments (suc m) (b ∷ w))
-along_on named m b w q f h Double = q.double w
-along_on named m b w q f h Single = q.single w
-along_on named m b w q f h Star = rw (and_false named) (f w (omega arith))
-along_on named m b [] q f h Slash = rw (and_false named) (sym (ap (rest named) (none_past m) ∙ rest_none named))
+    → open_behind (past (Outside named false) b) w ≡ rest named (from_quote (b ∷ w))
+along_on named m b w q f h Double = q.double w ∙ ap (rest named) (sym (quote_here 34 w refl refl))
+along_on named m b w q f h Single = q.single w ∙ ap (rest named) (sym (quote_here 39 w refl refl))
+along_on named m b w q f h Star = rw (and_false named) (f w (omega arith) ∙ ap (rest named) (sym (passed 42 w refl refl)))
+along_on named m b [] q f h Slash = rw (and_false named) (sym (rest_none named))
 along_on named m b (c ∷ u) q f h Slash = rw (and_false named) (slash_along named m c u f h (sort c))
-along_on named m b w q f h Less = q.less w
-along_on named m b w q f h Greater = rw (and_false named) (f w (omega arith))
-along_on named m b w q f h Back = rw (and_false named) (f w (omega arith))
-along_on named m b w q f h (Other k) = rw (k.double, k.single, k.slash, k.no_slash, k.less, and_false named) (f w (omega arith))
+along_on named m b w q f h Less = q.less w ∙ ap (rest named) (sym (quote_here 60 w refl refl))
+along_on named m b w q f h Greater = rw (and_false named) (f w (omega arith) ∙ ap (rest named) (sym (passed 62 w refl refl)))
+along_on named m b w q f h Back = rw (and_false named) (f w (omega arith) ∙ ap (rest named) (sym (passed 92 w refl refl)))
+along_on named m b w q f h (Other k) =
+    let quote : is_quote b ≡ false = rw (k.single, k.double, k.less) refl in
+    let e : past (Outside named false) b ≡ Outside named false = rw (k.double, k.single, k.slash, k.less, and_false named) refl in
+    ap (λ s. open_behind s w) e ∙ (f w (omega arith) ∙ ap (rest named) (sym (passed b w k.no_slash quote)))
 
 along : (named : Bool) → AtQuotes named → (n : ℕ) → Along named n
-along named q n [] h = sym (ap (rest named) (none_past n) ∙ rest_none named)
+along named q n [] h = sym (rest_none named)
 along named q zero (b ∷ w) h = absurd (omega arith)
 along named q (suc m) (b ∷ w) h = along_on named m b w q (along named q m) h (sort b)
 

@@ -16,7 +16,8 @@ use Rattle.c_lexer.specs.Bytes.{NotFirst}
 use Rattle.c_lexer.specs.declared.mark.Mark.{Mark}
 use Rattle.c_lexer.specs.declared.mark.Mark.TheVariants.{Slash, OpenBracket, CloseBracket, OpenParenthesis, CloseParenthesis, OpenBrace, CloseBrace, Tilde, Question, Colon, Semicolon, Comma}
 use Rattle.c_lexer.specs.declared.token.TokenKind.TheVariants as k
-use Rattle.c_lexer.specs.Marks.{mark_text, mark_at, longer, is_dot, is_alone, is_alone_mark}
+use Rattle.c_lexer.specs.Marks.{mark_text}
+use Rattle.c_lexer.specs.MarkSteps.{mark_at, longer, is_dot, is_alone, is_alone_mark}
 use Rattle.c_lexer.specs.Pieces.{Word, Sign, Longest, token, word_kind}
 use Rattle.c_lexer.proofs.MarkLemmas.{mark_first, longest_mark, no_dots, mark_last}
 use Rattle.c_lexer.specs.Machine.{run, go_on, stays, begins_word, begins_mark, behind_stays, found, mark, word_from, add_ended}

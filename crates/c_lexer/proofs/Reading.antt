@@ -22,15 +22,19 @@ use Rattle.c_lexer.specs.declared.state.Taken.{Taken}
 use Rattle.c_lexer.specs.declared.state.Taken.TheVariants.{Go, Fault}
 use Rattle.c_types.specs.Words.{is_letter, is_digit, is_word, is_word_byte}
 use Rattle.c_lexer.specs.Bytes.{between, is_space, is_newline, is_octal_digit, is_hexadecimal_digit, is_power, is_run_byte, is_simple_escape, is_text_byte, is_character_byte, digit_value, NotFirst}
-use Rattle.c_lexer.specs.Numbers.{continues, is_run, ends_with_power, value_from, integer_of}
+use Rattle.c_lexer.specs.Numbers.{continues, is_run, ends_with_power, integer_of}
+use Rattle.c_lexer.specs.NumberSteps.{continues_from, power_from, value_from}
 use Rattle.c_lexer.specs.Characters.{Character, Plain, Simple, OneDigit, TwoDigits, ThreeDigits, Hexadecimal, written, written_all, IsCharacter, TakesDigits, AreCharacters}
-use Rattle.c_lexer.specs.Marks.{mark_text, mark_at, is_slash, is_dot}
-use Rattle.c_lexer.specs.Pieces.{Piece, Space, Word, Number, Char, Text, Sign, Directive, Line, Block, spelled, text, NewlineNext, runs_on, is_directive, Fits, Begins, Longest, first_behind, first_behind_all, Good, word_kind, span}
+use Rattle.c_lexer.specs.Marks.{mark_text}
+use Rattle.c_lexer.specs.MarkSteps.{mark_at, is_slash, is_dot}
+use Rattle.c_lexer.specs.Pieces.{Piece, Space, Word, Number, Char, Text, Sign, Directive, Line, Block, spelled, text, NewlineNext, runs_on, is_directive, Fits, Begins, Longest, word_kind, span}
+use Rattle.c_lexer.specs.PieceSteps.{first_behind, first_behind_all, Good}
 use Rattle.c_lexer.specs.Machine.{begin, of_mark, found, mark, word, escape_step, char_escape, text_escape, line_end, broken_at, end_directive, end_line, closing_step, step, finish, Lexed, Read, go_on, run}
 use Rattle.c_lexer.proofs.MarkLemmas.{none_longer, longer_newline}
-use Rattle.c_lexer.proofs.NumberLemmas.{value_up}
+use Rattle.c_lexer.proofs.NumberLemmas.{value_up, value_is, run_continues, run_power}
 use Rattle.c_lexer.proofs.Truths.{both_true, all_of_more, or_first, or_second, not_true}
 use Rattle.c_lexer.proofs.Lines.{has_no_newline, no_newline, not_broken}
+use Rattle.c_lexer.proofs.CommentEnds.{closes_so}
 use Rattle.c_lexer.proofs.Closings.{closes_from, goes_on, none_left, closes_on, last_slash, comment_on}
 use Rattle.c_lexer.proofs.PieceLemmas.{past, past_character, past_characters, ends, ends_all, Stands, stands_past, slice_is, stands_behind, end_from}
 
@@ -55,9 +59,6 @@ digit_space b h = grind (arith, nat_tests)
 
 digit_letter : (b : ℕ) → is_digit b ≡ true → is_letter b ≡ false
 digit_letter b h = grind (arith, nat_tests)
-
-pub digit_power : (b : ℕ) → is_digit b ≡ true → is_power b ≡ false
-digit_power b h = grind (arith, nat_tests)
 
 octal_simple : (b : ℕ) → is_octal_digit b ≡ true → is_simple_escape b ≡ false
 octal_simple b h = grind (arith, nat_tests)
@@ -114,10 +115,10 @@ number_ends t s true at out [] g h = rw g
 number_ends t s false at out [] g h = rw g
 number_ends t s power at out (b ∷ r) g h = rw (h, g) (begin_after (found k.Number s at) b at out (λ z more. run add_all t z (at + 1) more r))
 
-number_run : (t w : List ℕ) (s : ℕ) (power : Bool) → continues power w ≡ true → (at : ℕ) (out : List Ended) (r : List ℕ) → is_some (integer_of (slice_range t s (past at w))) ≡ true → NotFirst (is_run_byte (ends_with_power power w)) r
+number_run : (t w : List ℕ) (s : ℕ) (power : Bool) → continues_from power w ≡ true → (at : ℕ) (out : List Ended) (r : List ℕ) → is_some (integer_of (slice_range t s (past at w))) ≡ true → NotFirst (is_run_byte (power_from power w)) r
     → scan t (InNumber s power) at out (w ++ r) ≡ scan t (Between false) (past at w) (add_all (found k.Number s (past at w)) out) r
 number_run t [] s power e at out r g h = number_ends t s power at out r g h
-number_run t (b ∷ w) s power e at out r g h = let q = both_true (is_run_byte power b) (continues (is_power b) w) e in let x = q.0 in rw x (number_run t w s (is_power b) q.1 (at + 1) out r g h)
+number_run t (b ∷ w) s power e at out r g h = let q = both_true (is_run_byte power b) (continues_from (is_power b) w) e in let x = q.0 in rw x (number_run t w s (is_power b) q.1 (at + 1) out r g h)
 
 -- ---- marks
 
@@ -416,7 +417,7 @@ character_run x t (Hexadecimal a ds) s at out r h l =
     let q = all_of_more is_hexadecimal_digit a ds h.0 in
     let y = q.0 in
     backslash x t s at out (120 ∷ a ∷ ds ++ r) ∙ escape_taken x t s Backslash (More HexadecimalStart) 120 (at + 1) out (a ∷ ds ++ r) refl
-    ∙ escape_taken x t s HexadecimalStart (More (InHexadecimal (digit_value a))) a (at + 1 + 1) out (ds ++ r) (rw y) ∙ hexadecimal_run x t ds (digit_value a) s (at + 1 + 1 + 1) out r q.1 (ap (λ (n : ℕ). nat_le (value_from 16 n ds) 255) (sym (zero-add (digit_value a))) ∙ h.1) l
+    ∙ escape_taken x t s HexadecimalStart (More (InHexadecimal (digit_value a))) a (at + 1 + 1) out (ds ++ r) (rw y) ∙ hexadecimal_run x t ds (digit_value a) s (at + 1 + 1 + 1) out r q.1 (ap (λ (n : ℕ). nat_le (value_from 16 n ds) 255) (sym (zero-add (digit_value a))) ∙ ap (λ (n : ℕ). nat_le n 255) (value_is 16 (a ∷ ds)) ∙ h.1) l
 
 text_run : (t : List ℕ) (cs : List Character) (s at : ℕ) (out : List Ended) (r : List ℕ) → AreCharacters is_text_byte cs (34 ∷ r)
     → scan t (InText s) at out (written_all cs (34 ∷ r)) ≡ scan t (Between false) (past_characters cs at + 1) (add_all (found k.Text s (past_characters cs at + 1)) out) r
@@ -479,16 +480,16 @@ read_word t first (b ∷ w) h at out r l g =
     let slice = slice_is t at (b ∷ w) r g in
     rw (x, y) (word_run t w q.1 at (at + 1) out r l ∙ ap (λ (v : List ℕ). scan t (Between false) (past (at + 1) w) (add_all (found (word_kind v) at (past (at + 1) w)) out) r) slice)
 
-read_number : (t : List ℕ) (first : Bool) (w : List ℕ) → is_run w ≡ true → is_some (integer_of w) ≡ true → (at : ℕ) (out : List Ended) (r : List ℕ) → NotFirst (is_run_byte (ends_with_power false w)) r → Stands t at (w ++ r)
+read_number : (t : List ℕ) (first : Bool) (w : List ℕ) → is_run w ≡ true → is_some (integer_of w) ≡ true → (at : ℕ) (out : List Ended) (r : List ℕ) → NotFirst (is_run_byte (ends_with_power w)) r → Stands t at (w ++ r)
     → scan t (Between first) at out (w ++ r) ≡ scan t (Between false) (past at w) (add_all (kept (Number w) at) out) r
 read_number t first [] h i at out r l g = absurd cc
 read_number t first (b ∷ w) h i at out r l g =
-    let q = both_true (is_digit b) (continues false w) h in
+    let q = both_true (is_digit b) (continues (b ∷ w)) h in
     let x = digit_space b q.0 in
     let y = digit_letter b q.0 in
     let z = q.0 in
     let slice = slice_is t at (b ∷ w) r g in
-    rw (x, y, z) (number_run t w at false q.1 (at + 1) out r (ap (λ (v : List ℕ). is_some (integer_of v)) slice ∙ i) (subst (λ (c : Bool). NotFirst (is_run_byte (ends_with_power c w)) r) (digit_power b q.0) l))
+    rw (x, y, z) (number_run t w at false (run_continues b w q.0 ∙ q.1) (at + 1) out r (ap (λ (v : List ℕ). is_some (integer_of v)) slice ∙ i) (subst (λ (c : Bool). NotFirst (is_run_byte c) r) (sym (run_power b w q.0)) l))
 
 pub read : (t : List ℕ) (first : Bool) (p : Piece) → Fits first p → (r : List ℕ) → Longest p r → (at : ℕ) (out : List Ended) → Stands t at (spelled p r)
     → scan t (Between first) at out (spelled p r) ≡ scan t (Between (first_behind first p)) (ends p at) (add_all (kept p at) out) r
@@ -500,7 +501,7 @@ read t first (Text cs) h r l at out g = text_run t cs at (at + 1) out r (text_qu
 read t first (Sign m) h r l at out g = mark_run t first m at out r ∙ mark_ends t m at out r l
 read t first (Directive w) h r l at out g = let x = h.0 in rw x (directive_reads t w at out r h.1 l.0 l.1 (stands_past t at (35 ∷ []) (w ++ r) g))
 read t first (Line w) h r l at out g = line_reads t w at out r l.0 l.1 g
-read t first (Block w) h r l at out g = block_run t w Open h at (at + 1 + 1) out r
+read t first (Block w) h r l at out g = block_run t w Open (closes_so w h) at (at + 1 + 1) out r
 
 -- what these pieces are, behind this
 abbrev pub gather : List Piece → ℕ → List Ended → List Ended

@@ -1,5 +1,5 @@
 -- What reading a text gives is what its pieces are, or its first fault.
-use Rattle.std.proofs.Common.{◌⊎◌, inl, inr, arith, Bool, Result, Err, ◌≡◌, ◌+◌, ℕ, true, List, [], ◌∷◌, ◌++◌, Ok, refl, ap, sym, ◌∙◌, subst, append_assoc}
+use Rattle.std.proofs.Common.{◌⊎◌, inl, inr, arith, Bool, Result, Err, ◌≡◌, ◌+◌, ℕ, true, List, [], ◌∷◌, ◌++◌, length, Ok, refl, ap, sym, ◌∙◌, subst, append_assoc}
 use Rattle.std.proofs.lemmas.List.{append-nil}
 use Rattle.c_types.specs.declared.refusal.Refusal.{Refusal}
 use Rattle.c_lexer.specs.declared.token.Token.{Token}
@@ -13,19 +13,28 @@ use Rattle.c_lexer.specs.declared.state.Ended.{Ended}
 use Rattle.c_lexer.specs.declared.state.Ended.TheVariants as ended
 use Rattle.c_lexer.specs.declared.state.Taken.{Taken}
 use Rattle.c_lexer.specs.declared.state.Taken.TheVariants.{Go, Fault}
-use Rattle.c_lexer.specs.Pieces.{Piece, Space, Word, Number, Char, Text, Sign, Directive, Line, Block, spelled, text, Good, Spells, first_behind_all, behind, behind_all, word_kind, token, span, token_of, comment_of, all_of, scanned_of}
+use Rattle.c_lexer.specs.Pieces.{Piece, Space, Word, Number, Char, Text, Sign, Directive, Line, Block, spelled, text, Spells, word_kind, token, span, token_of, comment_of, scanned_of}
+use Rattle.c_lexer.specs.PieceSteps.{Good, first_behind_all, all_of}
 use Rattle.c_lexer.specs.Faults.{refusal_of, reason_of, reach_of, HasNoPiece, IsFirstFault}
 use Rattle.c_lexer.specs.Machine.{Lexed, Read, Faulty, go_on, run, step, finish, add_token, add_comment, add_ended}
 use Rattle.c_lexer.specs.Answers.{answer, nothing, scanning, part, read_tokens, read_comments, IsReading}
 use Rattle.c_lexer.proofs.PieceLemmas.{ends, ends_is, ends_all, Stands, stands_text, end_is}
+use Rattle.c_lexer.proofs.PieceWalks.{first_is, good_walked, walked_good, spells_walked, length_on, all_is}
 use Rattle.c_lexer.proofs.Reading.{add_all, scan, kept, gather, reads, lexes}
 use Rattle.c_lexer.proofs.Fronts.{StuckAt}
 use Rattle.c_lexer.proofs.Later.{no_fault}
 use Rattle.c_lexer.proofs.Whole.{Outcome, whole}
 
-ends_all_is : (ps : List Piece) (at : ℕ) → ends_all ps at ≡ behind_all ps at
-ends_all_is [] at = refl
-ends_all_is (p ∷ ps) at = ap (ends_all ps) (ends_is p at) ∙ ends_all_is ps (behind p at)
+ends_all_is : (ps : List Piece) (at : ℕ) → ends_all ps at ≡ at + length (text ps [])
+ends_all_is [] at = omega arith
+ends_all_is (p ∷ ps) at =
+    let h = ends_is p at in
+    let k = ends_all_is ps (ends p at) in
+    let l = length_on p (text ps []) in
+    omega (arith, h, k, l)
+
+ends_at : (ps : List Piece) → ends_all ps 0 ≡ length (text ps [])
+ends_at ps = let h = ends_all_is ps 0 in omega (arith, h)
 
 -- ---- the tokens and the comments of all that is read
 
@@ -136,7 +145,7 @@ comments_give (Line w) at out = one_comment at _ _ out (end_is w (at + 1 + 1))
 comments_give (Block w) at out = one_comment at _ _ out (ends_is (Block w) at)
 
 both_gathered : (ps : List Piece) → both (gather ps 0 []) ≡ scanned_of ps
-both_gathered ps = same_parts _ _ _ _ (gathered token_of only_tokens tokens_give ps 0 []) (gathered comment_of only_comments comments_give ps 0 [])
+both_gathered ps = same_parts _ _ _ _ (gathered token_of only_tokens tokens_give ps 0 [] ∙ all_is token_of ps) (gathered comment_of only_comments comments_give ps 0 [] ∙ all_is comment_of ps)
 
 -- ---- pieces read back
 
@@ -144,7 +153,7 @@ spelled_reads : (t : List ℕ) (ps : List Piece) → t ≡ text ps [] → Good t
 spelled_reads t ps e g = ap (λ (x : List ℕ). scan x (Between true) 0 [] x) e ∙ lexes ps g
 
 pub scan_read_back : (t : List ℕ) (ps : List Piece) → Spells ps t → scanning t ≡ Ok (scanned_of ps)
-scan_read_back t ps s = ap (answer t) (scan_run t ∙ ap selected (spelled_reads t ps s.spells s.good)) ∙ ap (λ (x : Scanned). Ok x) (both_gathered ps)
+scan_read_back t ps s = ap (answer t) (scan_run t ∙ ap selected (spelled_reads t ps s.spells (spells_walked ps t s))) ∙ ap (λ (x : Scanned). Ok x) (both_gathered ps)
 
 -- ---- the first fault
 
@@ -164,9 +173,11 @@ first_fault t reason place s h =
       byte = s.byte;
       rest = s.rest;
       spells = s.spells;
-      good = s.good;
-      stuck = none s.none;
-      refusal = ap (λ (n : ℕ). refusal_of n t place) (sym s.reason_is) ∙ ap (refusal_of (reason_of first s.byte s.rest) t) (sym s.place_is ∙ ap (λ (n : ℕ). n + reach_of first s.byte s.rest) (ends_all_is s.pieces 0));
+      good = walked_good s.pieces (s.byte ∷ s.rest) s.good;
+      stuck = subst (λ c. HasNoPiece c (s.byte ∷ s.rest)) (first_is s.pieces) (none s.none);
+      refusal =
+          ap (λ (n : ℕ). refusal_of n t place) (sym s.reason_is) ∙ ap (refusal_of (reason_of first s.byte s.rest) t) (sym s.place_is ∙ ap (λ (n : ℕ). n + reach_of first s.byte s.rest) (ends_at s.pieces))
+          ∙ ap (λ c. refusal_of (reason_of c s.byte s.rest) t (length (text s.pieces []) + reach_of c s.byte s.rest)) (first_is s.pieces);
     }
   where
     first : Bool
@@ -208,15 +219,16 @@ stops_there first byte place rest none (Faulty reason at) s = go s.pieces s.spel
 fault_stops : (t : List ℕ) (fault : Refusal) (f : IsFirstFault t fault) → scan t (Between true) 0 [] t ≡ Faulty (reason_of (first_behind_all true f.pieces) f.byte f.rest) (ends_all f.pieces 0 + reach_of (first_behind_all true f.pieces) f.byte f.rest)
 fault_stops t fault f =
     let stands = same_bytes t f.pieces (f.byte ∷ f.rest) f.spells in
-    ap (λ (x : List ℕ). scan t (Between true) 0 [] x) f.spells ∙ reads t true f.pieces (f.byte ∷ f.rest) f.good 0 [] stands
-    ∙ stops_there (first_behind_all true f.pieces) f.byte (ends_all f.pieces 0) f.rest f.stuck _
+    ap (λ (x : List ℕ). scan t (Between true) 0 [] x) f.spells ∙ reads t true f.pieces (f.byte ∷ f.rest) (good_walked f.pieces (f.byte ∷ f.rest) f.good) 0 [] stands
+    ∙ stops_there (first_behind_all true f.pieces) f.byte (ends_all f.pieces 0) f.rest (subst (λ c. HasNoPiece c (f.byte ∷ f.rest)) (sym (first_is f.pieces)) f.stuck) _
     (whole t (ends_all f.pieces 0) (first_behind_all true f.pieces) (f.byte ∷ f.rest) (stands_text t f.pieces 0 (f.byte ∷ f.rest) stands) (gather f.pieces 0 []))
 
 -- the first fault is what reading gives
 pub scan_fault_back : (t : List ℕ) (fault : Refusal) → IsFirstFault t fault → scanning t ≡ Err fault
 scan_fault_back t fault f =
     ap (answer t) (scan_run t ∙ ap selected (fault_stops t fault f))
-    ∙ ap (λ (n : ℕ). refused (refusal_of (reason_of (first_behind_all true f.pieces) f.byte f.rest) t (n + reach_of (first_behind_all true f.pieces) f.byte f.rest))) (ends_all_is f.pieces 0) ∙ ap refused (sym f.refusal)
+    ∙ ap (λ (n : ℕ). refused (refusal_of (reason_of (first_behind_all true f.pieces) f.byte f.rest) t (n + reach_of (first_behind_all true f.pieces) f.byte f.rest))) (ends_at f.pieces)
+    ∙ ap (λ c. refused (refusal_of (reason_of c f.byte f.rest) t (length (text f.pieces []) + reach_of c f.byte f.rest))) (first_is f.pieces) ∙ ap refused (sym f.refusal)
 
 -- ---- what reading gives
 
@@ -228,7 +240,7 @@ scan_reading t =
     go (Read z) e h =
         let s : Read z ≡ Read (gather h.0 0 []) = sym e ∙ spelled_reads t h.0 h.1 h.2 in
         let same : z ≡ gather h.0 0 [] = cc in
-        (h.0, record { spells = h.1; good = h.2 }, ap both same ∙ both_gathered h.0)
+        (h.0, record { spells = h.1; good = walked_good h.0 [] h.2 }, ap both same ∙ both_gathered h.0)
     go (Faulty reason place) e h = first_fault t reason place h e
 
 -- ---- a part of it

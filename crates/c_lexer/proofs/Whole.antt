@@ -14,11 +14,14 @@ use Rattle.c_lexer.specs.declared.state.Taken.TheVariants.{Go, Fault}
 use Rattle.c_types.specs.Words.{is_letter, is_digit, is_word_byte}
 use Rattle.c_lexer.specs.Bytes.{is_run_byte}
 use Rattle.c_lexer.specs.Numbers.{continues, integer_of}
-use Rattle.c_lexer.specs.Marks.{mark_text, longer, is_slash, is_dot}
-use Rattle.c_lexer.specs.Pieces.{Piece, Word, Number, Sign, Directive, Line, spelled, text, is_directive, Fits, Longest, first_behind_all, Good}
+use Rattle.c_lexer.specs.Marks.{mark_text}
+use Rattle.c_lexer.specs.MarkSteps.{longer, is_slash, is_dot}
+use Rattle.c_lexer.specs.Pieces.{Piece, Word, Number, Sign, Directive, Line, spelled, text, is_directive, Fits, Longest}
+use Rattle.c_lexer.specs.PieceSteps.{first_behind_all, Good}
 use Rattle.c_lexer.specs.Machine.{after_mark, escape_step, char_escape, text_escape, broken_at, end_directive, end_line, step, finish}
 use Rattle.c_lexer.proofs.MarkLemmas.{mark_last}
 use Rattle.c_lexer.specs.Machine.{Lexed, Read, Faulty, go_on, run}
+use Rattle.c_lexer.proofs.NumberLemmas.{run_continues}
 use Rattle.c_lexer.proofs.Lines.{has_no_newline}
 use Rattle.c_lexer.proofs.Reading.{add_all, scan, two_on}
 use Rattle.c_lexer.proofs.Fronts.{Front, onward, text_more, good_more, Part, Ready, StuckAt, Goes, stuck_part, part_slice, part_slice_behind}
@@ -81,7 +84,7 @@ closes_at_end t (InWord s) at P (ps, x, w, i, letter, each) e = closed (Word (x 
 closes_at_end t (InNumber s power) at P (ps, x, w, i, digit, run, last) e =
     closing (is_run_byte power 10) _ _ _ (λ h. absurd (let y = run_newline power in let z : true ≡ false = sym h ∙ y in cc))
     (λ h. closing (is_some (integer_of (slice_range t s at))) _ _ _
-    (λ g. closed (Number (x ∷ w)) s at P ps (x ∷ w) i refl (both (is_digit x) (continues false w) digit run, ap (λ (v : List ℕ). is_some (integer_of v)) (sym (part_slice t s at ps (x ∷ w) P [] i e)) ∙ g) tt)
+    (λ g. closed (Number (x ∷ w)) s at P ps (x ∷ w) i refl (both (is_digit x) (continues (x ∷ w)) digit (sym (run_continues x w digit) ∙ run), ap (λ (v : List ℕ). is_some (integer_of v)) (sym (part_slice t s at ps (x ∷ w) P [] i e)) ∙ g) tt)
     (λ g. stuck_part s at ps x w P 5 i (λ q. digit_fault _ x (w ++ q) digit) []))
 closes_at_end t (InMark s m) at P (ps, i) e =
     let whole = closed (Sign m) s at P ps (mark_text m) i refl tt (mark_last m, (λ q. tt)) in

@@ -16,6 +16,10 @@ is_blank b = b == 32 || b == 9
 abbrev pub is_newline : ℕ → Bool
 is_newline b = b == 10
 
+-- white space on a line
+abbrev pub is_white : ℕ → Bool
+is_white b = is_space b && not (is_newline b)
+
 abbrev pub is_return : ℕ → Bool
 is_return b = b == 13
 

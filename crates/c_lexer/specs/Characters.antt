@@ -2,7 +2,7 @@
 use Rattle.std.specs.Prelude.{◌≡◌, ℕ, Bool, true, nat_le, List, [], ◌∷◌, ◌++◌}
 use Rattle.std.specs.List.{list_all}
 use Rattle.c_lexer.specs.Bytes.{is_octal_digit, is_hexadecimal_digit, is_simple_escape, NotFirst}
-use Rattle.c_lexer.specs.Numbers.{value_from}
+use Rattle.c_lexer.specs.Numbers.{value_of}
 
 pub data Character : Type 0 where
   -- a byte that stands for itself
@@ -26,7 +26,7 @@ written (ThreeDigits a b c) r = 92 ∷ a ∷ b ∷ c ∷ r
 written (Hexadecimal a ds) r = 92 ∷ 120 ∷ a ∷ ds ++ r
 
 abbrev pub three_digits : ℕ → ℕ → ℕ → ℕ
-three_digits a b c = value_from 8 0 (a ∷ b ∷ c ∷ [])
+three_digits a b c = value_of 8 (a ∷ b ∷ c ∷ [])
 
 -- what a character is, where these bytes stand for themselves; the value of an escape is at most 255
 abbrev pub IsCharacter : (ℕ → Bool) → Character → Type 0
@@ -35,7 +35,7 @@ IsCharacter plain (Simple b) = is_simple_escape b ≡ true
 IsCharacter plain (OneDigit a) = is_octal_digit a ≡ true
 IsCharacter plain (TwoDigits a b) = (is_octal_digit a ≡ true) × (is_octal_digit b ≡ true)
 IsCharacter plain (ThreeDigits a b c) = (is_octal_digit a ≡ true) × (is_octal_digit b ≡ true) × (is_octal_digit c ≡ true) × (nat_le (three_digits a b c) 255 ≡ true)
-IsCharacter plain (Hexadecimal a ds) = (list_all is_hexadecimal_digit (a ∷ ds) ≡ true) × (nat_le (value_from 16 0 (a ∷ ds)) 255 ≡ true)
+IsCharacter plain (Hexadecimal a ds) = (list_all is_hexadecimal_digit (a ∷ ds) ≡ true) × (nat_le (value_of 16 (a ∷ ds)) 255 ≡ true)
 
 -- as many digits are taken as there are
 abbrev pub TakesDigits : Character → List ℕ → Type 0

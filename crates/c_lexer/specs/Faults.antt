@@ -1,10 +1,10 @@
 -- The first lexical fault of a text, and its place.
-use Rattle.std.specs.Prelude.{◌≡◌, ◌+◌, ℕ, Bool, true, false, cond, not, ◌&&◌, ◌||◌, ◌==◌, List, [], ◌∷◌, length, take, count_by}
+use Rattle.std.specs.Prelude.{◌≡◌, ◌+◌, ℕ, Bool, false, cond, not, ◌&&◌, ◌||◌, ◌==◌, List, [], ◌∷◌, length, take, count_by}
 use Rattle.std.specs.List.{suffix_len}
 use Rattle.c_types.specs.declared.refusal.Refusal.{Refusal}
 use Rattle.c_types.specs.Words.{is_digit}
 use Rattle.c_lexer.specs.Bytes.{is_newline}
-use Rattle.c_lexer.specs.Pieces.{Piece, spelled, text, Fits, Longest, Good, own_line, is_directive, first_behind_all, behind_all}
+use Rattle.c_lexer.specs.Pieces.{Piece, spelled, text, Fits, Longest, AreGood, own_line, is_directive, stands_first}
 
 -- lines and columns are counted from 1, lines by newlines and columns by bytes
 abbrev pub line_of : List ℕ → ℕ
@@ -46,6 +46,6 @@ pub record IsFirstFault (t : List ℕ) (fault : Refusal) : Type 0 where
   pub byte : ℕ
   pub rest : List ℕ
   pub spells : t ≡ text pieces (byte ∷ rest)
-  pub good : Good true pieces (byte ∷ rest)
-  pub stuck : HasNoPiece (first_behind_all true pieces) (byte ∷ rest)
-  pub refusal : fault ≡ refusal_of (reason_of (first_behind_all true pieces) byte rest) t (behind_all pieces 0 + reach_of (first_behind_all true pieces) byte rest)
+  pub good : AreGood pieces (byte ∷ rest)
+  pub stuck : HasNoPiece (stands_first pieces) (byte ∷ rest)
+  pub refusal : fault ≡ refusal_of (reason_of (stands_first pieces) byte rest) t (length (text pieces []) + reach_of (stands_first pieces) byte rest)

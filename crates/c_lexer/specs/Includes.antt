@@ -1,5 +1,5 @@
 -- Which `#include` lines leave a comment open behind them.
-use Rattle.std.specs.Prelude.{ℕ, zero, suc, Bool, false, cond, not, ◌&&◌, ◌||◌, ◌==◌, List, [], ◌∷◌, length, drop, codes, nat_eq, Option, Some, None, is_some}
+use Rattle.std.specs.Prelude.{ℕ, Bool, false, cond, not, ◌&&◌, ◌||◌, ◌==◌, List, [], ◌∷◌, drop, codes, nat_eq, Option, Some, None, is_some}
 use Rattle.std.specs.Option.{option_map_or}
 use Rattle.std.specs.List.{starts_with}
 
@@ -20,18 +20,22 @@ has_open (b ∷ w) = (begins_with (codes "/*") (b ∷ w) && not (is_some (behind
 abbrev pub is_quote : ℕ → Bool
 is_quote b = b == 39 || b == 34 || b == 60
 
--- past whole comments and other bytes, so many at most: from the first quote on, or from a comment without end
--- on, or nothing
-abbrev pub past_comments : ℕ → List ℕ → List ℕ
-past_comments zero w = []
-past_comments (suc n) [] = []
-past_comments (suc n) (b ∷ w) =
-    cond (begins_with (codes "//") (b ∷ w)) []
-    (cond (begins_with (codes "/*") (b ∷ w)) (option_map_or (past_comments n) (behind_comment (drop 1 w)) (b ∷ w))
-    (cond (is_quote b) (b ∷ w) (past_comments n w)))
+abbrev mutual
+  -- past whole comments and other bytes: from the first quote on, or from a comment without end on; nothing, where a
+  -- `//` stands before those, or none of them
+  pub from_quote : List ℕ → List ℕ
+  from_quote [] = []
+  from_quote (b ∷ []) = cond (is_quote b) (b ∷ []) []
+  from_quote (b ∷ c ∷ w) =
+      cond (begins_with (codes "//") (b ∷ c ∷ w)) []
+      (cond (begins_with (codes "/*") (b ∷ c ∷ w)) (cond (is_some (behind_comment w)) (past_comment w) (b ∷ c ∷ w))
+      (cond (is_quote b) (b ∷ c ∷ w) (from_quote (c ∷ w))))
 
-abbrev pub from_quote : List ℕ → List ℕ
-from_quote w = past_comments (length w) w
+  -- the same of what stands behind the first `*/`
+  pub past_comment : List ℕ → List ℕ
+  past_comment [] = []
+  past_comment (b ∷ []) = []
+  past_comment (b ∷ c ∷ w) = cond (begins_with (codes "*/") (b ∷ c ∷ w)) (from_quote w) (past_comment (c ∷ w))
 
 -- what a header name with a quote, a `\` or `/*` in it means is undefined
 abbrev pub is_undefined : List ℕ → Bool

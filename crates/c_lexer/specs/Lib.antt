@@ -1,4 +1,5 @@
 pub mod Answers
+pub mod Behind
 pub mod Bytes
 pub mod Characters
 pub mod Faults
@@ -7,5 +8,8 @@ pub mod IncludeSteps
 pub mod Keywords
 pub mod Machine
 pub mod Marks
+pub mod MarkSteps
 pub mod Numbers
+pub mod NumberSteps
 pub mod Pieces
+pub mod PieceSteps

@@ -26,7 +26,7 @@ use Rattle.c_types.specs.Words.{is_letter, is_digit, is_word_byte}
 use Rattle.c_lexer.specs.Bytes.{is_space, is_newline, is_return, is_octal_digit, is_hexadecimal_digit, is_power, is_run_byte, is_simple_escape, is_text_byte, is_character_byte, digit_value}
 use Rattle.c_lexer.specs.Numbers.{integer_of}
 use Rattle.c_lexer.specs.Characters.{three_digits}
-use Rattle.c_lexer.specs.Marks.{mark_at, longer, is_slash, is_dot, is_whole_mark}
+use Rattle.c_lexer.specs.MarkSteps.{mark_at, longer, is_slash, is_dot, is_whole_mark}
 use Rattle.c_lexer.specs.Pieces.{token, span, word_kind, is_directive}
 
 abbrev pub of_mark : Option Mark → Ended → ℕ → Taken

@@ -1,5 +1,5 @@
 -- Integer constants: a prefix that says the base, digits, and a suffix.
-use Rattle.std.specs.Prelude.{ℕ, Bool, true, false, cond, ◌&&◌, ◌||◌, ◌==◌, ◌+◌, ◌*◌, pos, int_le, List, [], ◌∷◌, drop, find, Option, Some, None, option_map}
+use Rattle.std.specs.Prelude.{ℕ, Bool, true, false, cond, ◌&&◌, ◌||◌, ◌==◌, ◌+◌, ◌*◌, ◌^◌, pos, int_le, List, [], ◌∷◌, length, drop, find, Option, Some, None, option_map}
 use Rattle.std.specs.List.{prefix_len, take_while}
 use Rattle.c_types.specs.declared.kinds.Base.{Base}
 use Rattle.c_types.specs.declared.kinds.Base.TheVariants.{Decimal, Octal, Hex}
@@ -11,20 +11,27 @@ use Rattle.c_lexer.specs.declared.number.Integer.{Integer}
 use Rattle.c_types.specs.Words.{is_digit}
 use Rattle.c_lexer.specs.Bytes.{is_octal_digit, is_hexadecimal_digit, digit_value, is_power, is_run_byte}
 
--- the bytes go on with the run of a number
-abbrev pub continues : Bool → List ℕ → Bool
-continues power [] = true
-continues power (b ∷ w) = is_run_byte power b && continues (is_power b) w
+-- the byte behind this one, if there is one, goes on with the run of a number: a sign only behind the letter of
+-- an exponent
+abbrev pub goes_on : ℕ → List ℕ → Bool
+goes_on a [] = true
+goes_on a (b ∷ _) = is_run_byte (is_power a) b
+
+-- each byte goes on with the run behind the one before it
+abbrev pub continues : List ℕ → Bool
+continues [] = true
+continues (a ∷ w) = goes_on a w && continues w
 
 -- a digit, and what goes on with its run
 abbrev pub is_run : List ℕ → Bool
 is_run [] = false
-is_run (b ∷ w) = is_digit b && continues false w
+is_run (b ∷ w) = is_digit b && continues (b ∷ w)
 
--- a sign may go on behind these bytes
-abbrev pub ends_with_power : Bool → List ℕ → Bool
-ends_with_power power [] = power
-ends_with_power power (b ∷ w) = ends_with_power (is_power b) w
+-- the last byte is the letter of an exponent
+abbrev pub ends_with_power : List ℕ → Bool
+ends_with_power [] = false
+ends_with_power (b ∷ []) = is_power b
+ends_with_power (a ∷ b ∷ w) = ends_with_power (b ∷ w)
 
 abbrev pub radix : Base → ℕ
 radix Decimal = 10
@@ -59,10 +66,11 @@ suffix_of (b ∷ []) = cond (is_u b) (Some U) (cond (is_l b) (Some L) None)
 suffix_of (b ∷ c ∷ []) = cond ((is_u b && is_l c) || (is_l b && is_u c)) (Some UL) None
 suffix_of _ = None
 
--- the number that these digits write behind the number before
-abbrev pub value_from : ℕ → ℕ → List ℕ → ℕ
-value_from base before [] = before
-value_from base before (d ∷ ds) = value_from base (before * base + digit_value d) ds
+-- the number that these digits write: each counts by its place, its value times the base once for each digit
+-- behind it
+abbrev pub value_of : ℕ → List ℕ → ℕ
+value_of base [] = 0
+value_of base (d ∷ ds) = digit_value d * base ^ length ds + value_of base ds
 
 -- the kind of a constant with this value: the first of its list that holds it
 abbrev pub kind_of : Base → Suffix → ℕ → Option IntKind
@@ -72,7 +80,7 @@ abbrev pub integer_from : Base → List ℕ → Option Suffix → Option Integer
 integer_from base [] _ = None
 integer_from base _ None = None
 integer_from base (d ∷ ds) (Some suffix) =
-    let value = value_from (radix base) 0 (d ∷ ds) in
+    let value = value_of (radix base) (d ∷ ds) in
     option_map (λ kind. record { kind = kind; value = value }) (kind_of base suffix value)
 
 -- what a run of these bytes is as an integer constant, if it is one

@@ -1,6 +1,6 @@
 -- A text as a list of pieces: white space, comments and tokens, each the longest at its byte.
-use Rattle.std.specs.Prelude.{◌≡◌, ◌<◌, ◌≤◌, ◌+◌, ℕ, Bool, true, false, cond, not, ◌&&◌, ◌||◌, ◌==◌, List, [], ◌∷◌, ◌++◌, length, drop, codes, slice_index, nat_eq, is_some}
-use Rattle.std.specs.List.{prefix_len, starts_with}
+use Rattle.std.specs.Prelude.{◌≡◌, ◌<◌, ◌≤◌, ◌+◌, ℕ, Bool, true, false, cond, not, ◌&&◌, ◌||◌, ◌==◌, List, [], ◌∷◌, ◌++◌, length, drop, reverse, codes, slice_index, nat_eq, is_some}
+use Rattle.std.specs.List.{prefix_len, starts_with, list_all, flat_map}
 use Rattle.c_lexer.specs.declared.mark.Mark.{Mark}
 use Rattle.c_lexer.specs.declared.mark.Mark.TheVariants.{Slash}
 use Rattle.c_lexer.specs.declared.token.TokenKind.{TokenKind}
@@ -9,11 +9,12 @@ use Rattle.c_lexer.specs.declared.token.Token.{Token}
 use Rattle.c_lexer.specs.declared.token.Span.{Span}
 use Rattle.c_lexer.specs.declared.token.Scanned.{Scanned}
 use Rattle.c_types.specs.Words.{is_word, is_word_byte, is_keyword}
-use Rattle.c_lexer.specs.Bytes.{is_space, is_blank, is_newline, is_run_byte, is_text_byte, is_character_byte, NotFirst}
+use Rattle.c_lexer.specs.Bytes.{is_space, is_white, is_blank, is_newline, is_return, is_run_byte, is_text_byte, is_character_byte, NotFirst}
 use Rattle.c_lexer.specs.Numbers.{is_run, ends_with_power, integer_of}
 use Rattle.c_lexer.specs.Characters.{Character, written, written_all, IsCharacter, AreCharacters}
 use Rattle.c_lexer.specs.Marks.{mark_text}
 use Rattle.c_lexer.specs.Includes.{leaves_open}
+use Rattle.c_lexer.specs.Behind.{each_behind}
 
 pub data Piece : Type 0 where
   Space : ℕ → Piece
@@ -81,21 +82,18 @@ abbrev pub runs_on : List ℕ → List ℕ → Bool
 runs_on [] r = true
 runs_on (b ∷ w) r = not (ends_line (b ∷ w ++ r)) && runs_on w r
 
--- continued line ends, possibly none, and then a `/`; each is a `\`, white space and a newline or a
--- carriage return, and the flag says that these bytes begin between the two
-abbrev pub slash_follows : Bool → List ℕ → Bool
-slash_follows inside [] = false
-slash_follows false (b ∷ r) = b == 47 || (b == 92 && slash_follows true r)
-slash_follows true (b ∷ r) = cond (is_newline b) (slash_follows false r) (is_space b && (slash_follows true r || (b == 13 && slash_follows false r)))
-
-abbrev pub is_single : List ℕ → Bool
-is_single (b ∷ []) = true
-is_single _ = false
+-- continued line ends, possibly none, and then a `/`; a line end is continued by a `\`, with white space alone
+-- between it and the newline, or the carriage return
+pub data SlashFollows : List ℕ → Type 0 where
+  slash_next : (r : List ℕ) → SlashFollows (47 ∷ r)
+  line_end_next : (white : List ℕ) (b : ℕ) (r : List ℕ) → list_all is_white white ≡ true → (is_newline b || is_return b) ≡ true
+      → SlashFollows r → SlashFollows (92 ∷ white ++ b ∷ r)
 
 -- `*/` stands at the end, and before it no `*` and `/` with nothing, or continued line ends alone, between them
-abbrev pub closes : List ℕ → Bool
-closes [] = false
-closes (b ∷ w) = cond (b == 42 && slash_follows false w) (is_single w) (closes w)
+pub record Closes (w : List ℕ) : Type 0 where
+  pub inside : List ℕ
+  pub ended : w ≡ inside ++ 42 ∷ 47 ∷ []
+  pub first : (before after : List ℕ) → w ≡ before ++ 42 ∷ after → SlashFollows after → after ≡ 47 ∷ []
 
 -- the word `include`, which no letter, digit or `_` follows
 abbrev pub begins_with_include : List ℕ → Bool
@@ -119,7 +117,7 @@ Fits first (Text cs) = AreCharacters is_text_byte cs (34 ∷ [])
 Fits first (Sign m) = Unit {0}
 Fits first (Directive w) = (first ≡ true) × (is_directive w ≡ true)
 Fits first (Line w) = Unit {0}
-Fits first (Block w) = closes w ≡ true
+Fits first (Block w) = Closes w
 
 -- the text begins with these bytes
 abbrev pub Begins : List ℕ → List ℕ → Type 0
@@ -132,38 +130,34 @@ IsLine w r = (runs_on w r ≡ true) × NewlineNext r
 -- the piece is the longest there: it ends where no byte goes on with it
 abbrev pub Longest : Piece → List ℕ → Type 0
 Longest (Word w) r = NotFirst is_word_byte r
-Longest (Number w) r = NotFirst (is_run_byte (ends_with_power false w)) r
+Longest (Number w) r = NotFirst (is_run_byte (ends_with_power w)) r
 Longest (Sign m) r = ((n : Mark) → Begins (mark_text n) (mark_text m ++ r) → length (mark_text n) ≤ length (mark_text m)) × (m ≡ Slash → NotFirst (λ b. b == 42 || b == 47) r)
 Longest (Directive w) r = IsLine w r
 Longest (Line w) r = IsLine w r
 Longest _ r = Unit {0}
 
--- behind a piece, whether nothing but white space stands before on the line
-abbrev pub first_behind : Bool → Piece → Bool
-first_behind first (Space b) = is_newline b || first
-first_behind first _ = false
+-- these pieces, the last first, are white space up to a newline, or all
+abbrev pub is_white_back : List Piece → Bool
+is_white_back [] = true
+is_white_back (Space b ∷ ps) = is_newline b || is_white_back ps
+is_white_back (_ ∷ ps) = false
 
-abbrev pub first_behind_all : Bool → List Piece → Bool
-first_behind_all first [] = first
-first_behind_all first (p ∷ ps) = first_behind_all (first_behind first p) ps
+-- behind these pieces, nothing but white space stands before on the line
+abbrev pub stands_first : List Piece → Bool
+stands_first before = is_white_back (reverse before)
 
 -- these are pieces, each the longest at its byte, in front of these bytes
-abbrev pub Good : Bool → List Piece → List ℕ → Type 0
-Good first [] r = Unit {0}
-Good first (p ∷ ps) r = Fits first p × Longest p (text ps r) × Good (first_behind first p) ps r
+abbrev pub AreGood : List Piece → List ℕ → Type 0
+AreGood pieces r = (before : List Piece) (p : Piece) (after : List Piece) → pieces ≡ before ++ p ∷ after → Fits (stands_first before) p × Longest p (text after r)
 
 -- the text is these pieces
 pub record Spells (pieces : List Piece) (t : List ℕ) : Type 0 where
   pub spells : t ≡ text pieces []
-  pub good : Good true pieces []
+  pub good : AreGood pieces []
 
 -- the place behind a piece that begins at this one
 abbrev pub behind : Piece → ℕ → ℕ
 behind p at = at + length (spelled p [])
-
-abbrev pub behind_all : List Piece → ℕ → ℕ
-behind_all [] at = at
-behind_all (p ∷ ps) at = behind_all ps (behind p at)
 
 -- a byte in front of a line, but for a carriage return in front of none
 abbrev pub onto_bare : ℕ → List ℕ → List ℕ
@@ -200,16 +194,15 @@ comment_of (Line w) at = span at (at + 1 + 1 + length (bare w)) ∷ []
 comment_of (Block w) at = span at (behind (Block w) at) ∷ []
 comment_of _ at = []
 
--- what each piece gives, in order
-abbrev pub all_of : {X : Type 0} → (Piece → ℕ → List X) → List Piece → ℕ → List X
-all_of f [] at = []
-all_of f (p ∷ ps) at = f p at ++ all_of f ps (behind p at)
+-- what each piece gives at its place, in order
+abbrev pub each_at : {X : Type 0} → (Piece → ℕ → List X) → List Piece → List X
+each_at f ps = flat_map (λ xs. xs) (each_behind (λ before p. f p (length (text before []))) ps)
 
 abbrev pub tokens_of : List Piece → List Token
-tokens_of ps = all_of token_of ps 0
+tokens_of ps = each_at token_of ps
 
 abbrev pub comments_of : List Piece → List Span
-comments_of ps = all_of comment_of ps 0
+comments_of ps = each_at comment_of ps
 
 abbrev pub scanned_of : List Piece → Scanned
 scanned_of ps = record { tokens = tokens_of ps; comments = comments_of ps }

@@ -1,5 +1,6 @@
 ghost use Rattle.std.specs.Prelude.{◌≡◌};
 ghost use Rattle.c_lexer.specs.Marks as marks;
+ghost use Rattle.c_lexer.specs.MarkSteps as steps;
 
 /// The marks (ISO/IEC 9899:2011, 6.4.6, without `#`, `##` and the digraphs).
 #[derive(Clone, Copy, Debug, PartialEq, Eq)]
@@ -54,7 +55,7 @@ pub enum Mark {
 
 /// The mark that is this byte alone.
 pub(crate) fn mark_at(byte: u8) -> Option<Mark>
-    ensures { result ≡ marks.mark_at byte }
+    ensures { result ≡ steps.mark_at byte }
 {
     match byte {
         b'[' => Some(Mark::OpenBracket),
@@ -87,7 +88,7 @@ pub(crate) fn mark_at(byte: u8) -> Option<Mark>
 
 /// The mark with this byte behind it.
 pub(crate) fn longer(mark: Mark, byte: u8) -> Option<Mark>
-    ensures { result ≡ marks.longer mark byte }
+    ensures { result ≡ steps.longer mark byte }
 {
     match (mark, byte) {
         (Mark::Ampersand, b'&') => Some(Mark::AmpersandAmpersand),
@@ -118,7 +119,7 @@ pub(crate) fn longer(mark: Mark, byte: u8) -> Option<Mark>
 /// Whether the byte is a mark with which no byte goes on.
 #[inline(always)]
 pub(crate) fn is_whole_mark(byte: u8) -> bool
-    ensures { result ≡ marks.is_whole_mark byte }
+    ensures { result ≡ steps.is_whole_mark byte }
 {
     match mark_at(byte) {
         Some(mark) => is_alone(mark),
@@ -128,7 +129,7 @@ pub(crate) fn is_whole_mark(byte: u8) -> bool
 
 #[inline(always)]
 fn is_alone(mark: Mark) -> bool
-    ensures { result ≡ marks.is_alone mark }
+    ensures { result ≡ steps.is_alone mark }
 {
     matches!(
         mark,
@@ -147,8 +148,15 @@ fn is_alone(mark: Mark) -> bool
 }
 
 /// The mark that these bytes are, other than `...`. Takes no memory.
+#[tactic(auto, using(crate::proofs::MarkTable::mark_is))]
 pub fn mark_of(bytes: &[u8]) -> Option<Mark>
     ensures { result ≡ marks.mark_of bytes.now }
+{
+    grown_mark(bytes)
+}
+
+fn grown_mark(bytes: &[u8]) -> Option<Mark>
+    ensures { result ≡ steps.grown_mark bytes.now }
 {
     let (first, rest) = bytes.split_first()?;
     let mut mark = mark_at(*first)?;

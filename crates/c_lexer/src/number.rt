@@ -110,7 +110,7 @@ fn grown(base: Base, value: u64, digit: u8) -> Option<u64>
 
 /// The number that the digits write; None where it is above the greatest `u64`.
 fn value_of(base: Base, digits: &[u8]) -> Option<u64>
-    ensures { MatchOption result (18446744073709551615 < numbers.value_from (numbers.radix base) 0 digits.now) (λ value. value ≡ numbers.value_from (numbers.radix base) 0 digits.now) }
+    ensures { MatchOption result (18446744073709551615 < numbers.value_of (numbers.radix base) digits.now) (λ value. value ≡ numbers.value_of (numbers.radix base) digits.now) }
 {
     let mut value: u64 = 0;
     for digit in digits {

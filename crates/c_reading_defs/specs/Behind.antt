@@ -1,15 +1,10 @@
--- Those of a list, each told with those in front of it, in text order; and a name that is one of some.
+-- One of a list, told with those in front of it, in text order; and a name that is one of some.
 use Rattle.std.specs.Prelude.{◌≡◌, ◌⊎◌, ℕ, List, [], ◌∷◌}
 
 -- P holds of one of these, with those in front of it
 abbrev pub SomeBehind : {A : Type 0} → (List A → A → Type 0) → List A → Type 0
 SomeBehind P [] = ⊥
 SomeBehind P (x ∷ xs) = P [] x ⊎ SomeBehind (λ before. P (x ∷ before)) xs
-
--- what f gives for each of these, with those in front of it
-abbrev pub each_behind : {A B : Type 0} → (List A → A → B) → List A → List B
-each_behind f [] = []
-each_behind f (x ∷ xs) = f [] x ∷ each_behind (λ before. f (x ∷ before)) xs
 
 -- a name is one of these
 abbrev pub IsOne : List ℕ → List (List ℕ) → Type 0

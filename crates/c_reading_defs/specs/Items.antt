@@ -16,7 +16,7 @@ use Rattle.c_reading_defs.specs.Typings.{Typing}
 use Rattle.c_reading_defs.specs.Labels.{InFunction, notes_at, label_number}
 use Rattle.c_reading_defs.specs.Written.{dropped_at, labels_items, section_cases, section_marks, test_at, value_at}
 use Rattle.c_reading_defs.specs.Places.{Place, env_of, within, behind_name, behind_names, behind_start}
-use Rattle.c_reading_defs.specs.Behind.{each_behind}
+use Rattle.c_lexer.specs.Behind.{each_behind}
 use Rattle.c_reading_defs.specs.Slots.{past_body, behind}
 
 -- the names at a place

@@ -20,7 +20,7 @@ use Rattle.c_reading_defs.specs.Comments.{notes_of}
 use Rattle.c_reading_defs.specs.Typings.{Typing}
 use Rattle.c_reading_defs.specs.Written.{constant_at, slot_of}
 use Rattle.c_reading_defs.specs.FilePlaces.{names_at, InEnum, enum_start, value_in, behind_enumerators, global_named, behind_variables, function_named, scopes_behind}
-use Rattle.c_reading_defs.specs.Behind.{each_behind}
+use Rattle.c_lexer.specs.Behind.{each_behind}
 use Rattle.c_reading_defs.specs.Bodies.{function_of}
 
 -- ---- what stands at file scope

@@ -7,7 +7,7 @@ use Rattle.c_statements.specs.Declarations.{kinded}
 use Rattle.c_reading_defs.specs.Typings.{Typing}
 use Rattle.c_reading_defs.specs.Written.{slot_of}
 use Rattle.c_reading_defs.specs.Places.{Place, env_of, within, past, behind_names, behind_declaration, behind_start}
-use Rattle.c_reading_defs.specs.Behind.{each_behind}
+use Rattle.c_lexer.specs.Behind.{each_behind}
 
 abbrev pub slots_of_names : Typing → (ℕ → List ℕ) → Kinded → List Declarator → Place → List Slot
 slots_of_names typing word k ds p = each_behind (λ before d. slot_of typing (env_of word (behind_names word k before p)) k d) ds

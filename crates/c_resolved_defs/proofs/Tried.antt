@@ -1,5 +1,5 @@
 -- The definitions tried: a body with an outer and an inner `x`, what is refused, formats, and a whole program.
-use Rattle.std.proofs.Common.{ℕ, pos, Bool, true, false, List, [], ◌∷◌, codes, Option, Some, None, ◌≡◌, is_some, true≢false, inl, inr, refl, ap, sym, arith}
+use Rattle.std.proofs.Common.{ℕ, pos, Bool, true, false, List, [], ◌∷◌, codes, Option, Some, None, ◌≡◌, ◌==◌, is_some, true≢false, inl, inr, refl, ap, sym, arith}
 use Rattle.std.proofs.lemmas.Int.{ints}
 use Rattle.c_types.specs.declared.kinds.IntKind.{IntKind}
 use Rattle.c_types.specs.declared.kinds.IntKind.TheVariants.{Int, Long}
@@ -121,7 +121,7 @@ a_line = (refl, inl (refl, record { whole = refl; ended = refl }))
 -- a `\` in front of the newline
 continued : IsComment (codes "// a\\") → ⊥
 continued (e, inl h) = true≢false (sym h.1.whole)
-continued (e, inr h) = true≢false (sym h.1)
+continued (e, inr h) = true≢false (ap (λ n. n == 47) h.0)
 
 -- ---- formats
 

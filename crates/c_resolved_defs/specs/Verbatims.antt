@@ -1,6 +1,6 @@
 -- What is printed as it stands, on lines of its own: comments and `#include` lines (ISO/IEC 9899:2011, 6.4.9 and 6.10.2).
 use Rattle.std.specs.Prelude.{◌≡◌, ◌⊎◌, ℕ, true, List, [], ◌∷◌}
-use Rattle.c_lexer.specs.Pieces.{runs_on, closes, bare, is_directive}
+use Rattle.c_lexer.specs.Pieces.{runs_on, Closes, bare, is_directive}
 
 -- behind `//` or `#`: bytes that the line in front of a newline is, to its end, without carriage returns there
 pub record IsOneLine (w : List ℕ) : Type 0 where
@@ -9,7 +9,7 @@ pub record IsOneLine (w : List ℕ) : Type 0 where
 
 -- a comment: a line of it, or what stands between `/*` and the first `*/`, with both
 abbrev pub IsComment : List ℕ → Type 0
-IsComment (a ∷ b ∷ w) = (a ≡ 47) × ((b ≡ 47) × IsOneLine w ⊎ (b ≡ 42) × (closes w ≡ true))
+IsComment (a ∷ b ∷ w) = (a ≡ 47) × ((b ≡ 47) × IsOneLine w ⊎ (b ≡ 42) × Closes w)
 IsComment _ = ⊥
 
 -- an `#include` line that leaves no comment open

@@ -12,7 +12,7 @@ use Rattle.c_types.specs.declared.kinds.IntKind.{IntKind}
 use Rattle.c_types.specs.declared.kinds.IntKind.TheVariants.{Char, UChar, Int, UInt, Long, ULong}
 use Rattle.c_types.specs.Numbers.{greatest, constant_kinds, IsInRange}
 use Rattle.c_lexer.specs.declared.number.Integer.{Integer}
-use Rattle.c_lexer.specs.Numbers.{radix, base_of, behind_prefix, is_digit_of, suffix_of, value_from, kind_of, integer_from, integer_of}
+use Rattle.c_lexer.specs.Numbers.{radix, base_of, behind_prefix, is_digit_of, suffix_of, value_of, kind_of, integer_from, integer_of}
 use Rattle.c_resolved_defs.specs.PrintableExpressions.{IsConstant}
 use Rattle.c_resolved_defs.specs.Within.{Each}
 
@@ -67,7 +67,7 @@ from_digits : (base : Base) (ds : List ℕ) (s : Option Suffix) → IsNumber (in
 from_digits base [] s = tt
 from_digits base (d ∷ ds) None = tt
 from_digits base (d ∷ ds) (Some s) =
-    let v = value_from (radix base) 0 (d ∷ ds) in with_kind v (kind_of base s v) (found_held v (constant_kinds base s) (constant_kinds_are base s))
+    let v = value_of (radix base) (d ∷ ds) in with_kind v (kind_of base s v) (found_held v (constant_kinds base s) (constant_kinds_are base s))
 
 pub integer_in_range : (w : List ℕ) → IfSome (integer_of w) (λ (i : Integer). IsNumberOf i.kind i.value)
 integer_in_range w =

@@ -5,7 +5,7 @@ use Rattle.std.proofs.lemmas.Bool.{leb-true, le-leb}
 use Rattle.std.specs.List.{list_all, take_while}
 use Rattle.c_lexer.specs.declared.token.Token.{Token}
 use Rattle.c_lexer.specs.Bytes.{is_octal_digit, is_hexadecimal_digit}
-use Rattle.c_lexer.specs.Numbers.{value_from}
+use Rattle.c_lexer.specs.Numbers.{value_of}
 use Rattle.c_lexer.proofs.Truths.{both_true}
 use Rattle.c_layers.specs.Words.{Element, Itself, Simple, Octal, Hexadecimal, escape_value, written, value, escape, first_element, elements, within_quotes, decoded, character, bytes_of, word_of}
 use Rattle.c_kinds.specs.Typing.{joined_texts}
@@ -56,8 +56,8 @@ escaped_byte : (b : ℕ) (w : List ℕ) → b ≤ 255 → value (escape b w) ≤
 escaped_byte b w h =
     let octal = take 3 (take_while is_octal_digit (b ∷ w)) in
     let hexadecimal = take_while is_hexadecimal_digit w in
-    either (is_octal_digit b) (Octal octal) (cond (b == 120) (Hexadecimal hexadecimal) (Simple b)) (rest_byte (value_from 8 0 octal))
-    (either (b == 120) (Hexadecimal hexadecimal) (Simple b) (rest_byte (value_from 16 0 hexadecimal)) (escape_byte b h))
+    either (is_octal_digit b) (Octal octal) (cond (b == 120) (Hexadecimal hexadecimal) (Simple b)) (rest_byte (value_of 8 octal))
+    (either (b == 120) (Hexadecimal hexadecimal) (Simple b) (rest_byte (value_of 16 hexadecimal)) (escape_byte b h))
 
 element_byte : (b : ℕ) (w : List ℕ) → b ≤ 255 → AreBytes w → value (first_element b w) ≤ 255
 element_byte b [] h m = h

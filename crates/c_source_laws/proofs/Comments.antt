@@ -2,9 +2,11 @@
 use Rattle.std.proofs.Common.{ℕ, Bool, true, false, cond, List, [], ◌∷◌, ◌++◌, map, refl, sym, subst, inl, inr}
 use Rattle.std.specs.Prelude.{filter}
 use Rattle.c_lexer.specs.declared.token.Span.{Span}
-use Rattle.c_lexer.specs.Pieces.{Piece, text, spelled, behind, comment_of, all_of, tokens_of, comments_of, first_behind, Good, Fits, Longest, Spells}
+use Rattle.c_lexer.specs.Pieces.{Piece, text, spelled, behind, comment_of, tokens_of, comments_of, Fits, Longest, Spells}
+use Rattle.c_lexer.specs.PieceSteps.{all_of, first_behind, Good}
 use Rattle.c_lexer.specs.Pieces as l
 use Rattle.c_lexer.proofs.PieceLemmas.{Stands}
+use Rattle.c_lexer.proofs.PieceWalks.{spells_walked, comments_are}
 use Rattle.c_statements.specs.declared.anchors.Anchor.{Anchor}
 use Rattle.c_layers.specs.Tops.{Top}
 use Rattle.c_comments.specs.Notes.{notes_of, place_in, next_token}
@@ -50,4 +52,4 @@ kept t f (x ∷ xs) h = by_test t x (filter f xs) (f x) (h.0) (kept t f xs (h.1)
 pub comments : (pieces : List Piece) (t : List ℕ) → Spells pieces t → (xs : List Top) (a : Anchor) → Each IsComment (notes_of t (tokens_of pieces) (comments_of pieces) xs a)
 comments pieces t s xs a =
     kept t (λ x. same_place (place_in xs (next_token (tokens_of pieces) x.start)) a) (comments_of pieces)
-    (spans_from t true pieces 0 (s.good) ([], s.spells, refl))
+    (subst (λ xs. Each IsComment (map (comment_at t) xs)) (sym (comments_are pieces)) (spans_from t true pieces 0 (spells_walked pieces t s) ([], s.spells, refl)))

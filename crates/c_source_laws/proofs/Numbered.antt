@@ -4,8 +4,10 @@ use Rattle.std.specs.Prelude.{Ok, slice_range, All}
 use Rattle.std.proofs.lemmas.Bool.{le-leb}
 use Rattle.std.proofs.lemmas.List.Elements.{All-head, All-tail}
 use Rattle.c_lexer.specs.declared.token.Token.{Token}
-use Rattle.c_lexer.specs.Pieces.{Piece, text, tokens_of, scanned_of, first_behind, Good, Fits, Longest, Spells, IsWithin}
+use Rattle.c_lexer.specs.Pieces.{Piece, text, tokens_of, scanned_of, Fits, Longest, Spells, IsWithin}
+use Rattle.c_lexer.specs.PieceSteps.{first_behind, Good}
 use Rattle.c_lexer.proofs.Bounds.{tokens_bound}
+use Rattle.c_lexer.proofs.PieceWalks.{spells_walked}
 use Rattle.c_lexer.proofs.Theorem.{scan_read_back}
 use Rattle.c_grammar.specs.declared.class.Class.{Class}
 use Rattle.c_grammar.specs.declared.class.Class.TheVariants as c
@@ -31,7 +33,7 @@ module _ (P : Spelling → Type 0) (here : (first : Bool) (p : Piece) (r : List 
   unmapped t (x ∷ xs) h = (h.0, unmapped t xs (h.1))
 
   pub each_token : (pieces : List Piece) (t : List ℕ) → Spells pieces t → Each (λ x. P (read_at t x)) (tokens_of pieces)
-  each_token pieces t s = unmapped t (tokens_of pieces) (subst (λ xs. Each P xs) (sym (tokens_read t pieces (s.spells))) (each true pieces (s.good)))
+  each_token pieces t s = unmapped t (tokens_of pieces) (subst (λ xs. Each P xs) (sym (tokens_read t pieces (s.spells))) (each true pieces (spells_walked pieces t s)))
 
 -- ---- by their numbers
 

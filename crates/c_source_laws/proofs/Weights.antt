@@ -6,10 +6,12 @@ use Rattle.c_tree.specs.TextExpressions.{binary_level}
 use Rattle.c_lexer.specs.declared.mark.Mark.{Mark}
 use Rattle.c_lexer.specs.declared.mark.Mark.TheVariants as m
 use Rattle.c_lexer.specs.declared.token.TokenKind.TheVariants as k
-use Rattle.c_lexer.specs.Marks.{mark_at, mark_of, mark_text, grown}
+use Rattle.c_lexer.specs.Marks.{mark_of, mark_text}
+use Rattle.c_lexer.specs.MarkSteps.{mark_at, grown}
 use Rattle.c_lexer.specs.Numbers.{continues}
 use Rattle.c_lexer.specs.Pieces.{Piece, word_kind, tokens_of, Fits, Spells}
 use Rattle.c_lexer.specs.Pieces as l
+use Rattle.c_lexer.proofs.MarkTable.{mark_is}
 use Rattle.c_lexer.proofs.Truths.{both_true}
 use Rattle.c_grammar.specs.declared.class.Class.{Class}
 use Rattle.c_grammar.specs.declared.class.Class.TheVariants as c
@@ -96,7 +98,7 @@ word_byte b h =
     rw (d 91 refl, d 93 refl, d 40 refl, d 41 refl, d 123 refl, d 125 refl, d 46 refl, d 38 refl, d 42 refl, d 43 refl, d 45 refl, d 126 refl, d 33 refl, d 47 refl, d 37 refl, d 60 refl, d 62 refl, d 94 refl, d 124 refl, d 63 refl, d 58 refl, d 59 refl, d 61 refl, d 44 refl) refl
 
 word_unmarked : (b : ℕ) (w : List ℕ) → is_word_byte b ≡ true → mark_of (b ∷ w) ≡ None
-word_unmarked b w h = ap (λ o. grown o w) (word_byte b h)
+word_unmarked b w h = sym (mark_is (b ∷ w)) ∙ ap (λ o. grown o w) (word_byte b h)
 
 -- ---- the tokens of a text
 
@@ -114,7 +116,7 @@ weighed first (l.Word (b ∷ w)) f =
     (of_word (b ∷ w) (word_unmarked b w x) (is_keyword (b ∷ w)), tt)
 weighed first (l.Number []) f = absurd (let x = f.0 in cc)
 weighed first (l.Number (b ∷ w)) f =
-    let x : is_word_byte b ≡ true = rw ((both_true (is_digit b) (continues false w) (f.0)).0) (or_true (is_letter b)) in
+    let x : is_word_byte b ≡ true = rw ((both_true (is_digit b) (continues (b ∷ w)) (f.0)).0) (or_true (is_letter b)) in
     (unmarked c.Number (b ∷ w) (word_unmarked b w x) (record { counts = refl; binds = refl }), tt)
   where
     or_true : (x : Bool) → (x || true) ≡ true

@@ -5,7 +5,7 @@ use Rattle.c_types.specs.Words.{is_word, is_keyword}
 use Rattle.c_lexer.specs.declared.token.TokenKind.{TokenKind}
 use Rattle.c_lexer.specs.declared.token.TokenKind.TheVariants as k
 use Rattle.c_lexer.specs.Marks.{mark_text}
-use Rattle.c_lexer.specs.Pieces.{Piece, text, spelled, behind, bare, word_kind, token_of, all_of, tokens_of, first_behind, Good, Fits, Spells}
+use Rattle.c_lexer.specs.Pieces.{Piece, text, spelled, behind, bare, word_kind, token_of, tokens_of, Fits, Spells}
 use Rattle.c_lexer.specs.Pieces as l
 use Rattle.c_grammar.specs.declared.class.Class.{Class}
 use Rattle.c_grammar.specs.declared.class.Class.TheVariants as c

@@ -28,7 +28,7 @@ use Rattle.c_scopes.specs.Resolving.{program_of}
 use Rattle.c_kinds.specs.Typing.{typed}
 use Rattle.c_reading_defs.specs.Places.{Place}
 use Rattle.c_reading_defs.specs.FilePlaces.{names_at, file_start, InEnum, enum_start, behind_enumerator, global_named, function_named, behind_form, behind_tops}
-use Rattle.c_reading_defs.specs.Behind.{each_behind}
+use Rattle.c_lexer.specs.Behind.{each_behind}
 use Rattle.c_reading_defs.specs.Programs.{enum_items, globals, form_tops, top_tops, program, defined}
 use Rattle.c_violation_laws.proofs.FileStanding.{start_maps, value_alike, enum_maps, global_maps, function_maps, form_maps}
 use Rattle.c_violation_laws.proofs.Standing.{AreMaps, Stands}

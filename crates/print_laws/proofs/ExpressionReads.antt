@@ -137,7 +137,7 @@ number_part kind n h =
       reads = λ ps. refl;
       quiet = λ ps. refl;
       starts = number_starts (signed_decimal n) (suffix kind) (number kind n) i.0 (λ ps. refl);
-      apart = λ first ps k a. (i.0, ap is_some i.1 ∙ some_is kind n h, run_closed (ends_with_power false (number_text kind n)) (spelled ps) k, a);
+      apart = λ first ps k a. (i.0, ap is_some i.1 ∙ some_is kind n h, run_closed (ends_with_power (number_text kind n)) (spelled ps) k, a);
     }
 
 character_part : (b : ℕ) → b ≤ 255 → Part (character b) (λ r. c.Character ∷ r)

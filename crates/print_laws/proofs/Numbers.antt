@@ -17,7 +17,9 @@ use Rattle.c_types.specs.declared.kinds.Suffix.TheVariants.{Plain, U, L, UL}
 use Rattle.c_types.specs.Words.{is_digit}
 use Rattle.c_lexer.specs.declared.number.Integer.{Integer}
 use Rattle.c_lexer.specs.Bytes.{is_run_byte, is_power, digit_value}
-use Rattle.c_lexer.specs.Numbers.{is_run, continues, integer_of, integer_from, base_of, value_from, kind_of, suffix_of, behind_prefix, is_digit_of}
+use Rattle.c_lexer.specs.Numbers.{is_run, integer_of, integer_from, base_of, value_of, kind_of, suffix_of, behind_prefix, is_digit_of}
+use Rattle.c_lexer.specs.NumberSteps.{continues_from, value_from}
+use Rattle.c_lexer.proofs.NumberLemmas.{value_is, run_continues}
 use Rattle.c_tree.specs.TextPieces.{suffix}
 use Rattle.print_laws.specs.Reread.{number_text}
 use Rattle.c_resolved_defs.specs.PrintableExpressions.{IsConstant}
@@ -73,7 +75,7 @@ digits_of n h = decimal_by_steps AreDigits
 
 -- no digit stands first, and no byte but those of a suffix stands there
 record IsSuffix (s : List ℕ) (suffix : Suffix) : Type 0 where
-  runs : (power : Bool) → continues power s ≡ true
+  runs : (power : Bool) → continues_from power s ≡ true
   taken : take_while is_digit s ≡ []
   none : prefix_len is_digit s ≡ 0
   is : suffix_of s ≡ Some suffix
@@ -86,7 +88,7 @@ digit_runs d h power = by_test (is_digit d) h _ _ _
     by_test true h false b c = refl
     by_test false h a b c = cc
 
-all_continue : (ds s : List ℕ) (suffix : Suffix) (power : Bool) → list_all is_digit ds ≡ true → IsSuffix s suffix → continues power (ds ++ s) ≡ true
+all_continue : (ds s : List ℕ) (suffix : Suffix) (power : Bool) → list_all is_digit ds ≡ true → IsSuffix s suffix → continues_from power (ds ++ s) ≡ true
 all_continue [] s suffix power h k = k.runs power
 all_continue (d ∷ ds) s suffix power h k =
     let e = first_of_and (is_digit d) _ h in
@@ -94,7 +96,9 @@ all_continue (d ∷ ds) s suffix power h k =
 
 run_is : (ds s : List ℕ) (suffix : Suffix) → 0 < length ds → list_all is_digit ds ≡ true → IsSuffix s suffix → is_run (ds ++ s) ≡ true
 run_is [] s suffix l h k = absurd (omega (arith, l))
-run_is (d ∷ ds) s suffix l h k = rw (first_of_and (is_digit d) _ h) (all_continue ds s suffix false (second_of_and (is_digit d) _ h) k)
+run_is (d ∷ ds) s suffix l h k =
+    let e = first_of_and (is_digit d) _ h in
+    rw e (sym (run_continues d (ds ++ s) e) ∙ all_continue ds s suffix false (second_of_and (is_digit d) _ h) k)
 
 taken_is : (ds s : List ℕ) → list_all is_digit ds ≡ true → take_while is_digit s ≡ [] → take_while is_digit (ds ++ s) ≡ ds
 taken_is [] s h k = k
@@ -127,7 +131,7 @@ by_base base w =
 abbrev integer : IntKind → ℕ → Integer
 integer kind n = record { kind = kind; value = n }
 
-from_digits : (ds : List ℕ) (suffix : Suffix) (n : ℕ) (kind : IntKind) → 0 < length ds → value_from 10 0 ds ≡ n → kind_of Decimal suffix n ≡ Some kind → integer_from Decimal ds (Some suffix) ≡ Some (integer kind n)
+from_digits : (ds : List ℕ) (suffix : Suffix) (n : ℕ) (kind : IntKind) → 0 < length ds → value_of 10 ds ≡ n → kind_of Decimal suffix n ≡ Some kind → integer_from Decimal ds (Some suffix) ≡ Some (integer kind n)
 from_digits [] suffix n kind l e h = absurd (omega (arith, l))
 from_digits (d ∷ ds) suffix n kind l e h = ap (λ v. option_map (λ kind. integer kind v) (kind_of Decimal suffix v)) e ∙ ap (option_map (λ kind. integer kind n)) h
 
@@ -137,7 +141,7 @@ decimal_reads ds s suffix n kind d k b h =
     ∙ ap (λ l. integer_from Decimal l (suffix_of (drop (prefix_len is_digit (ds ++ s)) (ds ++ s)))) (taken_is ds s d.all k.taken)
     ∙ ap (λ r. integer_from Decimal ds (suffix_of r)) (behind_is ds s d.all k.none)
     ∙ ap (integer_from Decimal ds) k.is
-    ∙ from_digits ds suffix n kind d.some d.value h
+    ∙ from_digits ds suffix n kind d.some (sym (value_is 10 ds) ∙ d.value) h
 
 -- the kind, the suffix and the greatest number of each kind of constants
 record IsKind (kind : IntKind) (s : List ℕ) (suffix : Suffix) (most : ℕ) : Type 0 where

@@ -4,10 +4,12 @@ use Rattle.std.proofs.lemmas.Bool.{le-leb, lt-leb}
 use Rattle.std.proofs.lemmas.List.{map-append}
 use Rattle.c_lexer.specs.declared.token.Token.{Token}
 use Rattle.c_lexer.specs.declared.token.Span.{Span}
-use Rattle.c_lexer.specs.Pieces.{Piece, Good, Fits, text, spelled, behind, bare, token_of, comment_of, all_of, tokens_of, comments_of, Spells}
+use Rattle.c_lexer.specs.Pieces.{Piece, Fits, text, spelled, behind, bare, token_of, comment_of, tokens_of, comments_of, Spells}
+use Rattle.c_lexer.specs.PieceSteps.{Good, all_of}
 use Rattle.c_lexer.specs.Pieces as l
 use Rattle.c_lexer.proofs.Later.{has_byte}
 use Rattle.c_lexer.proofs.PieceLemmas.{Stands}
+use Rattle.c_lexer.proofs.PieceWalks.{spells_walked, tokens_are, comments_are}
 use Rattle.c_grammar.specs.declared.class.Class.{Class}
 use Rattle.c_grammar.specs.declared.class.Class.TheVariants as c
 use Rattle.c_grammar.specs.TokenClasses.{classes_of}
@@ -129,4 +131,4 @@ places t (p ∷ ps) first front at g h k =
 
 -- the comments of a text stand among its tokens as among its pieces
 pub comments_placed : (t : List ℕ) (ps : List Piece) → Spells ps t → placed_at t (tokens_of ps) (comments_of ps) ≡ placed_comments ps
-comments_placed t ps s = places t ps true [] 0 s.good ([], s.spells, refl) tt
+comments_placed t ps s = (λ i. placed_at t (tokens_are ps i) (comments_are ps i)) ∙ places t ps true [] 0 (spells_walked ps t s) ([], s.spells, refl) tt

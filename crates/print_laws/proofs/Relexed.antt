@@ -9,10 +9,12 @@ use Rattle.c_lexer.specs.declared.mark.Mark.{Mark}
 use Rattle.c_lexer.specs.declared.mark.Mark.TheVariants.{Slash}
 use Rattle.c_lexer.specs.Bytes.{is_newline, is_space, is_octal_digit, is_simple_escape, is_text_byte, is_character_byte, NotFirst}
 use Rattle.c_lexer.specs.Characters.{Character, Plain, Simple, ThreeDigits, written, written_all, three_digits, IsCharacter, TakesDigits, AreCharacters}
-use Rattle.c_lexer.specs.Marks.{longer, is_slash, is_dot}
-use Rattle.c_lexer.specs.Pieces.{Spells, Good, Longest, Fits, Begins, text, comes_to_newline, returns_to_newline, runs_on}
+use Rattle.c_lexer.specs.MarkSteps.{longer, is_slash, is_dot}
+use Rattle.c_lexer.specs.Pieces.{Spells, Longest, Fits, Begins, text, comes_to_newline, returns_to_newline, runs_on}
+use Rattle.c_lexer.specs.PieceSteps.{first_behind, Good}
 use Rattle.c_lexer.specs.Pieces as l
 use Rattle.c_lexer.proofs.MarkLemmas.{longest_mark, mark_last, no_dots}
+use Rattle.c_lexer.proofs.PieceWalks.{walked_good}
 use Rattle.c_tree.specs.TextPieces.{Piece, suffix, spelled, escaped, escaped_bytes, is_printing, octal}
 use Rattle.c_tree.specs.TextPieces as p
 use Rattle.print_laws.specs.Reread.{mark_in, character_in, spaces, verbatim_piece, number_text, reread_all, grows, EndsLine, AreApart}
@@ -191,16 +193,16 @@ good_directive first (a ∷ []) f h r n = absurd h
 good_directive first (a ∷ b ∷ w) f h r n = subst (λ x. Fits first (verbatim_piece (x ∷ b ∷ w)) × Longest (verbatim_piece (x ∷ b ∷ w)) r) (sym h.0) ((f, h.2), whole_line (b ∷ w) r h.1 n)
 
 -- behind a directive or a comment, something stands before on the line
-behind_comment : (first : Bool) (bytes : List ℕ) → IsComment bytes → l.first_behind first (verbatim_piece bytes) ≡ false
+behind_comment : (first : Bool) (bytes : List ℕ) → IsComment bytes → first_behind first (verbatim_piece bytes) ≡ false
 behind_comment first [] h = absurd h
 behind_comment first (a ∷ []) h = absurd h
-behind_comment first (a ∷ b ∷ w) (e, inl h) = subst (λ x. l.first_behind first (verbatim_piece (x ∷ b ∷ w)) ≡ false) (sym e) (subst (λ x. l.first_behind first (verbatim_piece (47 ∷ x ∷ w)) ≡ false) (sym h.0) refl)
-behind_comment first (a ∷ b ∷ w) (e, inr h) = subst (λ x. l.first_behind first (verbatim_piece (x ∷ b ∷ w)) ≡ false) (sym e) (subst (λ x. l.first_behind first (verbatim_piece (47 ∷ x ∷ w)) ≡ false) (sym h.0) refl)
+behind_comment first (a ∷ b ∷ w) (e, inl h) = subst (λ x. first_behind first (verbatim_piece (x ∷ b ∷ w)) ≡ false) (sym e) (subst (λ x. first_behind first (verbatim_piece (47 ∷ x ∷ w)) ≡ false) (sym h.0) refl)
+behind_comment first (a ∷ b ∷ w) (e, inr h) = subst (λ x. first_behind first (verbatim_piece (x ∷ b ∷ w)) ≡ false) (sym e) (subst (λ x. first_behind first (verbatim_piece (47 ∷ x ∷ w)) ≡ false) (sym h.0) refl)
 
-behind_directive : (first : Bool) (bytes : List ℕ) → IsDirective bytes → l.first_behind first (verbatim_piece bytes) ≡ false
+behind_directive : (first : Bool) (bytes : List ℕ) → IsDirective bytes → first_behind first (verbatim_piece bytes) ≡ false
 behind_directive first [] h = absurd h
 behind_directive first (a ∷ []) h = absurd h
-behind_directive first (a ∷ b ∷ w) h = subst (λ x. l.first_behind first (verbatim_piece (x ∷ b ∷ w)) ≡ false) (sym h.0) refl
+behind_directive first (a ∷ b ∷ w) h = subst (λ x. first_behind first (verbatim_piece (x ∷ b ∷ w)) ≡ false) (sym h.0) refl
 
 pub reread_good : (first : Bool) (ps : List Piece) → AreApart first ps → Good first (reread_all ps) []
 reread_good first [] h = tt
@@ -222,4 +224,4 @@ reread_good first (p.Verbatim bs ∷ ps) (inr d, n, h) =
 
 -- Printed pieces that stand apart spell their text in the lexer's sense.
 pub reread_spells : (ps : List Piece) → AreApart true ps → Spells (reread_all ps) (spelled ps)
-reread_spells ps h = record { spells = sym (reread_text true ps h); good = reread_good true ps h }
+reread_spells ps h = record { spells = sym (reread_text true ps h); good = walked_good (reread_all ps) [] (reread_good true ps h) }

@@ -5,9 +5,11 @@ use Rattle.std.proofs.lemmas.List.{append-nil, map-append}
 use Rattle.c_lexer.specs.declared.token.Token.{Token}
 use Rattle.c_lexer.specs.declared.token.TokenKind.TheVariants as k
 use Rattle.c_lexer.specs.Marks.{mark_text}
-use Rattle.c_lexer.specs.Pieces.{Piece, text, spelled, behind, bare, onto_bare, word_kind, token_of, comment_of, all_of, tokens_of, comments_of, Spells}
+use Rattle.c_lexer.specs.Pieces.{Piece, text, spelled, behind, bare, onto_bare, word_kind, token_of, comment_of, tokens_of, comments_of, Spells}
+use Rattle.c_lexer.specs.PieceSteps.{all_of}
 use Rattle.c_lexer.specs.Pieces as l
 use Rattle.c_lexer.proofs.PieceLemmas.{past_is, ends_is, Stands, slice_is, stands_behind, stands_along, spelled_split}
+use Rattle.c_lexer.proofs.PieceWalks.{tokens_are}
 use Rattle.c_grammar.specs.TokenClasses.{class_of, classes_of}
 use Rattle.print_laws.specs.Reread.{spelling, spelling_of, spellings, comment_bytes, class_of_spelling, read_at, comment_at}
 
@@ -74,7 +76,7 @@ tokens_from t (p ∷ ps) at h =
 
 -- the tokens of pieces are those that they spell, in order
 pub tokens_read : (t : List ℕ) (ps : List Piece) → t ≡ text ps [] → map (read_at t) (tokens_of ps) ≡ spellings ps
-tokens_read t ps e = tokens_from t ps 0 ([], e, refl)
+tokens_read t ps e = ap (map (read_at t)) (tokens_are ps) ∙ tokens_from t ps 0 ([], e, refl)
 
 -- and their classes
 pub classes_read : (t : List ℕ) (tokens : List Token) → classes_of t tokens ≡ map class_of_spelling (map (read_at t) tokens)

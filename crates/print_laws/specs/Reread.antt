@@ -13,7 +13,8 @@ use Rattle.c_lexer.specs.declared.token.TokenKind.TheVariants as k
 use Rattle.c_lexer.specs.Bytes.{is_run_byte, NotFirst}
 use Rattle.c_lexer.specs.Numbers.{is_run, ends_with_power, integer_of}
 use Rattle.c_lexer.specs.Characters.{Character, Plain, Simple, ThreeDigits}
-use Rattle.c_lexer.specs.Marks.{mark_text, mark_of, longer, is_slash, is_dot}
+use Rattle.c_lexer.specs.Marks.{mark_text, mark_of}
+use Rattle.c_lexer.specs.MarkSteps.{longer, is_slash, is_dot}
 use Rattle.c_lexer.specs.Pieces.{bare, word_kind}
 use Rattle.c_lexer.specs.Pieces as l
 use Rattle.c_resolved_defs.specs.Verbatims.{IsComment, IsDirective}
@@ -154,7 +155,7 @@ AreApart first (p.Word w ∷ ps) = (is_word w ≡ true) × NotFirst is_word_byte
 AreApart first (p.Punctuator w ∷ ps) = (mark_text (mark_in w) ≡ w) × NotFirst (grows w) (spelled ps) × AreApart false ps
 AreApart first (p.Number kind n ∷ ps) =
     (is_run (number_text kind n) ≡ true) × (is_some (integer_of (number_text kind n)) ≡ true)
-    × NotFirst (is_run_byte (ends_with_power false (number_text kind n))) (spelled ps) × AreApart false ps
+    × NotFirst (is_run_byte (ends_with_power (number_text kind n))) (spelled ps) × AreApart false ps
 AreApart first (p.Character b ∷ ps) = (b ≤ 255) × AreApart false ps
 AreApart first (p.Literal bs ∷ ps) = (list_all (λ b. nat_le b 255) bs ≡ true) × AreApart false ps
 AreApart first (p.Verbatim bs ∷ ps) =

@@ -1,12 +1,14 @@
 -- The token behind a comment of a text, by its number.
-use Rattle.std.proofs.Common.{◌≡◌, ◌<◌, ◌≤◌, ◌+◌, ℕ, suc, Bool, true, false, cond, List, [], ◌∷◌, ◌++◌, length, map, filter, refl, ap, subst, ◌∙◌, arith, append_assoc, length-append}
+use Rattle.std.proofs.Common.{◌≡◌, ◌<◌, ◌≤◌, ◌+◌, ℕ, suc, Bool, true, false, cond, List, [], ◌∷◌, ◌++◌, length, map, filter, refl, ap, sym, subst, ◌∙◌, arith, append_assoc, length-append}
 use Rattle.std.proofs.lemmas.List.{length-map}
 use Rattle.std.proofs.lemmas.Bool.{le-leb, lt-leb, lt-ltb, le-ltb}
 use Rattle.c_lexer.specs.declared.token.Token.{Token}
 use Rattle.c_lexer.specs.declared.token.Span.{Span}
-use Rattle.c_lexer.specs.Pieces.{Piece, Good, Fits, behind, bare, token_of, comment_of, all_of, tokens_of, comments_of, Spells}
+use Rattle.c_lexer.specs.Pieces.{Piece, Fits, behind, bare, token_of, comment_of, tokens_of, comments_of, Spells}
+use Rattle.c_lexer.specs.PieceSteps.{Good, all_of}
 use Rattle.c_lexer.specs.Pieces as l
 use Rattle.c_lexer.proofs.Later.{has_byte}
+use Rattle.c_lexer.proofs.PieceWalks.{spells_walked, tokens_are, comments_are}
 use Rattle.c_grammar.specs.declared.class.Class.TheVariants as c
 use Rattle.c_grammar.specs.TokenClasses.{classes_of}
 use Rattle.c_layers.specs.Tops.{Top}
@@ -127,7 +129,9 @@ numbered (p ∷ ps) first front at g b =
     (subst (λ ts. Each (IsNumbered ts) (all_of comment_of ps (behind p at))) (append_assoc front (token_of p at) rest) (numbered ps _ (front ++ token_of p at) (behind p at) (g.2) before))
 
 pub comments_numbered : (ps : List Piece) (t : List ℕ) → Spells ps t → Each (IsNumbered (tokens_of ps)) (comments_of ps)
-comments_numbered ps t s = numbered ps true [] 0 s.good tt
+comments_numbered ps t s =
+    subst (λ ts. Each (IsNumbered ts) (comments_of ps)) (sym (tokens_are ps))
+    (subst (λ cs. Each (IsNumbered (all_of token_of ps 0)) cs) (sym (comments_are ps)) (numbered ps true [] 0 (spells_walked ps t s) tt))
 
 -- ---- the comments of a place
 
