@@ -12,36 +12,37 @@ use Rattle.c_statements.specs.Functions.{result_kind, parameter_slot, function}
 use Rattle.c_reading_defs.specs.Typings.{Typing}
 use Rattle.c_reading_defs.specs.Places.{Place, entered, behind_parameters}
 use Rattle.c_reading_defs.specs.Labels.{InFunction, notes_at, labels_of}
+use Rattle.c_reading_defs.specs.Variables.{variables_of}
 use Rattle.c_reading_defs.specs.Slots.{slots_in, slots_of_list}
 use Rattle.c_reading_defs.specs.Items.{item_items, list_items}
 
--- what is known in a function with this body
-abbrev pub known : (ℕ → List ℕ) → (Anchor → List (List ℕ)) → Function → Body → InFunction
-known word notes f b = record { word = word; notes = notes; labels = labels_of word b; result = result_kind word f }
+abbrev pub labels_within : (ℕ → List ℕ) → Option Body → List (List ℕ)
+labels_within word None = []
+labels_within word (Some b) = labels_of word b
+
+-- what is known in a function
+abbrev pub known : (ℕ → List ℕ) → (Anchor → List (List ℕ)) → Function → InFunction
+known word notes f = record { word = word; notes = notes; labels = labels_within word f.body; variables = variables_of f; result = result_kind word f }
 
 -- behind the parameters of a function, where its outermost list begins
-abbrev pub inside : (ℕ → List ℕ) → Function → List Scope → Place
-inside word f ss = behind_parameters word f.parameters (entered ss)
+abbrev pub inside : (ℕ → List ℕ) → (Anchor → List (List ℕ)) → Function → List Scope → Place
+inside word notes f ss = behind_parameters (known word notes f) f.parameters (entered ss)
 
 -- the parameters and the outermost list are one scope
 abbrev pub body_items : Typing → InFunction → Body → Place → List item.Item
 body_items typing f (Braces first after xs) p = list_items typing f xs p ++ notes_at f (AtEnd first)
 body_items typing f (Lone first after x) p = item_items typing f x p ++ notes_at f (AtEnd first)
 
-abbrev pub body_slots : Typing → (ℕ → List ℕ) → Body → Place → List Slot
-body_slots typing word (Braces first after xs) p = slots_of_list typing word xs p
-body_slots typing word (Lone first after x) p = slots_in typing word x p
+abbrev pub body_slots : Typing → InFunction → Body → Place → List Slot
+body_slots typing f (Braces first after xs) p = slots_of_list typing f xs p
+body_slots typing f (Lone first after x) p = slots_in typing f x p
 
-abbrev pub slots_within : Typing → (ℕ → List ℕ) → Option Body → Place → List Slot
-slots_within typing word None p = []
-slots_within typing word (Some b) p = body_slots typing word b p
-
-abbrev pub labels_within : (ℕ → List ℕ) → Option Body → List (List ℕ)
-labels_within word None = []
-labels_within word (Some b) = labels_of word b
+abbrev pub slots_within : Typing → InFunction → Option Body → Place → List Slot
+slots_within typing f None p = []
+slots_within typing f (Some b) p = body_slots typing f b p
 
 abbrev pub function_of : Typing → (ℕ → List ℕ) → (Anchor → List (List ℕ)) → Function → List Scope → tree.Function
 function_of typing word notes f ss =
-    let p = inside word f ss in
-    function word f (map (parameter_slot word) f.parameters ++ slots_within typing word f.body p) (labels_within word f.body)
-    (option_map (λ b. body_items typing (known word notes f b) b p) f.body)
+    let p = inside word notes f ss in
+    function word f (map (parameter_slot word) f.parameters ++ slots_within typing (known word notes f) f.body p) (labels_within word f.body)
+    (option_map (λ b. body_items typing (known word notes f) b p) f.body)

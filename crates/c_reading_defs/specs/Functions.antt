@@ -20,13 +20,13 @@ use Rattle.c_reading_defs.specs.Violations.{broken}
 -- ---- parameters
 
 -- a parameter at its place; a function with a body `defines`
-pub data ParameterBreaks (word : ℕ → List ℕ) (p : Place) (defines : Bool) (x : Parameter) : Fault → Type 0 where
-  declared_twice : (at : ℕ) → x.name ≡ Some at → IsDeclared (word at) p.scopes → ParameterBreaks word p defines x (broken at 21)
-  no_name : defines ≡ true → x.name ≡ None → ParameterBreaks word p defines x (broken x.first 43)
+pub data ParameterBreaks (f : InFunction) (p : Place) (defines : Bool) (x : Parameter) : Fault → Type 0 where
+  declared_twice : (at : ℕ) → x.name ≡ Some at → IsDeclared (f.word at) p.scopes → ParameterBreaks f p defines x (broken at 21)
+  no_name : defines ≡ true → x.name ≡ None → ParameterBreaks f p defines x (broken x.first 43)
 
 -- one of these parameters, behind those in front of it
-abbrev pub ParametersBreak : (ℕ → List ℕ) → Place → Bool → List Parameter → Fault → Type 0
-ParametersBreak word p defines xs v = SomeBehind (λ before x. let q = behind_parameters word before p in SizeBreaks (env_of word q) x.size v ⊎ ParameterBreaks word q defines x v) xs
+abbrev pub ParametersBreak : InFunction → Place → Bool → List Parameter → Fault → Type 0
+ParametersBreak f p defines xs v = SomeBehind (λ before x. let q = behind_parameters f before p in SizeBreaks (env_of f.word q) x.size v ⊎ ParameterBreaks f q defines x v) xs
 
 -- ---- labels, behind these of the same function
 
@@ -42,16 +42,16 @@ OutermostBreaks typing f p (Lone first after x) v = ItemBreaks typing f p x v
 
 -- a function that is too tangled; `flat` gives counts for a body with jumps, and none for another
 pub data Tangled (typing : Typing) (flat : FlatCounts) (word : ℕ → List ℕ) (notes : Anchor → List (List ℕ)) (f : Function) (b : Body) (scopes : List Scope) : Fault → Type 0 where
-  tangled : (counts : ℕ × ℕ) → flat (body_items typing (known word notes f b) b (inside word f scopes)) ≡ Some counts → is_tangled (measures word f b counts) ≡ true → Tangled typing flat word notes f b scopes (broken f.name 39)
+  tangled : (counts : ℕ × ℕ) → flat (body_items typing (known word notes f) b (inside word notes f scopes)) ≡ Some counts → is_tangled (measures word f b counts) ≡ true → Tangled typing flat word notes f b scopes (broken f.name 39)
 
 -- the labels, the statements and the size of a function with a body
 abbrev pub DefinitionBreaks : Typing → FlatCounts → (ℕ → List ℕ) → (Anchor → List (List ℕ)) → Function → List Scope → Option Body → Fault → Type 0
 DefinitionBreaks typing flat word notes f scopes None v = ⊥
 DefinitionBreaks typing flat word notes f scopes (Some b) v =
     SomeBehind (λ before at. LabelTwice word before at v) (body_labels b)
-    ⊎ (OutermostBreaks typing (known word notes f b) (inside word f scopes) b v
+    ⊎ (OutermostBreaks typing (known word notes f) (inside word notes f scopes) b v
     ⊎ Tangled typing flat word notes f b scopes v)
 
 -- in a function, which these scopes are round
 abbrev pub FunctionBreaks : Typing → FlatCounts → (ℕ → List ℕ) → (Anchor → List (List ℕ)) → Function → List Scope → Fault → Type 0
-FunctionBreaks typing flat word notes f scopes v = ParametersBreak word (entered scopes) (is_some f.body) f.parameters v ⊎ DefinitionBreaks typing flat word notes f scopes f.body v
+FunctionBreaks typing flat word notes f scopes v = ParametersBreak (known word notes f) (entered scopes) (is_some f.body) f.parameters v ⊎ DefinitionBreaks typing flat word notes f scopes f.body v

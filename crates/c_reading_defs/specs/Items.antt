@@ -15,24 +15,24 @@ use Rattle.c_kinds.specs.Scopes.{Env}
 use Rattle.c_reading_defs.specs.Typings.{Typing}
 use Rattle.c_reading_defs.specs.Labels.{InFunction, notes_at, label_number}
 use Rattle.c_reading_defs.specs.Written.{dropped_at, labels_items, section_cases, section_marks, test_at, value_at}
-use Rattle.c_reading_defs.specs.Places.{Place, env_of, within, behind_name, behind_names, behind_start}
+use Rattle.c_reading_defs.specs.Variables.{variable_number}
+use Rattle.c_reading_defs.specs.Places.{Place, env_of, within, behind_name, behind_names, behind_start, behind}
 use Rattle.c_lexer.specs.Behind.{each_behind}
-use Rattle.c_reading_defs.specs.Slots.{past_body, behind}
 
 -- the names at a place
 abbrev pub names : InFunction → Place → Env
 names f p = env_of f.word p
 
 -- a name is in scope in its own initialiser
-abbrev pub local : Typing → (ℕ → List ℕ) → Kinded → Declarator → Place → item.Item
-local typing word k d p = item.Local p.variables (initial (value_at typing (env_of word (behind_name word k d p))) d.value)
+abbrev pub local : Typing → InFunction → Kinded → Declarator → Place → item.Item
+local typing f k d p = item.Local (variable_number f.variables d.name) (initial (value_at typing (env_of f.word (behind_name f k d p))) d.value)
 
 -- one Local for each name, in order
-abbrev pub locals : Typing → (ℕ → List ℕ) → Kinded → List Declarator → Place → List item.Item
-locals typing word k ds p = each_behind (λ before d. local typing word k d (behind_names word k before p)) ds
+abbrev pub locals : Typing → InFunction → Kinded → List Declarator → Place → List item.Item
+locals typing f k ds p = each_behind (λ before d. local typing f k d (behind_names f k before p)) ds
 
 abbrev pub declaration_items : Typing → InFunction → Declaration → Place → List item.Item
-declaration_items typing f d p = locals typing f.word (kinded f.word d) d.names p
+declaration_items typing f d p = locals typing f (kinded f.word d) d.names p
 
 -- with the Notes in front of it
 abbrev pub declares_items : Typing → InFunction → ℕ → Declaration → Place → List item.Item
@@ -85,11 +85,11 @@ abbrev mutual
   statement_items typing f Null p = []
   statement_items typing f (Evaluate t) p = item.Evaluate (dropped_at typing (names f p) t) ∷ []
   statement_items typing f (If t b) p = item.If (test_at typing (names f p) t) (body_items typing f b p) [] ∷ []
-  statement_items typing f (IfElse t b c) p = item.If (test_at typing (names f p) t) (body_items typing f b p) (body_items typing f c (past_body typing f.word b p)) ∷ []
+  statement_items typing f (IfElse t b c) p = item.If (test_at typing (names f p) t) (body_items typing f b p) (body_items typing f c p) ∷ []
   statement_items typing f (While t b) p = item.While (test_at typing (names f p) t) (body_items typing f b p) ∷ []
   statement_items typing f (DoWhile b t) p = item.Do (body_items typing f b p) (test_at typing (names f p) t) ∷ []
   statement_items typing f (For start t u b) p =
-      let inner = behind_start f.word start (within p) in
+      let inner = behind_start f start (within p) in
       item.For (start_items typing f start (within p)) (option_map (value_at typing (names f inner)) t) (option_map (dropped_at typing (names f inner)) u) (body_items typing f b inner) ∷ []
   statement_items typing f (Switch t b) p = item.Switch (selector.Source (value_at typing (names f p) t)) (passed_on (switch_sections typing f b p)) ∷ []
   statement_items typing f (Block b) p = item.Block (body_items typing f b p) ∷ []
@@ -105,7 +105,7 @@ abbrev mutual
 
   pub list_items : Typing → InFunction → Items → Place → List item.Item
   list_items typing f NoItem p = []
-  list_items typing f (Then x xs) p = item_items typing f x p ++ list_items typing f xs (behind typing f.word x p)
+  list_items typing f (Then x xs) p = item_items typing f x p ++ list_items typing f xs (behind f x p)
 
   -- the sections of a switch, and what stands in front of them
   pub switch_sections : Typing → InFunction → Body → Place → List Section
@@ -115,7 +115,7 @@ abbrev mutual
   -- up to the first section; null statements are left out
   pub outside_items : Typing → InFunction → Items → Place → List item.Item
   outside_items typing f NoItem p = []
-  outside_items typing f (Then x xs) p = cond (begins x) [] (outside_item typing f x p ++ outside_items typing f xs (behind typing f.word x p))
+  outside_items typing f (Then x xs) p = cond (begins x) [] (outside_item typing f x p ++ outside_items typing f xs (behind f x p))
 
   pub outside_item : Typing → InFunction → items.Item → Place → List item.Item
   outside_item typing f (Declares first after d) p = declares_items typing f first d p
@@ -124,7 +124,7 @@ abbrev mutual
   -- a list that ends with these Notes
   pub parts : Typing → InFunction → Items → List item.Item → Place → Parted
   parts typing f NoItem notes p = record { outside = notes; sections = [] }
-  parts typing f (Then x xs) notes p = part typing f x (parts typing f xs notes (behind typing f.word x p)) p
+  parts typing f (Then x xs) notes p = part typing f x (parts typing f xs notes (behind f x p)) p
 
   -- an item in front of these
   pub part : Typing → InFunction → items.Item → Parted → Place → Parted

@@ -15,6 +15,8 @@ pub record InFunction : Type 0 where
   pub notes : Anchor → List (List ℕ)
   -- the names of its labels, each once, in text order
   pub labels : List (List ℕ)
+  -- its parameters and the variables of its body, by their tokens, in text order
+  pub variables : List ℕ
   -- the kind of its result, None for `void`
   pub result : Option IntKind
 

@@ -22,6 +22,7 @@ pub mod Meanings
 pub mod Typings
 pub mod Written
 pub mod Labels
+pub mod Variables
 pub mod Slots
 pub mod Items
 pub mod Bodies

@@ -12,8 +12,7 @@ use Rattle.c_reading_defs.specs.Labels.{InFunction}
 use Rattle.c_reading_defs.specs.Behind.{IsOne}
 use Rattle.c_reading_defs.specs.Declared.{DeclarationBreaks}
 use Rattle.c_reading_defs.specs.Expressions.{Role, NeedsValue, NeedsConstant, MayBeVoid, IsJudgedElsewhere, ExpressionBreaks}
-use Rattle.c_reading_defs.specs.Places.{Place, env_of, within, within_loop, within_switch, behind_start}
-use Rattle.c_reading_defs.specs.Slots.{past_body, behind}
+use Rattle.c_reading_defs.specs.Places.{Place, env_of, within, within_loop, within_switch, behind_start, behind}
 use Rattle.c_reading_defs.specs.Switches.{body_entries, EntriesBreak, IsLost}
 use Rattle.c_reading_defs.specs.Violations.{broken}
 
@@ -48,16 +47,16 @@ OptionBreaks env role (Some t) v = ExpressionBreaks env role t v
 OptionBreaks env role None v = ⊥
 
 -- the first part of a `for`
-abbrev pub StartBreaks : Typing → (ℕ → List ℕ) → Place → Start → Fault → Type 0
-StartBreaks typing word p NoStart v = ⊥
-StartBreaks typing word p (StartValue t) v = ExpressionBreaks (env_of word p) MayBeVoid t v
-StartBreaks typing word p (StartNames d) v = DeclarationBreaks typing word p d v
+abbrev pub StartBreaks : Typing → InFunction → Place → Start → Fault → Type 0
+StartBreaks typing f p NoStart v = ⊥
+StartBreaks typing f p (StartValue t) v = ExpressionBreaks (env_of f.word p) MayBeVoid t v
+StartBreaks typing f p (StartNames d) v = DeclarationBreaks typing f p d v
 
 -- ---- a rule is broken by a statement at this place, or within it
 
 abbrev mutual
   pub ItemBreaks : Typing → InFunction → Place → Item → Fault → Type 0
-  ItemBreaks typing f p (Declares first after d) v = DeclarationBreaks typing f.word p d v
+  ItemBreaks typing f p (Declares first after d) v = DeclarationBreaks typing f p d v
   ItemBreaks typing f p (States ls s) v = LabelsBreak (env_of f.word p) p.around ls v ⊎ PlainBreaks typing f p s v
 
   pub PlainBreaks : Typing → InFunction → Place → Plain → Fault → Type 0
@@ -66,17 +65,17 @@ abbrev mutual
   pub InStatement : Typing → InFunction → Place → Statement → Fault → Type 0
   InStatement typing f p (Evaluate t) v = ExpressionBreaks (env_of f.word p) MayBeVoid t v
   InStatement typing f p (If t b) v = ExpressionBreaks (env_of f.word p) NeedsValue t v ⊎ BodyBreaks typing f p b v
-  InStatement typing f p (IfElse t b c) v = ExpressionBreaks (env_of f.word p) NeedsValue t v ⊎ (BodyBreaks typing f p b v ⊎ BodyBreaks typing f (past_body typing f.word b p) c v)
+  InStatement typing f p (IfElse t b c) v = ExpressionBreaks (env_of f.word p) NeedsValue t v ⊎ (BodyBreaks typing f p b v ⊎ BodyBreaks typing f p c v)
   InStatement typing f p (While t b) v = ExpressionBreaks (env_of f.word p) NeedsValue t v ⊎ BodyBreaks typing f (within_loop p) b v
   InStatement typing f p (DoWhile b t) v = BodyBreaks typing f (within_loop p) b v ⊎ ExpressionBreaks (env_of f.word p) NeedsValue t v
   InStatement typing f p (For start t u b) v =
-      let inner = behind_start f.word start (within p) in
-      StartBreaks typing f.word (within p) start v ⊎ (OptionBreaks (env_of f.word inner) NeedsValue t v ⊎ (OptionBreaks (env_of f.word inner) MayBeVoid u v ⊎ BodyBreaks typing f (within_loop inner) b v))
+      let inner = behind_start f start (within p) in
+      StartBreaks typing f (within p) start v ⊎ (OptionBreaks (env_of f.word inner) NeedsValue t v ⊎ (OptionBreaks (env_of f.word inner) MayBeVoid u v ⊎ BodyBreaks typing f (within_loop inner) b v))
   InStatement typing f p (Switch t b) v =
       ExpressionBreaks (env_of f.word p) NeedsValue t v
       ⊎ (BodyBreaks typing f (within_switch p) b v
       ⊎ (IsLost (items_in b) v
-      ⊎ EntriesBreak (option_map (λ x. x.kind) (value_of (typing (env_of f.word p) t))) (body_entries typing f.word p b) v))
+      ⊎ EntriesBreak (option_map (λ x. x.kind) (value_of (typing (env_of f.word p) t))) (body_entries typing f p b) v))
   InStatement typing f p (Block b) v = BodyBreaks typing f p b v
   InStatement typing f p (Return t) v = OptionBreaks (env_of f.word p) (returned f.result) t v
   InStatement typing f p _ v = ⊥
@@ -87,4 +86,4 @@ abbrev mutual
 
   pub ListBreaks : Typing → InFunction → Place → Items → Fault → Type 0
   ListBreaks typing f p NoItem v = ⊥
-  ListBreaks typing f p (Then x xs) v = ItemBreaks typing f p x v ⊎ ListBreaks typing f (behind typing f.word x p) xs v
+  ListBreaks typing f p (Then x xs) v = ItemBreaks typing f p x v ⊎ ListBreaks typing f (behind f x p) xs v

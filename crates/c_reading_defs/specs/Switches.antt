@@ -12,8 +12,8 @@ use Rattle.c_statements.specs.declared.entries.Entry.TheVariants.{Value, Other}
 use Rattle.c_statements.specs.Statements.{begins, is_element}
 use Rattle.c_reading_defs.specs.Typings.{Typing}
 use Rattle.c_reading_defs.specs.Behind.{SomeBehind}
-use Rattle.c_reading_defs.specs.Places.{Place, env_of, within, behind_start}
-use Rattle.c_reading_defs.specs.Slots.{past_body, behind}
+use Rattle.c_reading_defs.specs.Labels.{InFunction}
+use Rattle.c_reading_defs.specs.Places.{Place, env_of, within, behind_start, behind}
 use Rattle.c_reading_defs.specs.Violations.{broken}
 
 -- ---- the case and default labels that belong to a switch, in text order; a switch within it keeps its own
@@ -30,29 +30,29 @@ label_entries typing env (Default at after ∷ ls) = Other at ∷ label_entries 
 label_entries typing env (Case at after t ∷ ls) = case_entry at (constant_of (typing env t)) ++ label_entries typing env ls
 
 abbrev mutual
-  pub item_entries : Typing → (ℕ → List ℕ) → Place → Item → List Entry
-  item_entries typing word p (Declares first after d) = []
-  item_entries typing word p (States ls s) = label_entries typing (env_of word p) ls ++ plain_entries typing word p s
+  pub item_entries : Typing → InFunction → Place → Item → List Entry
+  item_entries typing f p (Declares first after d) = []
+  item_entries typing f p (States ls s) = label_entries typing (env_of f.word p) ls ++ plain_entries typing f p s
 
-  pub plain_entries : Typing → (ℕ → List ℕ) → Place → Plain → List Entry
-  plain_entries typing word p (From first after s) = statement_entries typing word p s
+  pub plain_entries : Typing → InFunction → Place → Plain → List Entry
+  plain_entries typing f p (From first after s) = statement_entries typing f p s
 
-  pub statement_entries : Typing → (ℕ → List ℕ) → Place → Statement → List Entry
-  statement_entries typing word p (If t b) = body_entries typing word p b
-  statement_entries typing word p (IfElse t b c) = body_entries typing word p b ++ body_entries typing word (past_body typing word b p) c
-  statement_entries typing word p (While t b) = body_entries typing word p b
-  statement_entries typing word p (DoWhile b t) = body_entries typing word p b
-  statement_entries typing word p (For start t u b) = body_entries typing word (behind_start word start (within p)) b
-  statement_entries typing word p (Block b) = body_entries typing word p b
-  statement_entries typing word p _ = []
+  pub statement_entries : Typing → InFunction → Place → Statement → List Entry
+  statement_entries typing f p (If t b) = body_entries typing f p b
+  statement_entries typing f p (IfElse t b c) = body_entries typing f p b ++ body_entries typing f p c
+  statement_entries typing f p (While t b) = body_entries typing f p b
+  statement_entries typing f p (DoWhile b t) = body_entries typing f p b
+  statement_entries typing f p (For start t u b) = body_entries typing f (behind_start f start (within p)) b
+  statement_entries typing f p (Block b) = body_entries typing f p b
+  statement_entries typing f p _ = []
 
-  pub body_entries : Typing → (ℕ → List ℕ) → Place → Body → List Entry
-  body_entries typing word p (Braces first after xs) = list_entries typing word (within p) xs
-  body_entries typing word p (Lone first after x) = item_entries typing word (within p) x
+  pub body_entries : Typing → InFunction → Place → Body → List Entry
+  body_entries typing f p (Braces first after xs) = list_entries typing f (within p) xs
+  body_entries typing f p (Lone first after x) = item_entries typing f (within p) x
 
-  pub list_entries : Typing → (ℕ → List ℕ) → Place → Items → List Entry
-  list_entries typing word p NoItem = []
-  list_entries typing word p (Then x xs) = item_entries typing word p x ++ list_entries typing word (behind typing word x p) xs
+  pub list_entries : Typing → InFunction → Place → Items → List Entry
+  list_entries typing f p NoItem = []
+  list_entries typing f p (Then x xs) = item_entries typing f p x ++ list_entries typing f (behind f x p) xs
 
 -- ---- the rules
 

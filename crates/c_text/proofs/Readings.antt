@@ -100,8 +100,8 @@ written t pieces xs = file_written counts_of t (tokens_of pieces) (comments_of p
 same_violation : (t : List ℕ) (pieces : List Piece) (xs : List Top) → violation_of (file_at counts_of t (tokens_of pieces) (comments_of pieces) xs) xs ≡ violation_of (written t pieces xs) xs
 same_violation t pieces xs = program_laws.violation counts_of t (tokens_of pieces) (comments_of pieces) xs
 
-pub same_program : (t : List ℕ) (pieces : List Piece) (xs : List Top) → program_of (file_at counts_of t (tokens_of pieces) (comments_of pieces) xs) xs ≡ program typed (written t pieces xs) xs
-same_program t pieces xs = program_laws.written counts_of t (tokens_of pieces) (comments_of pieces) xs
+pub same_program : (t : List ℕ) (pieces : List Piece) (xs : List Top) → DeriveFile (classes_of t (tokens_of pieces)) xs → program_of (file_at counts_of t (tokens_of pieces) (comments_of pieces) xs) xs ≡ program typed (written t pieces xs) xs
+same_program t pieces xs derives = program_laws.written counts_of t (tokens_of pieces) (comments_of pieces) derives.entries xs derives.derives
 
 violated : (t : List ℕ) (tokens : List Token) (p : Program) (v : Option Fault) (refusal : Refusal) → answer t tokens p v ≡ Err refusal
     → (f : Fault) × (v ≡ Some f) × (refusal ≡ refused t tokens f)
@@ -114,7 +114,8 @@ violation t refusal pieces x spells derives e =
     let xs = file_of (word_of t (tokens_of pieces)) x in
     let file = file_at counts_of t (tokens_of pieces) (comments_of pieces) xs in
     let v = violated t (tokens_of pieces) (program_of file xs) (violation_of file xs) refusal e in
-    record { pieces = pieces; spells = spells; file = xs; derives = source_laws.file t pieces spells x derives; typing = typed; types = typed_typing; violation = v.0; least = (file_laws.least (written t pieces xs) xs v.0).0 (sym (same_violation t pieces xs) ∙ v.1); place = v.2 }
+    let d = source_laws.file t pieces spells x derives in
+    record { pieces = pieces; spells = spells; file = xs; derives = d; typing = typed; types = typed_typing; violation = v.0; least = (file_laws.least (written t pieces xs) d.entries xs d.derives v.0).0 (sym (same_violation t pieces xs) ∙ v.1); place = v.2 }
 
 -- ---- the whole
 
@@ -165,7 +166,8 @@ program_as t p e =
     let xs = file_of (word_of t (tokens_of a.pieces)) a.syntax_of in
     let file = file_at counts_of t (tokens_of a.pieces) (comments_of a.pieces) xs in
     let g = answered t (tokens_of a.pieces) (program_of file xs) p (violation_of file xs) a.resolves in
-    record { pieces = a.pieces; spells = a.spells; file = xs; derives = source_laws.file t a.pieces a.spells a.syntax_of a.derives; typing = typed; types = typed_typing; faultless = (file_laws.faultless (written t a.pieces xs) xs).0 (sym (same_violation t a.pieces xs) ∙ g.0); is = g.1 ∙ same_program t a.pieces xs }
+    let d = source_laws.file t a.pieces a.spells a.syntax_of a.derives in
+    record { pieces = a.pieces; spells = a.spells; file = xs; derives = d; typing = typed; types = typed_typing; faultless = (file_laws.faultless (written t a.pieces xs) d.entries xs d.derives).0 (sym (same_violation t a.pieces xs) ∙ g.0); is = g.1 ∙ same_program t a.pieces xs d }
 
 -- ---- and back: with such a fault, and with no other, it is refused
 
@@ -199,7 +201,7 @@ refused_back t refusal (inr (inr rule)) =
     let xs = rule.file in
     let file = file_at counts_of t tokens (comments_of rule.pieces) xs in
     derived_back t rule.pieces xs rule.spells rule.derives
-    ∙ ap (answer t tokens (program_of file xs)) (same_violation t rule.pieces xs ∙ (file_laws.least (written t rule.pieces xs) xs rule.violation).1 (subst (λ (typing : Typing). IsLeast (IsViolation typing (written t rule.pieces xs) xs) rule.violation) (sole_typing rule.typing rule.types) rule.least))
+    ∙ ap (answer t tokens (program_of file xs)) (same_violation t rule.pieces xs ∙ (file_laws.least (written t rule.pieces xs) rule.derives.entries xs rule.derives.derives rule.violation).1 (subst (λ (typing : Typing). IsLeast (IsViolation typing (written t rule.pieces xs) xs) rule.violation) (sole_typing rule.typing rule.types) rule.least))
     ∙ ap Err (sym rule.place)
 
 -- and the program of a text is what it reads as
@@ -209,8 +211,8 @@ program_back t p h =
     let xs = h.file in
     let file = file_at counts_of t tokens (comments_of h.pieces) xs in
     derived_back t h.pieces xs h.spells h.derives
-    ∙ ap (answer t tokens (program_of file xs)) (same_violation t h.pieces xs ∙ (file_laws.faultless (written t h.pieces xs) xs).1 (subst (λ (typing : Typing). IsFaultless (IsViolation typing (written t h.pieces xs) xs)) (sole_typing h.typing h.types) h.faultless))
-    ∙ ap Ok (same_program t h.pieces xs ∙ ap (λ (typing : Typing). program typing (written t h.pieces xs) xs) (sym (sole_typing h.typing h.types)) ∙ sym h.is)
+    ∙ ap (answer t tokens (program_of file xs)) (same_violation t h.pieces xs ∙ (file_laws.faultless (written t h.pieces xs) h.derives.entries xs h.derives.derives).1 (subst (λ (typing : Typing). IsFaultless (IsViolation typing (written t h.pieces xs) xs)) (sole_typing h.typing h.types) h.faultless))
+    ∙ ap Ok (same_program t h.pieces xs h.derives ∙ ap (λ (typing : Typing). program typing (written t h.pieces xs) xs) (sym (sole_typing h.typing h.types)) ∙ sym h.is)
 
 not_both : {A : Type 0} (o : Result A Refusal) (x : A) (r : Refusal) → o ≡ Ok x → o ≡ Err r → ⊥
 not_both o x r e g = cc

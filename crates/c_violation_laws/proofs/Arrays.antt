@@ -1,5 +1,5 @@
 -- Brackets and initialisers that a walk finds bad are those that the rule for arrays names.
-use Rattle.std.proofs.Common.{◌≡◌, inl, inr, ℕ, ℤ, Bool, true, false, not, ◌&&◌, ◌||◌, nat_lt, List, length, Option, Some, None, is_some, refl, sym, subst, true≢false}
+use Rattle.std.proofs.Common.{◌≡◌, inl, inr, ℕ, ℤ, Bool, true, not, ◌&&◌, ◌||◌, nat_lt, List, length, Option, Some, None, is_some, refl, sym, subst, true≢false}
 use Rattle.std.proofs.lemmas.Bool.{ltb-true, lt-ltb, or_cases, and_parts, or_left, or_right}
 use Rattle.c_layers.specs.Terms.{Term}
 use Rattle.c_layers.specs.Items.{Size, NoSize, Unsized, Sized, Initialiser, NoValue, OneValue, ValueList}

@@ -1,5 +1,5 @@
 -- What a walk finds in a declaration of a block.
-use Rattle.std.proofs.Common.{◌≡◌, ◌⊎◌, inl, inr, ℕ, Bool, true, List, [], ◌∷◌, option_map, refl, sym, ap, subst, ◌∙◌}
+use Rattle.std.proofs.Common.{◌≡◌, ◌⊎◌, inl, inr, ℕ, Bool, true, List, [], ◌∷◌, ◌++◌, option_map, refl, sym, ap, subst, ◌∙◌}
 use Rattle.c_layers.specs.Terms.{Term, first_of}
 use Rattle.c_layers.specs.Items.{Size, NoSize, Unsized, Sized, Initialiser, NoValue, OneValue, ValueList, Declarator}
 use Rattle.c_kinds.specs.declared.typed.Fault.{Fault}
@@ -19,6 +19,8 @@ use Rattle.c_reading_defs.specs.Violations.{broken}
 use Rattle.c_reading_defs.specs.Arrays.{ArrayBreaks}
 use Rattle.c_reading_defs.specs.Bindings.{IsDeclared}
 use Rattle.c_reading_defs.specs.Behind.{SomeBehind}
+use Rattle.c_reading_defs.specs.Labels.{InFunction}
+use Rattle.c_reading_defs.specs.Variables.{name_tokens}
 use Rattle.c_reading_defs.specs.Places.{Place, behind_name, behind_names}
 use Rattle.c_reading_defs.specs.Expressions.{Role, NeedsValue, NeedsConstant, MayBeVoid, IsJudgedElsewhere, ExpressionBreaks}
 use Rattle.c_reading_defs.specs.Declared.{SizeBreaks, ValuesBreak, InitialiserBreaks, LocalBreaks, DeclaratorBreaks}
@@ -26,6 +28,7 @@ use Rattle.c_violation_laws.specs.Finds.{Finds}
 use Rattle.c_violation_laws.proofs.Finding.{finds_none, finds_both, finds_same, finds_as, finds_if}
 use Rattle.c_violation_laws.proofs.Expressions.{value, dropped, constant, argument}
 use Rattle.c_violation_laws.proofs.Arrays.{array_breaks, breaks_bad}
+use Rattle.c_violation_laws.proofs.Rising.{Apart}
 use Rattle.c_violation_laws.proofs.Standing.{AreMaps, Stands, stands_name}
 use Rattle.c_violation_laws.proofs.Scopes.{bound_alike, is_declared, declared_is}
 use Rattle.c_violation_laws.proofs.AlikeTerms.{typed_alike, faults_alike}
@@ -86,35 +89,36 @@ module _ (word : ℕ → List ℕ) (ms ss : List Scope) (m : AreMaps ms ss) wher
       (λ v p. (is_declared name ss (sym (bound_alike name ms ss m) ∙ p.0), p.1))
       (λ v p. (bound_alike name ms ss m ∙ declared_is name ss p.0, p.1))
 
-module _ (word : ℕ → List ℕ) (k : Kinded) where
+module _ (f : InFunction) (apart : Apart f.variables) (k : Kinded) where
   -- of the name
-  names : (w : Walk) (p : Place) → Stands w p → (d : Declarator)
-      → Finds (λ vs. bind_fault d.name (word d.name) w.scopes (fault_if (is_bad_array true (env_in word w) d) d.name 35 vs)) (λ v. LocalBreaks typed word p d v)
+  names : (w : Walk) (p : Place) → AreMaps w.scopes p.scopes → (d : Declarator)
+      → Finds (λ vs. bind_fault d.name (f.word d.name) w.scopes (fault_if (is_bad_array true (env_in f.word w) d) d.name 35 vs)) (λ v. LocalBreaks typed f p d v)
   names w p s d =
-      finds_same (λ vs. bind_fault d.name (word d.name) w.scopes (fault_if (is_bad_array true (env_in word w) d) d.name 35 vs)) _ (λ v. LocalBreaks typed word p d v)
-      (finds_both (fault_if (is_bad_array true (env_in word w) d) d.name 35) (bind_fault d.name (word d.name) w.scopes) _ _
-      (finds_if (is_bad_array true (env_in word w) d) d.name 35) (twice word w.scopes p.scopes s.maps (word d.name) d.name))
+      finds_same (λ vs. bind_fault d.name (f.word d.name) w.scopes (fault_if (is_bad_array true (env_in f.word w) d) d.name 35 vs)) _ (λ v. LocalBreaks typed f p d v)
+      (finds_both (fault_if (is_bad_array true (env_in f.word w) d) d.name 35) (bind_fault d.name (f.word d.name) w.scopes) _ _
+      (finds_if (is_bad_array true (env_in f.word w) d) d.name 35) (twice f.word w.scopes p.scopes s (f.word d.name) d.name))
       to fro
     where
-      to : (v : Fault) → ((is_bad_array true (env_in word w) d ≡ true) × (v ≡ broken d.name 35)) ⊎ (IsDeclared (word d.name) p.scopes × (v ≡ broken d.name 21)) → LocalBreaks typed word p d v
-      to v (inl q) = subst (LocalBreaks typed word p d) (sym q.1) (LocalBreaks.bad_array (bad_breaks word w.scopes p.scopes s.maps true d q.0))
-      to v (inr q) = subst (LocalBreaks typed word p d) (sym q.1) (LocalBreaks.declared_twice q.0)
+      to : (v : Fault) → ((is_bad_array true (env_in f.word w) d ≡ true) × (v ≡ broken d.name 35)) ⊎ (IsDeclared (f.word d.name) p.scopes × (v ≡ broken d.name 21)) → LocalBreaks typed f p d v
+      to v (inl q) = subst (LocalBreaks typed f p d) (sym q.1) (LocalBreaks.bad_array (bad_breaks f.word w.scopes p.scopes s true d q.0))
+      to v (inr q) = subst (LocalBreaks typed f p d) (sym q.1) (LocalBreaks.declared_twice q.0)
 
-      fro : (v : Fault) → LocalBreaks typed word p d v → ((is_bad_array true (env_in word w) d ≡ true) × (v ≡ broken d.name 35)) ⊎ (IsDeclared (word d.name) p.scopes × (v ≡ broken d.name 21))
+      fro : (v : Fault) → LocalBreaks typed f p d v → ((is_bad_array true (env_in f.word w) d ≡ true) × (v ≡ broken d.name 35)) ⊎ (IsDeclared (f.word d.name) p.scopes × (v ≡ broken d.name 21))
       fro v (LocalBreaks.declared_twice h) = inr (h, refl)
-      fro v (LocalBreaks.bad_array e) = inl (breaks_are_bad word w.scopes p.scopes s.maps true d e, refl)
+      fro v (LocalBreaks.bad_array e) = inl (breaks_are_bad f.word w.scopes p.scopes s true d e, refl)
 
-  declarator : (d : Declarator) (w : Walk) (p : Place) → Stands w p → Finds (local_faults word k d w) (λ v. DeclaratorBreaks typed word k p d v)
-  declarator d w p s =
-      let q = stands_name word k d w p s in
-      let inner = declared word k d w in
-      finds_both (size_faults (env_in word w) d.size) (λ vs. initial_faults (value_faults (env_in word inner)) d.value (bind_fault d.name (word d.name) w.scopes (fault_if (is_bad_array true (env_in word w) d) d.name 35 vs))) _ _
-      (sizes word w.scopes p.scopes s.maps d.size)
-      (finds_both (λ vs. bind_fault d.name (word d.name) w.scopes (fault_if (is_bad_array true (env_in word w) d) d.name 35 vs)) (initial_faults (value_faults (env_in word inner)) d.value) _ _
-      (names w p s d)
-      (initialisers word inner.scopes (behind_name word k d p).scopes q.maps (value_faults (env_in word inner)) NeedsValue (value_at word inner.scopes (behind_name word k d p).scopes q.maps) d.value))
+  declarator : (d : Declarator) (w : Walk) (p : Place) (rest : List ℕ) → Stands f.variables w p (d.name ∷ rest) → Finds (local_faults f.word k d w) (λ v. DeclaratorBreaks typed f k p d v)
+  declarator d w p rest s =
+      let q = stands_name f apart k d w p rest s in
+      let inner = declared f.word k d w in
+      finds_both (size_faults (env_in f.word w) d.size) (λ vs. initial_faults (value_faults (env_in f.word inner)) d.value (bind_fault d.name (f.word d.name) w.scopes (fault_if (is_bad_array true (env_in f.word w) d) d.name 35 vs))) _ _
+      (sizes f.word w.scopes p.scopes s.maps d.size)
+      (finds_both (λ vs. bind_fault d.name (f.word d.name) w.scopes (fault_if (is_bad_array true (env_in f.word w) d) d.name 35 vs)) (initial_faults (value_faults (env_in f.word inner)) d.value) _ _
+      (names w p s.maps d)
+      (initialisers f.word inner.scopes (behind_name f k d p).scopes q.maps (value_faults (env_in f.word inner)) NeedsValue (value_at f.word inner.scopes (behind_name f k d p).scopes q.maps) d.value))
 
-  pub declarators : (ds : List Declarator) (w : Walk) (p : Place) → Stands w p → Finds (locals_faults word k ds w) (λ v. SomeBehind (λ before d. DeclaratorBreaks typed word k (behind_names word k before p) d v) ds)
-  declarators [] w p s = finds_none
-  declarators (d ∷ ds) w p s =
-      finds_both (local_faults word k d w) (locals_faults word k ds (declared word k d w)) _ _ (declarator d w p s) (declarators ds (declared word k d w) (behind_name word k d p) (stands_name word k d w p s))
+  pub declarators : (ds : List Declarator) (w : Walk) (p : Place) (rest : List ℕ) → Stands f.variables w p (name_tokens ds ++ rest) → Finds (locals_faults f.word k ds w) (λ v. SomeBehind (λ before d. DeclaratorBreaks typed f k (behind_names f k before p) d v) ds)
+  declarators [] w p rest s = finds_none
+  declarators (d ∷ ds) w p rest s =
+      finds_both (local_faults f.word k d w) (locals_faults f.word k ds (declared f.word k d w)) _ _ (declarator d w p (name_tokens ds ++ rest) s)
+      (declarators ds (declared f.word k d w) (behind_name f k d p) rest (stands_name f apart k d w p (name_tokens ds ++ rest) s))

@@ -22,14 +22,16 @@ use Rattle.c_statements.specs.Statements.{behind_start, behind_item, behind_body
 use Rattle.c_statements.specs.Cases as walked
 use Rattle.c_statements.specs.Cases.{is_among, with_value, entry_faults, default_faults, switch_faults}
 use Rattle.c_violation_laws.proofs.Behind.{Behind, finds_behind}
-use Rattle.c_reading_defs.specs.Places.{Place, env_of, within}
-use Rattle.c_reading_defs.specs.Slots.{past_body, behind}
+use Rattle.c_reading_defs.specs.Labels.{InFunction}
+use Rattle.c_reading_defs.specs.Variables.{start_variables, item_variables, plain_variables, statement_variables, body_variables, list_variables}
+use Rattle.c_reading_defs.specs.Places.{Place, env_of, within, behind}
 use Rattle.c_reading_defs.specs.Places as places
 use Rattle.c_reading_defs.specs.Switches.{case_entry, label_entries, item_entries, plain_entries, statement_entries, body_entries, list_entries, HasCase, HasDefault, EntryBreaks, EntriesBreak}
 use Rattle.c_reading_defs.specs.Violations.{broken}
 use Rattle.c_violation_laws.specs.Finds.{Finds}
 use Rattle.c_violation_laws.proofs.Finding.{finds_none, finds_both, finds_same, finds_if}
-use Rattle.c_violation_laws.proofs.Standing.{Stands, stands_item, stands_start, stands_body, stands_within}
+use Rattle.c_violation_laws.proofs.Rising.{Apart}
+use Rattle.c_violation_laws.proofs.Standing.{AreMaps, Stands, in_function, stands_grouped, stands_item, stands_start, stands_body, stands_within}
 use Rattle.c_violation_laws.proofs.AlikeTerms.{typed_alike}
 
 -- ---- they are those by places
@@ -38,13 +40,16 @@ append_none : (es : List Entry) → es ≡ es ++ []
 append_none [] = refl
 append_none (e ∷ es) = ap (λ x. e ∷ x) (append_none es)
 
-module _ (ctx : Context) where
-  labelled : (w : Walk) (p : Place) → Stands w p → (ls : List Label) (found : List Entry) → walked.label_entries (env_at ctx w) ls found ≡ found ++ label_entries typed (env_of ctx.word p) ls
+module _ (ctx : Context) (names : List (List ℕ)) (vs : List ℕ) (apart : Apart vs) where
+  abbrev f : InFunction
+  f = in_function ctx names vs
+
+  labelled : (w : Walk) (p : Place) → AreMaps w.scopes p.scopes → (ls : List Label) (found : List Entry) → walked.label_entries (env_at ctx w) ls found ≡ found ++ label_entries typed (env_of ctx.word p) ls
   labelled w p s [] found = append_none found
   labelled w p s (Named at after ∷ ls) found = labelled w p s ls found
   labelled w p s (Default at after ∷ ls) found = labelled w p s ls (found ++ Other at ∷ []) ∙ append_assoc found (Other at ∷ []) (label_entries typed (env_of ctx.word p) ls)
   labelled w p s (Case at after t ∷ ls) found =
-      ap (λ x. walked.label_entries (env_at ctx w) ls (walked.case_entry at (constant_of x) found)) (typed_alike ctx.word w.scopes p.scopes s.maps t)
+      ap (λ x. walked.label_entries (env_at ctx w) ls (walked.case_entry at (constant_of x) found)) (typed_alike ctx.word w.scopes p.scopes s t)
       ∙ by (constant_of (typed (env_of ctx.word p) t)) (λ f. labelled w p s ls f)
     where
       by : (o : Option (Expression × ℤ)) → ((f : List Entry) → walked.label_entries (env_at ctx w) ls f ≡ f ++ label_entries typed (env_of ctx.word p) ls)
@@ -53,46 +58,53 @@ module _ (ctx : Context) where
       by None f = f found
 
   mutual
-    item : (x : Item) (w : Walk) (p : Place) → Stands w p → (found : List Entry) → walked.item_entries ctx x w found ≡ found ++ item_entries typed ctx.word p x
-    item (Declares first after d) w p s found = append_none found
-    item (States ls x) w p s found =
-        plain x w p s (walked.label_entries (env_at ctx w) ls found)
-        ∙ ap (λ f. f ++ plain_entries typed ctx.word p x) (labelled w p s ls found)
-        ∙ append_assoc found (label_entries typed (env_of ctx.word p) ls) (plain_entries typed ctx.word p x)
+    item : (x : Item) (w : Walk) (p : Place) (rest : List ℕ) → Stands vs w p (item_variables x ++ rest) → (found : List Entry) → walked.item_entries ctx x w found ≡ found ++ item_entries typed f p x
+    item (Declares first after d) w p rest s found = append_none found
+    item (States ls x) w p rest s found =
+        plain x w p rest s (walked.label_entries (env_at ctx w) ls found)
+        ∙ ap (λ l. l ++ plain_entries typed f p x) (labelled w p s.maps ls found)
+        ∙ append_assoc found (label_entries typed (env_of ctx.word p) ls) (plain_entries typed f p x)
 
-    plain : (x : Plain) (w : Walk) (p : Place) → Stands w p → (found : List Entry) → walked.plain_entries ctx x w found ≡ found ++ plain_entries typed ctx.word p x
-    plain (From first after x) w p s found = statement x w p s found
+    plain : (x : Plain) (w : Walk) (p : Place) (rest : List ℕ) → Stands vs w p (plain_variables x ++ rest) → (found : List Entry) → walked.plain_entries ctx x w found ≡ found ++ plain_entries typed f p x
+    plain (From first after x) w p rest s found = statement x w p rest s found
 
-    statement : (x : Statement) (w : Walk) (p : Place) → Stands w p → (found : List Entry) → walked.statement_entries ctx x w found ≡ found ++ statement_entries typed ctx.word p x
-    statement (If t b) w p s found = body b w p s found
-    statement (IfElse t b c) w p s found =
-        body c (behind_body ctx b w) (past_body typed ctx.word b p) (stands_body ctx b w p s) (walked.body_entries ctx b w found)
-        ∙ ap (λ f. f ++ body_entries typed ctx.word (past_body typed ctx.word b p) c) (body b w p s found)
-        ∙ append_assoc found (body_entries typed ctx.word p b) (body_entries typed ctx.word (past_body typed ctx.word b p) c)
-    statement (While t b) w p s found = body b w p s found
-    statement (DoWhile b t) w p s found = body b w p s found
-    statement (For start t u b) w p s found =
-        body b (behind_start ctx start (enter w)) (places.behind_start ctx.word start (within p)) (stands_start ctx start (enter w) (within p) (stands_within w p s)) found
-    statement (Block b) w p s found = body b w p s found
-    statement Null w p s found = append_none found
-    statement (Evaluate t) w p s found = append_none found
-    statement (Switch t b) w p s found = append_none found
-    statement (Goto at) w p s found = append_none found
-    statement Break w p s found = append_none found
-    statement Continue w p s found = append_none found
-    statement (Return t) w p s found = append_none found
-    statement Unread w p s found = append_none found
+    statement : (x : Statement) (w : Walk) (p : Place) (rest : List ℕ) → Stands vs w p (statement_variables x ++ rest) → (found : List Entry) → walked.statement_entries ctx x w found ≡ found ++ statement_entries typed f p x
+    statement (If t b) w p rest s found = body b w p rest s found
+    statement (IfElse t b c) w p rest s found =
+        let more = body_variables c ++ rest in
+        let g = stands_grouped vs w p (body_variables b) (body_variables c) rest s in
+        body c (behind_body ctx b w) p rest (stands_body ctx names vs apart b w p more g) (walked.body_entries ctx b w found)
+        ∙ ap (λ l. l ++ body_entries typed f p c) (body b w p more g found)
+        ∙ append_assoc found (body_entries typed f p b) (body_entries typed f p c)
+    statement (While t b) w p rest s found = body b w p rest s found
+    statement (DoWhile b t) w p rest s found = body b w p rest s found
+    statement (For start t u b) w p rest s found =
+        let more = body_variables b ++ rest in
+        let g = stands_within vs w p (start_variables start ++ more) (stands_grouped vs w p (start_variables start) (body_variables b) rest s) in
+        body b (behind_start ctx start (enter w)) (places.behind_start f start (within p)) rest (stands_start ctx names vs apart start (enter w) (within p) more g) found
+    statement (Block b) w p rest s found = body b w p rest s found
+    statement Null w p rest s found = append_none found
+    statement (Evaluate t) w p rest s found = append_none found
+    statement (Switch t b) w p rest s found = append_none found
+    statement (Goto at) w p rest s found = append_none found
+    statement Break w p rest s found = append_none found
+    statement Continue w p rest s found = append_none found
+    statement (Return t) w p rest s found = append_none found
+    statement Unread w p rest s found = append_none found
 
-    pub body : (b : Body) (w : Walk) (p : Place) → Stands w p → (found : List Entry) → walked.body_entries ctx b w found ≡ found ++ body_entries typed ctx.word p b
-    body (Braces first after xs) w p s found = list xs (enter w) (within p) (stands_within w p s) found
-    body (Lone first after x) w p s found = item x (enter w) (within p) (stands_within w p s) found
+    pub body : (b : Body) (w : Walk) (p : Place) (rest : List ℕ) → Stands vs w p (body_variables b ++ rest) → (found : List Entry) → walked.body_entries ctx b w found ≡ found ++ body_entries typed f p b
+    body (Braces first after xs) w p rest s found = list xs (enter w) (within p) rest (stands_within vs w p (list_variables xs ++ rest) s) found
+    body (Lone first after x) w p rest s found = item x (enter w) (within p) rest (stands_within vs w p (item_variables x ++ rest) s) found
 
-    list : (xs : Items) (w : Walk) (p : Place) → Stands w p → (found : List Entry) → walked.list_entries ctx xs w found ≡ found ++ list_entries typed ctx.word p xs
-    list NoItem w p s found = append_none found
-    list (Then x xs) w p s found =
-        list xs (behind_item ctx x w) (behind typed ctx.word x p) (stands_item ctx x w p s) (walked.item_entries ctx x w found)
-        ∙ ap (λ f. f ++ list_entries typed ctx.word (behind typed ctx.word x p) xs) (item x w p s found)
-        ∙ append_assoc found (item_entries typed ctx.word p x) (list_entries typed ctx.word (behind typed ctx.word x p) xs)
+    list : (xs : Items) (w : Walk) (p : Place) (rest : List ℕ) → Stands vs w p (list_variables xs ++ rest) → (found : List Entry) → walked.list_entries ctx xs w found ≡ found ++ list_entries typed f p xs
+    list NoItem w p rest s found = append_none found
+    list (Then x xs) w p rest s found =
+        let more = list_variables xs ++ rest in
+        let g = stands_grouped vs w p (item_variables x) (list_variables xs) rest s in
+        let q = behind f x p in
+        list xs (behind_item ctx x w) q rest (stands_item ctx names vs apart x w p more g) (walked.item_entries ctx x w found)
+        ∙ ap (λ l. l ++ list_entries typed f q xs) (item x w p more g found)
+        ∙ append_assoc found (item_entries typed f p x) (list_entries typed f q xs)
 
 -- ---- numbers that were seen
 

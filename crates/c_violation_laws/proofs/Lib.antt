@@ -7,6 +7,10 @@ pub mod Typings
 pub mod TheMeaningLaws
 pub mod Scopes
 pub mod AlikeTerms
+pub mod Rising
+pub mod Marks
+pub mod Ordered
+pub mod Numbered
 pub mod Standing
 pub mod FileStanding
 pub mod Sections

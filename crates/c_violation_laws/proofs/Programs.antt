@@ -31,7 +31,10 @@ use Rattle.c_reading_defs.specs.FilePlaces.{names_at, file_start, InEnum, enum_s
 use Rattle.c_lexer.specs.Behind.{each_behind}
 use Rattle.c_reading_defs.specs.Programs.{enum_items, globals, form_tops, top_tops, program, defined}
 use Rattle.c_violation_laws.proofs.FileStanding.{start_maps, value_alike, enum_maps, global_maps, function_maps, form_maps}
-use Rattle.c_violation_laws.proofs.Standing.{AreMaps, Stands}
+use Rattle.c_reading_defs.specs.Entries.{Entry}
+use Rattle.c_reading_defs.specs.DerivedTops.{IsFile}
+use Rattle.c_violation_laws.proofs.Numbered.{IsApart, AreApart, file_apart}
+use Rattle.c_violation_laws.proofs.Standing.{AreMaps}
 use Rattle.c_violation_laws.proofs.Items.{constant_same, slot_same}
 use Rattle.c_violation_laws.proofs.WrittenFunctions.{function_same}
 
@@ -79,10 +82,7 @@ abbrev file_walk : List Scope → Walk
 file_walk ms = record { scopes = ms; slots = [] }
 
 abbrev file_place : List Scope → Place
-file_place ss = record { scopes = ss; variables = 0; around = no_construct }
-
-stands_file : (ms ss : List Scope) → AreMaps ms ss → Stands (file_walk ms) (file_place ss)
-stands_file ms ss h = record { maps = h; count = refl }
+file_place ss = record { scopes = ss; around = no_construct }
 
 module _ (word : ℕ → List ℕ) where
   enums_same : (es : List Enumerator) (p : InEnum) (ms : List Scope) → AreMaps ms p.scopes → enums.enum_items es p.value (names_at word ms) ≡ enum_items typed word es p
@@ -92,7 +92,7 @@ module _ (word : ℕ → List ℕ) where
       let same = value_alike word ms p.scopes h e.value p.value in
       let ns = bind (word e.name) (Constant (or_zero v)) ms in
       let rest = ap (λ z. enums.enum_items es z (names_at word ns)) same ∙ enums_same es (behind_enumerator typed word e p) ns (enum_maps word e p ms h) in
-      λ i. record { name = word e.name; given = option_map (λ t. constant_same word (file_walk ms) (file_place p.scopes) (stands_file ms p.scopes h) t i) e.value; value = or_zero (same i) } ∷ rest i
+      λ i. record { name = word e.name; given = option_map (λ t. constant_same word (file_walk ms) (file_place p.scopes) h t i) e.value; value = or_zero (same i) } ∷ rest i
 
   globals_same : (static : Bool) (k : Kinded) (ds : List Declarator) (ms ss : List Scope) → AreMaps ms ss → walked_globals.globals static k ds (names_at word ms) ≡ globals typed word static k ds ss
   globals_same static k [] ms ss h = refl
@@ -102,31 +102,31 @@ module _ (word : ℕ → List ℕ) where
       let g = global_maps word k d ms ss h in
       let rest = globals_same static k ds ns ts g in
       λ i. top.Global (record {
-        slot = slot_same word (file_walk ms) (file_place ss) (stands_file ms ss h) k d i;
-        init = initial (λ t. constant_same word (file_walk ns) (file_place ts) (stands_file ns ts g) t i) d.value;
+        slot = slot_same word (file_walk ms) (file_place ss) h k d i;
+        init = initial (λ t. constant_same word (file_walk ns) (file_place ts) g t i) d.value;
         file_only = static;
       }) ∷ rest i
 
 -- ---- the whole
 
 module _ (file : File) where
-  form_same : (first : ℕ) (form : Form) (s : State) (ss : List Scope) → AreMaps s.scopes ss → walked.form_tops file first form s ≡ form_tops typed file first form ss
-  form_same first Line s ss h = refl
-  form_same first (Enum es) s ss h = λ i. top.Enum (enums_same file.word es (enum_start ss) s.scopes h i) ∷ []
-  form_same first (Globals static d) s ss h = globals_same file.word static (kinded file.word d) d.names s.scopes ss h
-  form_same first (Defines f) s ss h = λ i. top.Function (function_same file.word file.notes f (walked.function_declared file f s).scopes (function_named file f ss) (function_maps file f s ss h) i) ∷ []
-  form_same first Unread s ss h = refl
+  form_same : (first : ℕ) (form : Form) (s : State) (ss : List Scope) → IsApart form → AreMaps s.scopes ss → walked.form_tops file first form s ≡ form_tops typed file first form ss
+  form_same first Line s ss a h = refl
+  form_same first (Enum es) s ss a h = λ i. top.Enum (enums_same file.word es (enum_start ss) s.scopes h i) ∷ []
+  form_same first (Globals static d) s ss a h = globals_same file.word static (kinded file.word d) d.names s.scopes ss h
+  form_same first (Defines f) s ss a h = λ i. top.Function (function_same file.word file.notes f a (walked.function_declared file f s).scopes (function_named file f ss) (function_maps file f s ss h) i) ∷ []
+  form_same first Unread s ss a h = refl
 
   -- those of these, behind what is in the scopes, without the Notes at the end
   abbrev tops_of : List Top → List Scope → List tree_top.Top
   tops_of xs ss = flat_map (λ ts. ts) (each_behind (λ before x. top_tops typed file x (behind_tops typed file before ss)) xs)
 
-  tops_same : (xs : List Top) (s : State) (ss : List Scope) → AreMaps s.scopes ss → walked.tops_of file xs s ≡ tops_of xs ss ++ walked.notes_tops file Last
-  tops_same [] s ss h = refl
-  tops_same (From first after form ∷ xs) s ss h =
+  tops_same : (xs : List Top) (s : State) (ss : List Scope) → AreApart xs → AreMaps s.scopes ss → walked.tops_of file xs s ≡ tops_of xs ss ++ walked.notes_tops file Last
+  tops_same [] s ss a h = refl
+  tops_same (From first after form ∷ xs) s ss a h =
       let rest = behind_form typed file form ss in
-      (λ i. (walked.notes_tops file (Before first) ++ form_same first form s ss h i) ++ tops_same xs (walked.behind_form file form s) rest (form_maps file form s ss h) i)
+      (λ i. (walked.notes_tops file (Before first) ++ form_same first form s ss a.0 h i) ++ tops_same xs (walked.behind_form file form s) rest a.1 (form_maps file form s ss h) i)
       ∙ sym (append_assoc (top_tops typed file (From first after form) ss) (tops_of xs rest) (walked.notes_tops file Last))
 
-  pub program_same : (xs : List Top) → program_of file xs ≡ program typed file xs
-  program_same xs = λ i. record { tops = tops_same xs start file_start start_maps i }
+  pub program_same : (entries : List Entry) (xs : List Top) → IsFile 0 entries xs → program_of file xs ≡ program typed file xs
+  program_same entries xs derives = λ i. record { tops = tops_same xs start file_start (file_apart 0 entries xs derives) start_maps i }

@@ -14,6 +14,9 @@ use Rattle.c_violation_laws.specs.Finds.{Finds}
 use Rattle.c_violation_laws.proofs.Finding.{finds_none, finds_both}
 use Rattle.c_violation_laws.proofs.Behind.{Behind, finds_behind}
 use Rattle.c_violation_laws.proofs.Least.{the_least, least_back, the_faultless, faultless_back}
+use Rattle.c_reading_defs.specs.Entries.{Entry}
+use Rattle.c_reading_defs.specs.DerivedTops.{IsFile}
+use Rattle.c_violation_laws.proofs.Numbered.{IsApart, AreApart, file_apart}
 use Rattle.c_violation_laws.proofs.Standing.{AreMaps}
 use Rattle.c_violation_laws.proofs.FileStanding.{function_maps, top_maps, tops_more}
 use Rattle.c_violation_laws.proofs.FunctionFaults.{function}
@@ -22,15 +25,15 @@ use Rattle.c_violation_laws.proofs.FunctionNames.{AreBodies, bodies_same, bodies
 use Rattle.c_violation_laws.specs.FileLaws.{FileLaws}
 
 module _ (file : File) where
-  form : (x : Form) (before : List Top) (s : State) (ss : List Scope) → AreMaps s.scopes ss → AreBodies file.word before s.bodies → Finds (form_faults file x s) (λ v. FormBreaks typed file before ss x v)
-  form Line before s ss m b = finds_none
-  form (Enum es) before s ss m b = enumerators file.word es (enum_start ss) s.scopes m
-  form (Globals static d) before s ss m b = variables file.word (kinded file.word d) d.names s.scopes ss m
-  form (Defines f) before s ss m b =
+  form : (x : Form) → IsApart x → (before : List Top) (s : State) (ss : List Scope) → AreMaps s.scopes ss → AreBodies file.word before s.bodies → Finds (form_faults file x s) (λ v. FormBreaks typed file before ss x v)
+  form Line a before s ss m b = finds_none
+  form (Enum es) a before s ss m b = enumerators file.word es (enum_start ss) s.scopes m
+  form (Globals static d) a before s ss m b = variables file.word (kinded file.word d) d.names s.scopes ss m
+  form (Defines f) a before s ss m b =
       finds_both (function_name_faults file.bodies s.bodies f (env_of file s)) (function_faults file.flat file.word file.notes f (function_declared file f s).scopes) _ _
       (function_name file before s.bodies b s.scopes ss m f)
-      (function file.word file.flat file.notes f (function_declared file f s).scopes (function_named file f ss) (function_maps file f s ss m))
-  form Unread before s ss m b = finds_none
+      (function file.word file.flat file.notes f a (function_declared file f s).scopes (function_named file f ss) (function_maps file f s ss m))
+  form Unread a before s ss m b = finds_none
 
   bodies : (x : Top) (before : List Top) (s : State) → AreBodies file.word before s.bodies → AreBodies file.word (before ++ x ∷ []) (walked.behind_top file x s).bodies
   bodies (From first after Line) before s b = bodies_same file.word before (From first after Line) s.bodies (λ q h. h) b
@@ -39,21 +42,26 @@ module _ (file : File) where
   bodies (From first after (Defines f)) before s b = bodies_more file.word before first after f s.bodies b
   bodies (From first after Unread) before s b = bodies_same file.word before (From first after Unread) s.bodies (λ q h. h) b
 
-  top : (x : Top) (before : List Top) (s : State) → AreMaps s.scopes (scopes_behind typed file before) → AreBodies file.word before s.bodies → Finds (top_faults file x s) (λ v. TopBreaks typed file before x v)
-  top (From first after x) before s m b = form x before s (scopes_behind typed file before) m b
+  tops : (xs : List Top) → AreApart xs → (before : List Top) (s : State) → AreMaps s.scopes (scopes_behind typed file before) → AreBodies file.word before s.bodies
+      → Finds (file_faults file xs s) (λ v. Behind (λ b x. TopBreaks typed file b x v) before xs)
+  tops [] a before s m b = finds_none
+  tops (From first after x ∷ xs) a before s m b =
+      let t = From first after x in
+      finds_both (top_faults file t s) (file_faults file xs (walked.behind_top file t s)) _ _ (form x a.0 before s (scopes_behind typed file before) m b)
+      (tops xs a.1 (before ++ t ∷ []) (walked.behind_top file t s)
+      (subst (AreMaps (walked.behind_top file t s).scopes) (sym (tops_more file before t file_start)) (top_maps file t s (scopes_behind typed file before) m)) (bodies t before s b))
 
-  tops : (xs before : List Top) (s : State) → AreMaps s.scopes (scopes_behind typed file before) → AreBodies file.word before s.bodies → Finds (file_faults file xs s) (λ v. Behind (λ b x. TopBreaks typed file b x v) before xs)
-  tops [] before s m b = finds_none
-  tops (x ∷ xs) before s m b =
-      finds_both (top_faults file x s) (file_faults file xs (walked.behind_top file x s)) _ _ (top x before s m b)
-      (tops xs (before ++ x ∷ []) (walked.behind_top file x s)
-      (subst (AreMaps (walked.behind_top file x s).scopes) (sym (tops_more file before x file_start)) (top_maps file x s (scopes_behind typed file before) m)) (bodies x before s b))
-
-  violations : (xs : List Top) → Finds (file_faults file xs start) (IsViolation typed file xs)
-  violations xs = finds_behind (file_faults file xs start) (λ v b x. TopBreaks typed file b x v) xs (tops xs [] start (λ q. refl, (λ q. refl, tt)) (λ q. (λ e. absurd (true≢false (sym e)), λ h. absurd h)))
+  violations : (entries : List Entry) (xs : List Top) → IsFile 0 entries xs → Finds (file_faults file xs start) (IsViolation typed file xs)
+  violations entries xs derives =
+      finds_behind (file_faults file xs start) (λ v b x. TopBreaks typed file b x v) xs
+      (tops xs (file_apart 0 entries xs derives) [] start (λ q. refl, (λ q. refl, tt)) (λ q. (λ e. absurd (true≢false (sym e)), λ h. absurd h)))
 
 pub file_laws : FileLaws
 file_laws = record {
-  least = λ file xs v. (the_least (file_faults file xs start) (IsViolation typed file xs) (violations file xs) v, least_back (file_faults file xs start) (IsViolation typed file xs) (violations file xs) v);
-  faultless = λ file xs. (the_faultless (file_faults file xs start) (IsViolation typed file xs) (violations file xs), faultless_back (file_faults file xs start) (IsViolation typed file xs) (violations file xs));
+  least = λ file entries xs derives v.
+      let found = violations file entries xs derives in
+      (the_least (file_faults file xs start) (IsViolation typed file xs) found v, least_back (file_faults file xs start) (IsViolation typed file xs) found v);
+  faultless = λ file entries xs derives.
+      let found = violations file entries xs derives in
+      (the_faultless (file_faults file xs start) (IsViolation typed file xs) found, faultless_back (file_faults file xs start) (IsViolation typed file xs) found);
 }

@@ -5,8 +5,11 @@ use Rattle.c_kinds.specs.Scopes.{Scope}
 use Rattle.c_statements.specs.declared.anchors.Anchor.{Anchor}
 use Rattle.c_statements.specs.Functions.{FlatCounts, function_faults}
 use Rattle.c_kinds.specs.Typing.{typed}
+use Rattle.c_reading_defs.specs.Entries.{Entry}
+use Rattle.c_reading_defs.specs.DerivedTops.{IsFunction}
 use Rattle.c_reading_defs.specs.Functions.{FunctionBreaks}
 use Rattle.c_violation_laws.specs.Finds.{Finds}
 
 abbrev pub FunctionLaws : Type 0
-FunctionLaws = (flat : FlatCounts) (word : ℕ → List ℕ) (notes : Anchor → List (List ℕ)) (f : Function) (ss : List Scope) → Finds (function_faults flat word notes f ss) (λ v. FunctionBreaks typed flat word notes f ss v)
+FunctionLaws = (flat : FlatCounts) (word : ℕ → List ℕ) (notes : Anchor → List (List ℕ)) (at : ℕ) (entries : List Entry) (f : Function) → IsFunction at entries f
+    → (ss : List Scope) → Finds (function_faults flat word notes f ss) (λ v. FunctionBreaks typed flat word notes f ss v)
