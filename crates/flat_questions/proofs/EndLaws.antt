@@ -57,24 +57,6 @@ ends_from live (x ∷ xs) (suc i) h =
     let rest = ends_from live xs i h in
     ap (ending live) (trees-first x xs) ∙ later_kept (ending live (trees_of xs)) (ending_of live (tree_at x)) (ap is_gone rest ∙ h) ∙ rest
 
-pub goes_later : (live : ℕ → Bool) (xs : List Item) (i j : ℕ) → i ≤ j → goes live xs i ≡ true → goes live xs j ≡ true
-goes_later live xs zero zero h r = r
-goes_later live [] i j h r = goes_end live [] j (omega arith)
-goes_later live (x ∷ xs) zero (suc j) h r =
-    goes_later live xs zero j (omega arith) (elim (is_gone (ending live (trees_of xs))) as (λ y. is_gone (ending live (trees_of xs)) ≡ y → y ≡ true) [
-      | true ↦ λ e. refl
-      | false ↦ λ e. let k = ap is_gone (ap (ending live) (trees-first x xs) ∙ later_kept (ending live (trees_of xs)) (ending_of live (tree_at x)) e) in absurd (false≢true (sym e ∙ sym k ∙ r))
-    ] refl)
-goes_later live (x ∷ xs) (suc i) (suc j) h r = goes_later live xs i j (omega arith) r
-goes_later live (x ∷ xs) (suc i) zero h r = absurd (omega arith)
-
--- where the last item that stays is at i, something stays from each earlier place on
-pub stays_before : (live : ℕ → Bool) (xs : List Item) (i j : ℕ) → j ≤ i → goes live xs i ≡ false → goes live xs j ≡ false
-stays_before live xs i j h r = elim (goes live xs j) as (λ y. goes live xs j ≡ y → y ≡ false) [
-  | true ↦ λ e. absurd (false≢true (sym r ∙ goes_later live xs j i h e))
-  | false ↦ λ e. refl
-] refl
-
 -- ---- sections
 
 pub last_at : (live : ℕ → Bool) (cs : List Real.Section) (i : ℕ) (c : Real.Section) → i + 1 ≡ length cs → c ≡ get_or cs i c → last_ending live (sections_of cs) ≡ ending live (trees_of (list_of c))
@@ -90,22 +72,3 @@ last_at live (d ∷ f ∷ cs) (suc i) c h e =
 pub last_none : (live : ℕ → Bool) (cs : List Real.Section) → length cs ≡ 0 → last_ending live (sections_of cs) ≡ Gone
 last_none live [] h = ap (last_ending live) sections-none
 last_none live (c ∷ cs) h = absurd (omega arith)
-
--- ---- a list without the `break` by which it ends
-
-abbrev pub trims : (ℕ → Bool) → List Item → ℕ → Bool
-trims live xs i = is_some_number (breaks (trimmed live (trees_of (drop i xs))))
-
-trimmed_at : (live : ℕ → Bool) (xs : List Item) (i : ℕ) (x : Item) → i < length xs → x ≡ get_or xs i x → trimmed live (trees_of (drop i xs)) ≡ cond (goes live xs (i + 1)) (trimmed_item live (tree_at x)) (Then (tree_at x) (trimmed live (trees_of (drop (i + 1) xs))))
-trimmed_at live xs i x h e = ap (trimmed live) (trees-at xs i x h e)
-
-pub trims_last : (live : ℕ → Bool) (xs : List Item) (i : ℕ) (x : Item) → i < length xs → x ≡ get_or xs i x → goes live xs (i + 1) ≡ true → trims live xs i ≡ is_some_number (breaks (trimmed_item live (tree_at x)))
-trims_last live xs i x h e r = ap (λ t. is_some_number (breaks t)) (trimmed_at live xs i x h e ∙ ap (λ y. cond y (trimmed_item live (tree_at x)) (Then (tree_at x) (trimmed live (trees_of (drop (i + 1) xs))))) r)
-
-pub trims_more : (live : ℕ → Bool) (xs : List Item) (i : ℕ) (x : Item) → i < length xs → x ≡ get_or xs i x → goes live xs (i + 1) ≡ false → trims live xs i ≡ (is_some_number (breaks_of (tree_at x)) || trims live xs (i + 1))
-trims_more live xs i x h e r =
-    ap (λ t. is_some_number (breaks t)) (trimmed_at live xs i x h e ∙ ap (λ y. cond y (trimmed_item live (tree_at x)) (Then (tree_at x) (trimmed live (trees_of (drop (i + 1) xs))))) r)
-    ∙ some_sum (breaks_of (tree_at x)) (breaks (trimmed live (trees_of (drop (i + 1) xs))))
-
-pub trims_end : (live : ℕ → Bool) (xs : List Item) (i : ℕ) → length xs ≤ i → trims live xs i ≡ false
-trims_end live xs i h = ap (λ t. is_some_number (breaks (trimmed live t))) (trees-end xs i h)

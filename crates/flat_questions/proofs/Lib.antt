@@ -1,3 +1,4 @@
 pub mod Steps
 pub mod EndLaws
 pub mod Flags
+pub mod LastBreaks

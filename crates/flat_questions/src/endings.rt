@@ -1,12 +1,12 @@
-ghost use Rattle.std.specs.Prelude.{◌≡◌, ◌≤◌, ◌<◌, ℕ, true, false, drop, length, option_map};
+ghost use Rattle.std.specs.Prelude.{◌≡◌, false, option_map};
 ghost use Rattle.c_tree.specs.Exits.{breaks};
 ghost use Rattle.c_tree.specs.Trees.{Local, expression_trees, trees_of, sections_of};
-ghost use Rattle.flat_laws.specs.Parts.{is_some_number, gone_or, ends_some as the_ends_some, leaves as the_leaves, ending as the_ending, ending_of as the_ending_of, last_ending as the_last_ending, if_jumps as the_if_jumps, is_gone as the_is_gone, trimmed, trimmed_item, kept_breaks, section_list};
+ghost use Rattle.flat_laws.specs.Parts.{is_some_number, gone_or, ends_some as the_ends_some, leaves as the_leaves, ending as the_ending, ending_of as the_ending_of, last_ending as the_last_ending, if_jumps as the_if_jumps, is_gone as the_is_gone, kept_breaks, section_list};
 ghost use Rattle.flat_questions.specs.Reading.{ends_in, is_flagged as the_is_flagged, ending_as};
 ghost use Rattle.c_tree.specs.Views.{tree_at};
 
 use crate::arrivals::{is_scattered, switch_has_default};
-use crate::exits::{has_break, is_break_in, sections_have_break};
+use crate::exits::{count_breaks, has_break, sections_have_break};
 use crate::jumps::is_flagged;
 use c_tree::{Expression, Item, Section};
 use c_types::List;
@@ -146,63 +146,12 @@ fn last_ends_by(named: &[bool], sections: &[Section]) -> Ending
     }
 }
 
-/// How many items of a list stand before those at its end of which nothing stays.
-pub fn kept_length(named: &[bool], items: &[Item]) -> usize
-    ensures within { result ≤ length items.now }
-    ensures gone { (i : ℕ) → result ≤ i → the_is_gone (the_ending (the_is_flagged named.now) (trees_of (drop i items.now))) ≡ true }
-    ensures kept { (i : ℕ) → i < result → the_is_gone (the_ending (the_is_flagged named.now) (trees_of (drop i items.now))) ≡ false }
-{
-    let count = items.len();
-    for k in 0..count {
-        let at = count - 1 - k;
-        let ending = item_ends_by(named, &items[at]);
-        if !is_gone(ending) {
-            return count - k;
-        }
-    }
-    0
-}
-
-/// Whether a `break` stays in a list that ends by one, without that one.
-#[cycle(trim)]
-fn trimmed_has_break(named: &[bool], list: &List<Item>) -> bool
-    ensures { result ≡ is_some_number (breaks (trimmed (the_is_flagged named.now) (trees_of list.now))) }
-{
-    trimmed_items_have_break(named, list.as_slice())
-}
-
-#[cycle(trim)]
-fn trimmed_items_have_break(named: &[bool], items: &[Item]) -> bool
-    ensures { result ≡ is_some_number (breaks (trimmed (the_is_flagged named.now) (trees_of items.now))) }
-{
-    let kept = kept_length(named, items);
-    for i in 0..items.len() {
-        if kept <= i + 1 {
-            return trimmed_item_has_break(named, &items[i]);
-        }
-        if is_break_in(&items[i]) {
-            return true;
-        }
-    }
-    false
-}
-
-#[cycle(trim)]
-fn trimmed_item_has_break(named: &[bool], item: &Item) -> bool
-    ensures { result ≡ is_some_number (breaks (trimmed_item (the_is_flagged named.now) (tree_at item.now))) }
-{
-    match item {
-        Item::Break => false,
-        Item::Block(a) => trimmed_has_break(named, a),
-        _ => is_break_in(item),
-    }
-}
-
+/// Whether a `break` stays in the list of a section. One by which it ends is not counted.
 fn section_keeps_break(named: &[bool], list: &List<Item>) -> bool
     ensures { result ≡ is_some_number (breaks (section_list (the_is_flagged named.now) (trees_of list.now) (the_ending (the_is_flagged named.now) (trees_of list.now)))) }
 {
     match ends_by(named, list) {
-        Ending::Breaks => trimmed_has_break(named, list),
+        Ending::Breaks => count_breaks(list, 0) == 2,
         _ => has_break(list),
     }
 }

@@ -1,4 +1,4 @@
-ghost use Rattle.std.specs.Prelude.{◌≡◌};
+ghost use Rattle.std.specs.Prelude.{◌≡◌, ◌≤◌, ◌+◌, min};
 ghost use Rattle.c_tree.specs.Exits.{breaks, breaks_of, breaks_in, continues, continues_of, continues_in};
 ghost use Rattle.c_tree.specs.Trees.{trees_of, sections_of};
 ghost use Rattle.flat_laws.specs.Parts.{is_some_number};
@@ -29,7 +29,7 @@ fn items_have_break(items: &[Item]) -> bool
 
 /// Whether an item is or holds a `break` that is bound to a loop or switch around it.
 #[cycle(breaking)]
-pub fn is_break_in(item: &Item) -> bool
+fn is_break_in(item: &Item) -> bool
     ensures { result ≡ is_some_number (breaks_of (tree_at item.now)) }
 {
     match item {
@@ -39,6 +39,51 @@ pub fn is_break_in(item: &Item) -> bool
         Item::Break => true,
         _ => false,
     }
+}
+
+/// How many breaks of a list are bound to a loop or switch around it, added to a count that stops at two.
+#[cycle(counting)]
+pub fn count_breaks(list: &List<Item>, count: u32) -> u32
+    requires { count ≤ 2 }
+    ensures { result ≡ min (count + breaks (trees_of list.now)) 2 }
+{
+    count_among(list.as_slice(), count)
+}
+
+#[cycle(counting)]
+fn count_among(items: &[Item], count: u32) -> u32
+    requires { count ≤ 2 }
+    ensures { result ≡ min (count + breaks (trees_of items.now)) 2 }
+{
+    let mut sum = count;
+    for i in 0..items.len() {
+        if sum == 2 {
+            return 2;
+        }
+        sum = count_in(&items[i], sum);
+    }
+    sum
+}
+
+#[cycle(counting)]
+fn count_in(item: &Item, count: u32) -> u32
+    requires { count ≤ 2 }
+    ensures { result ≡ min (count + breaks_of (tree_at item.now)) 2 }
+{
+    match item {
+        Item::If(_, a, b) => count_breaks(b, count_breaks(a, count)),
+        Item::For(first, _, _, _) => count_breaks(first, count),
+        Item::Block(a) => count_breaks(a, count),
+        Item::Break => one_more(count),
+        _ => count,
+    }
+}
+
+fn one_more(count: u32) -> u32
+    requires { count ≤ 2 }
+    ensures { result ≡ min (count + 1) 2 }
+{
+    if count == 0 { 1 } else { 2 }
 }
 
 /// Whether a `break` is bound to the switch of these sections.
