@@ -1,6 +1,6 @@
--- What a name is bound to (ISO/IEC 9899:2011, 6.2.1). A scope is the list of its declarations before a place, in text order;
--- a name may stand in it twice.
-use Rattle.std.specs.Prelude.{◌≡◌, ◌≢◌, ◌⊎◌, ℕ, List, [], ◌∷◌, ◌++◌}
+-- What a name is bound to (ISO/IEC 9899:2011, 6.2.1). A scope is the list of its declarations in front of a token, in text
+-- order; a name may stand in it twice.
+use Rattle.std.specs.Prelude.{◌≡◌, ◌≢◌, ◌⊎◌, ℕ, List, [], ◌∷◌}
 use Rattle.c_kinds.specs.declared.binding.Binding.{Binding}
 use Rattle.c_kinds.specs.Scopes.{Scope}
 
@@ -23,11 +23,6 @@ IsBoundTo name b (s ∷ ss) = DeclaresAs name b s ⊎ (DeclaresNot name s × IsB
 abbrev pub IsUnbound : List ℕ → List Scope → Type 0
 IsUnbound name [] = Unit {0}
 IsUnbound name (s ∷ ss) = DeclaresNot name s × IsUnbound name ss
-
--- behind a declaration, which stands last in the nearest scope
-abbrev pub with_declaration : List ℕ → Binding → List Scope → List Scope
-with_declaration name b [] = []
-with_declaration name b (s ∷ ss) = (s ++ (name, b) ∷ []) ∷ ss
 
 -- the first declaration of the name in the nearest scope binds it to b
 abbrev pub IsDeclaredAs : List ℕ → Binding → List Scope → Type 0

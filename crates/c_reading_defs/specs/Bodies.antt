@@ -5,12 +5,12 @@ use Rattle.c_tree.specs.declared.tree.Item as item
 use Rattle.c_tree.specs.declared.tree.Function as tree
 use Rattle.c_layers.specs.Items.{Body, Braces, Lone}
 use Rattle.c_layers.specs.Tops.{Function}
-use Rattle.c_kinds.specs.Scopes.{Scope}
 use Rattle.c_statements.specs.declared.anchors.Anchor.{Anchor}
 use Rattle.c_statements.specs.declared.anchors.Anchor.TheVariants.{AtEnd}
 use Rattle.c_statements.specs.Functions.{result_kind, parameter_slot, function}
 use Rattle.c_reading_defs.specs.Typings.{Typing}
-use Rattle.c_reading_defs.specs.Places.{Place, entered, behind_parameters}
+use Rattle.c_reading_defs.specs.Scopes.{Identifier}
+use Rattle.c_reading_defs.specs.Places.{Place, within_function}
 use Rattle.c_reading_defs.specs.Labels.{InFunction, notes_at, labels_of}
 use Rattle.c_reading_defs.specs.Variables.{variables_of}
 use Rattle.c_reading_defs.specs.Slots.{slots_in, slots_of_list}
@@ -24,11 +24,11 @@ labels_within word (Some b) = labels_of word b
 abbrev pub known : (ℕ → List ℕ) → (Anchor → List (List ℕ)) → Function → InFunction
 known word notes f = record { word = word; notes = notes; labels = labels_within word f.body; variables = variables_of f; result = result_kind word f }
 
--- behind the parameters of a function, where its outermost list begins
-abbrev pub inside : (ℕ → List ℕ) → (Anchor → List (List ℕ)) → Function → List Scope → Place
-inside word notes f ss = behind_parameters (known word notes f) f.parameters (entered ss)
+-- the place of its parameters and its outermost list
+abbrev pub inside : (ℕ → List ℕ) → (Anchor → List (List ℕ)) → Function → List (List Identifier) → Place
+inside word notes f scopes = within_function (known word notes f) f scopes
 
--- the parameters and the outermost list are one scope
+-- the outermost list has no scope of its own
 abbrev pub body_items : Typing → InFunction → Body → Place → List item.Item
 body_items typing f (Braces first after xs) p = list_items typing f xs p ++ notes_at f (AtEnd first)
 body_items typing f (Lone first after x) p = item_items typing f x p ++ notes_at f (AtEnd first)
@@ -41,8 +41,8 @@ abbrev pub slots_within : Typing → InFunction → Option Body → Place → Li
 slots_within typing f None p = []
 slots_within typing f (Some b) p = body_slots typing f b p
 
-abbrev pub function_of : Typing → (ℕ → List ℕ) → (Anchor → List (List ℕ)) → Function → List Scope → tree.Function
-function_of typing word notes f ss =
-    let p = inside word notes f ss in
+abbrev pub function_of : Typing → (ℕ → List ℕ) → (Anchor → List (List ℕ)) → Function → List (List Identifier) → tree.Function
+function_of typing word notes f scopes =
+    let p = inside word notes f scopes in
     function word f (map (parameter_slot word) f.parameters ++ slots_within typing (known word notes f) f.body p) (labels_within word f.body)
     (option_map (λ b. body_items typing (known word notes f) b p) f.body)

@@ -10,8 +10,6 @@ use Rattle.c_kinds.specs.declared.binding.Signature.{Signature}
 use Rattle.c_kinds.specs.declared.binding.Binding.TheVariants as binding
 use Rattle.c_kinds.specs.declared.typed.Fault.{Fault}
 use Rattle.c_kinds.specs.Scopes.{Env, Scope}
-use Rattle.c_statements.specs.declared.extents.Kinded.{Kinded}
-use Rattle.c_statements.specs.Declarations.{kinded}
 use Rattle.c_scopes.specs.Enums.{number_first}
 use Rattle.c_scopes.specs.Files.{File}
 use Rattle.c_scopes.specs.FunctionNames.{has_body, is_main_form, same_signature, signature_in}
@@ -21,16 +19,17 @@ use Rattle.c_reading_defs.specs.Bindings.{IsDeclared, IsDeclaredAs}
 use Rattle.c_reading_defs.specs.Arrays.{ArrayBreaks}
 use Rattle.c_reading_defs.specs.Declared.{SizeBreaks, InitialiserBreaks}
 use Rattle.c_reading_defs.specs.Expressions.{NeedsConstant, ExpressionBreaks}
-use Rattle.c_reading_defs.specs.FilePlaces.{names_at, InEnum, enum_start, behind_enumerators, global_named, behind_variables, function_named, scopes_behind}
-use Rattle.c_reading_defs.specs.Behind.{SomeBehind}
+use Rattle.c_reading_defs.specs.Scopes.{Identifier, scopes_at, names_at, names_for}
+use Rattle.c_reading_defs.specs.FileScopes.{first_before, value_in}
+use Rattle.c_reading_defs.specs.Behind.{SomeOf, SomeBehind}
 use Rattle.c_reading_defs.specs.Functions.{FunctionBreaks}
 use Rattle.c_reading_defs.specs.Violations.{broken}
 
 -- the name of an enum constant or a variable
-pub data FileNameBreaks (word : ℕ → List ℕ) (ss : List Scope) (at : ℕ) : Fault → Type 0 where
-  declared_twice : IsDeclared (word at) ss → FileNameBreaks word ss at (broken at 21)
-  known_function : is_known (word at) ≡ true → FileNameBreaks word ss at (broken at 21)
-  is_main : word at ≡ codes "main" → FileNameBreaks word ss at (broken at 36)
+pub data FileNameBreaks (word : ℕ → List ℕ) (scopes : List (List Identifier)) (at : ℕ) : Fault → Type 0 where
+  declared_twice : IsDeclared (word at) (scopes_at scopes at) → FileNameBreaks word scopes at (broken at 21)
+  known_function : is_known (word at) ≡ true → FileNameBreaks word scopes at (broken at 21)
+  is_main : word at ≡ codes "main" → FileNameBreaks word scopes at (broken at 36)
 
 -- ---- enums
 
@@ -43,10 +42,16 @@ abbrev pub GivenBreaks : Env → Option Term → Fault → Type 0
 GivenBreaks env (Some t) v = ExpressionBreaks env NeedsConstant t v
 GivenBreaks env None v = ⊥
 
--- at one constant: its value and its name at this place
-abbrev pub ConstantBreaks : Typing → (ℕ → List ℕ) → InEnum → Enumerator → Fault → Type 0
-ConstantBreaks typing word p e v =
-    GivenBreaks (names_at word p.scopes) e.value v ⊎ (EnumeratorBreaks typing (names_at word p.scopes) p.value e v ⊎ FileNameBreaks word p.scopes e.name v)
+-- at one constant: its value and its name
+abbrev pub ConstantBreaks : Typing → (ℕ → List ℕ) → List (List Identifier) → Option ℤ → Enumerator → Fault → Type 0
+ConstantBreaks typing word scopes before e v =
+    let env = names_at word scopes e.name in
+    GivenBreaks env e.value v ⊎ (EnumeratorBreaks typing env before e v ⊎ FileNameBreaks word scopes e.name v)
+
+-- at one of these, of which the first follows one of the value `before`
+abbrev pub ConstantsBreak : Typing → (ℕ → List ℕ) → List (List Identifier) → Option ℤ → List Enumerator → Fault → Type 0
+ConstantsBreak typing word scopes before [] v = ⊥
+ConstantsBreak typing word scopes before (e ∷ es) v = ConstantBreaks typing word scopes before e v ⊎ ConstantsBreak typing word scopes (value_in typing word scopes before e) es v
 
 -- ---- variables
 
@@ -54,13 +59,14 @@ ConstantBreaks typing word p e v =
 pub data GlobalBreaks (typing : Typing) (env : Env) (d : Declarator) : Fault → Type 0 where
   bad_array : ArrayBreaks typing env false d.size d.value → GlobalBreaks typing env d (broken d.name 35)
 
--- at one name: its length and its declarator at this place, its values behind the declarator
-abbrev pub VariableBreaks : Typing → (ℕ → List ℕ) → Kinded → List Scope → Declarator → Fault → Type 0
-VariableBreaks typing word k ss d v =
-    SizeBreaks (names_at word ss) d.size v
-    ⊎ (GlobalBreaks typing (names_at word ss) d v
-    ⊎ (FileNameBreaks word ss d.name v
-    ⊎ InitialiserBreaks (names_at word (global_named word k d ss)) NeedsConstant d.value v))
+-- at one name: its length, its declarator and its values
+abbrev pub VariableBreaks : Typing → (ℕ → List ℕ) → List (List Identifier) → Declarator → Fault → Type 0
+VariableBreaks typing word scopes d v =
+    let env = names_at word scopes d.name in
+    SizeBreaks env d.size v
+    ⊎ (GlobalBreaks typing env d v
+    ⊎ (FileNameBreaks word scopes d.name v
+    ⊎ InitialiserBreaks (names_for word scopes) NeedsConstant d.value v))
 
 -- ---- names of functions
 
@@ -70,7 +76,7 @@ IsDefinedIn word name [] = ⊥
 IsDefinedIn word name (From first after (Defines f) ∷ xs) = ((has_body f ≡ true) × (name ≡ word f.name)) ⊎ IsDefinedIn word name xs
 IsDefinedIn word name (From first after _ ∷ xs) = IsDefinedIn word name xs
 
--- the name of a function, behind these of the file and in these scopes
+-- the name of a function, behind these of the file, where these scopes are round it
 pub data FunctionNameBreaks (file : File) (before : List Top) (ss : List Scope) (f : Function) : Fault → Type 0 where
   known_function : is_known (file.word f.name) ≡ true → FunctionNameBreaks file before ss f (broken f.name 21)
   no_function : IsDeclared (file.word f.name) ss → ((s : Signature) → IsDeclaredAs (file.word f.name) (binding.Function s) ss → ⊥) → FunctionNameBreaks file before ss f (broken f.name 21)
@@ -80,17 +86,17 @@ pub data FunctionNameBreaks (file : File) (before : List Top) (ss : List Scope) 
 
 -- ---- files
 
--- at one of the constants or names of a declaration, behind those in front of it, or at or in a function
-abbrev pub FormBreaks : Typing → File → List Top → List Scope → Form → Fault → Type 0
-FormBreaks typing file before ss (Enum es) v = SomeBehind (λ front e. ConstantBreaks typing file.word (behind_enumerators typing file.word front (enum_start ss)) e v) es
-FormBreaks typing file before ss (Globals static d) v = SomeBehind (λ front x. VariableBreaks typing file.word (kinded file.word d) (behind_variables file.word (kinded file.word d) front ss) x v) d.names
-FormBreaks typing file before ss (Defines f) v = FunctionNameBreaks file before ss f v ⊎ FunctionBreaks typing file.flat file.word file.notes f (function_named file f ss) v
-FormBreaks typing file before ss _ v = ⊥
+-- in a declaration or a function, behind these of the file
+abbrev pub FormBreaks : Typing → File → List (List Identifier) → List Top → Form → Fault → Type 0
+FormBreaks typing file scopes before (Enum es) v = ConstantsBreak typing file.word scopes first_before es v
+FormBreaks typing file scopes before (Globals static d) v = SomeOf (λ x. VariableBreaks typing file.word scopes x v) d.names
+FormBreaks typing file scopes before (Defines f) v = FunctionNameBreaks file before (scopes_at scopes f.name) f v ⊎ FunctionBreaks typing file.flat file.word file.notes f scopes v
+FormBreaks typing file scopes before _ v = ⊥
 
--- what stands behind these of the file
-abbrev pub TopBreaks : Typing → File → List Top → Top → Fault → Type 0
-TopBreaks typing file before (From first after form) v = FormBreaks typing file before (scopes_behind typing file before) form v
+abbrev pub TopBreaks : Typing → File → List (List Identifier) → List Top → Top → Fault → Type 0
+TopBreaks typing file scopes before (From first after form) v = FormBreaks typing file scopes before form v
 
--- a rule for names, kinds or statements is broken: at this token of the file, for this reason; all rules are reached from here
-abbrev pub IsViolation : Typing → File → List Top → Fault → Type 0
-IsViolation typing file xs v = SomeBehind (λ before x. TopBreaks typing file before x v) xs
+-- a rule for names, kinds or statements is broken in a file of this scope: at this token, for this reason; all rules are reached
+-- from here
+abbrev pub IsViolation : Typing → File → List Identifier → List Top → Fault → Type 0
+IsViolation typing file scope xs v = SomeBehind (λ before x. TopBreaks typing file (scope ∷ []) before x v) xs

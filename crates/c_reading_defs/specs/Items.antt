@@ -5,34 +5,23 @@ use Rattle.c_tree.specs.declared.tree.Section.{Section, out-Section}
 use Rattle.c_tree.specs.declared.tree.Selector as selector
 use Rattle.c_layers.specs.Items.{Declarator, Declaration, Label, Start, NoStart, StartValue, StartNames, Declares, States, Plain, From, Statement, Null, Evaluate, If, IfElse, While, DoWhile, For, Switch, Block, Goto, Break, Continue, Return, Unread, Body, Braces, Lone, Items, NoItem, Then, first_label}
 use Rattle.c_layers.specs.Items as items
-use Rattle.c_statements.specs.declared.extents.Kinded.{Kinded}
 use Rattle.c_statements.specs.declared.anchors.Anchor.TheVariants.{Before, AtEnd, AtSection}
-use Rattle.c_statements.specs.Declarations.{kinded, initial}
+use Rattle.c_statements.specs.Declarations.{initial}
 use Rattle.c_statements.specs.Labels.{has_case, has_default}
 use Rattle.c_statements.specs.Sections.{Reading, ended, front, is_passing, with_labels}
 use Rattle.c_statements.specs.Statements.{is_null, begins}
-use Rattle.c_kinds.specs.Scopes.{Env}
 use Rattle.c_reading_defs.specs.Typings.{Typing}
 use Rattle.c_reading_defs.specs.Labels.{InFunction, notes_at, label_number}
 use Rattle.c_reading_defs.specs.Written.{dropped_at, labels_items, section_cases, section_marks, test_at, value_at}
 use Rattle.c_reading_defs.specs.Variables.{variable_number}
-use Rattle.c_reading_defs.specs.Places.{Place, env_of, within, behind_name, behind_names, behind_start, behind}
-use Rattle.c_lexer.specs.Behind.{each_behind}
+use Rattle.c_reading_defs.specs.Places.{Place, names, within, within_for}
 
--- the names at a place
-abbrev pub names : InFunction → Place → Env
-names f p = env_of f.word p
-
--- a name is in scope in its own initialiser
-abbrev pub local : Typing → InFunction → Kinded → Declarator → Place → item.Item
-local typing f k d p = item.Local (variable_number f.variables d.name) (initial (value_at typing (env_of f.word (behind_name f k d p))) d.value)
+abbrev pub local : Typing → InFunction → Place → Declarator → item.Item
+local typing f p d = item.Local (variable_number f.variables d.name) (initial (value_at typing (names f p)) d.value)
 
 -- one Local for each name, in order
-abbrev pub locals : Typing → InFunction → Kinded → List Declarator → Place → List item.Item
-locals typing f k ds p = each_behind (λ before d. local typing f k d (behind_names f k before p)) ds
-
 abbrev pub declaration_items : Typing → InFunction → Declaration → Place → List item.Item
-declaration_items typing f d p = locals typing f (kinded f.word d) d.names p
+declaration_items typing f d p = map (local typing f p) d.names
 
 -- with the Notes in front of it
 abbrev pub declares_items : Typing → InFunction → ℕ → Declaration → Place → List item.Item
@@ -89,8 +78,8 @@ abbrev mutual
   statement_items typing f (While t b) p = item.While (test_at typing (names f p) t) (body_items typing f b p) ∷ []
   statement_items typing f (DoWhile b t) p = item.Do (body_items typing f b p) (test_at typing (names f p) t) ∷ []
   statement_items typing f (For start t u b) p =
-      let inner = behind_start f start (within p) in
-      item.For (start_items typing f start (within p)) (option_map (value_at typing (names f inner)) t) (option_map (dropped_at typing (names f inner)) u) (body_items typing f b inner) ∷ []
+      let inner = within_for f start p in
+      item.For (start_items typing f start inner) (option_map (value_at typing (names f inner)) t) (option_map (dropped_at typing (names f inner)) u) (body_items typing f b inner) ∷ []
   statement_items typing f (Switch t b) p = item.Switch (selector.Source (value_at typing (names f p) t)) (passed_on (switch_sections typing f b p)) ∷ []
   statement_items typing f (Block b) p = item.Block (body_items typing f b p) ∷ []
   statement_items typing f (Goto at) p = item.Goto (label_number f.labels (f.word at)) ∷ []
@@ -100,22 +89,25 @@ abbrev mutual
   statement_items typing f Unread p = []
 
   pub body_items : Typing → InFunction → Body → Place → List item.Item
-  body_items typing f (Braces first after xs) p = list_items typing f xs (within p) ++ notes_at f (AtEnd first)
-  body_items typing f (Lone first after x) p = item_items typing f x (within p) ++ notes_at f (AtEnd first)
+  body_items typing f (Braces first after xs) p = list_items typing f xs (within f (Braces first after xs) p) ++ notes_at f (AtEnd first)
+  body_items typing f (Lone first after x) p = item_items typing f x (within f (Lone first after x) p) ++ notes_at f (AtEnd first)
 
   pub list_items : Typing → InFunction → Items → Place → List item.Item
   list_items typing f NoItem p = []
-  list_items typing f (Then x xs) p = item_items typing f x p ++ list_items typing f xs (behind f x p)
+  list_items typing f (Then x xs) p = item_items typing f x p ++ list_items typing f xs p
 
   -- the sections of a switch, and what stands in front of them
   pub switch_sections : Typing → InFunction → Body → Place → List Section
-  switch_sections typing f (Braces first after xs) p = front (outside_items typing f xs (within p)) ++ map ended (parts typing f xs (notes_at f (AtEnd first)) (within p)).sections
-  switch_sections typing f (Lone first after x) p = front (outside_item typing f x (within p)) ++ map ended (part typing f x (record { outside = notes_at f (AtEnd first); sections = [] }) (within p)).sections
+  switch_sections typing f (Braces first after xs) p =
+      let inner = within f (Braces first after xs) p in front (outside_items typing f xs inner) ++ map ended (parts typing f xs (notes_at f (AtEnd first)) inner).sections
+  switch_sections typing f (Lone first after x) p =
+      let inner = within f (Lone first after x) p in
+      front (outside_item typing f x inner) ++ map ended (part typing f x (record { outside = notes_at f (AtEnd first); sections = [] }) inner).sections
 
   -- up to the first section; null statements are left out
   pub outside_items : Typing → InFunction → Items → Place → List item.Item
   outside_items typing f NoItem p = []
-  outside_items typing f (Then x xs) p = cond (begins x) [] (outside_item typing f x p ++ outside_items typing f xs (behind f x p))
+  outside_items typing f (Then x xs) p = cond (begins x) [] (outside_item typing f x p ++ outside_items typing f xs p)
 
   pub outside_item : Typing → InFunction → items.Item → Place → List item.Item
   outside_item typing f (Declares first after d) p = declares_items typing f first d p
@@ -124,7 +116,7 @@ abbrev mutual
   -- a list that ends with these Notes
   pub parts : Typing → InFunction → Items → List item.Item → Place → Parted
   parts typing f NoItem notes p = record { outside = notes; sections = [] }
-  parts typing f (Then x xs) notes p = part typing f x (parts typing f xs notes (behind f x p)) p
+  parts typing f (Then x xs) notes p = part typing f x (parts typing f xs notes p) p
 
   -- an item in front of these
   pub part : Typing → InFunction → items.Item → Parted → Place → Parted

@@ -5,8 +5,9 @@ pub mod DerivedTops
 pub mod Derivations
 pub mod Behind
 pub mod Bindings
+pub mod Scopes
 pub mod Places
-pub mod FilePlaces
+pub mod FileScopes
 pub mod Violations
 pub mod Calls
 pub mod Comments

@@ -1,31 +1,65 @@
--- The places of a function. What is known at one is told by what stands above it, and in front of it in its own list.
-use Rattle.std.specs.Prelude.{ℕ, List, [], ◌∷◌, Some, None}
-use Rattle.c_layers.specs.Items.{Declarator, Declaration, Start, StartNames, Item, Declares, States}
-use Rattle.c_layers.specs.Tops.{Parameter}
+-- The places of a function, each told by what stands round it.
+use Rattle.std.specs.Prelude.{ℕ, List, [], ◌∷◌, ◌++◌, map, flat_map, Option, Some, None}
+use Rattle.c_layers.specs.Terms.{Term}
+use Rattle.c_layers.specs.Items.{Declarator, Declaration, Start, StartNames, Item, Declares, States, Body, Items, NoItem, Then, items_in}
+use Rattle.c_layers.specs.Tops.{Parameter, Function}
 use Rattle.c_kinds.specs.declared.binding.Binding.TheVariants.{Local}
-use Rattle.c_kinds.specs.Scopes.{Env, Scope}
+use Rattle.c_kinds.specs.Scopes.{Env}
 use Rattle.c_statements.specs.declared.extents.Kinded.{Kinded}
 use Rattle.c_statements.specs.Context.{Around, no_construct, in_loop, in_switch}
 use Rattle.c_statements.specs.Declarations.{kinded, shape_of}
 use Rattle.c_statements.specs.Functions.{parameter_shape}
-use Rattle.c_reading_defs.specs.Bindings.{with_declaration}
 use Rattle.c_reading_defs.specs.Labels.{InFunction}
+use Rattle.c_reading_defs.specs.Scopes.{Identifier, names_at, names_for}
 use Rattle.c_reading_defs.specs.Variables.{variable_number}
 
 pub record Place : Type 0 where
-  -- the scopes round it, the nearest first, each with its declarations before the place
-  pub scopes : List Scope
+  -- the scopes round it, the nearest first
+  pub scopes : List (List Identifier)
   -- the constructs round it
   pub around : Around
 
-abbrev pub env_of : (ℕ → List ℕ) → Place → Env
-env_of word p = record { word = word; scopes = p.scopes }
+-- the names of an expression there
+abbrev pub names : InFunction → Place → Term → Env
+names f p t = names_for f.word p.scopes t
+
+-- and those of the brackets behind the name at a token
+abbrev pub names_behind : InFunction → Place → ℕ → Env
+names_behind f p name = names_at f.word p.scopes name
+
+-- ---- what is declared
+
+abbrev pub variable : InFunction → Kinded → Declarator → Identifier
+variable f k d = record { at = d.name; name = f.word d.name; binding = Local (variable_number f.variables d.name) (shape_of k d) }
+
+abbrev pub declared : InFunction → Declaration → List Identifier
+declared f d = map (variable f (kinded f.word d)) d.names
+
+-- by an item itself; what is within it has scopes of its own
+abbrev pub item_identifiers : InFunction → Item → List Identifier
+item_identifiers f (Declares first after d) = declared f d
+item_identifiers f (States ls s) = []
+
+abbrev pub list_identifiers : InFunction → Items → List Identifier
+list_identifiers f NoItem = []
+list_identifiers f (Then x xs) = item_identifiers f x ++ list_identifiers f xs
+
+abbrev pub start_identifiers : InFunction → Start → List Identifier
+start_identifiers f (StartNames d) = declared f d
+start_identifiers f _ = []
+
+abbrev pub parameter_identifier : InFunction → Parameter → List Identifier
+parameter_identifier f x = elim x.name [ Some at ↦ record { at = at; name = f.word at; binding = Local (variable_number f.variables x.first) (parameter_shape f.word x) } ∷ [] | None ↦ [] ]
 
 -- ---- into a construct
 
 -- a list is a scope of its own
-abbrev pub within : Place → Place
-within p = record { scopes = [] ∷ p.scopes; around = p.around }
+abbrev pub within : InFunction → Body → Place → Place
+within f b p = record { scopes = list_identifiers f (items_in b) ∷ p.scopes; around = p.around }
+
+-- so is the first part of a `for`, to its end
+abbrev pub within_for : InFunction → Start → Place → Place
+within_for f start p = record { scopes = start_identifiers f start ∷ p.scopes; around = p.around }
 
 abbrev pub within_loop : Place → Place
 within_loop p = record { scopes = p.scopes; around = in_loop p.around }
@@ -33,42 +67,10 @@ within_loop p = record { scopes = p.scopes; around = in_loop p.around }
 abbrev pub within_switch : Place → Place
 within_switch p = record { scopes = p.scopes; around = in_switch p.around }
 
--- ---- behind what stands in front
+abbrev pub outermost_identifiers : InFunction → Option Body → List Identifier
+outermost_identifiers f None = []
+outermost_identifiers f (Some b) = list_identifiers f (items_in b)
 
--- behind a declarator, and before its initialiser
-abbrev pub behind_name : InFunction → Kinded → Declarator → Place → Place
-behind_name f k d p = record { scopes = with_declaration (f.word d.name) (Local (variable_number f.variables d.name) (shape_of k d)) p.scopes; around = p.around }
-
-abbrev pub behind_names : InFunction → Kinded → List Declarator → Place → Place
-behind_names f k [] p = p
-behind_names f k (d ∷ ds) p = behind_names f k ds (behind_name f k d p)
-
-abbrev pub behind_declaration : InFunction → Declaration → Place → Place
-behind_declaration f d p = behind_names f (kinded f.word d) d.names p
-
--- behind the first part of a `for`, which has a scope of its own
-abbrev pub behind_start : InFunction → Start → Place → Place
-behind_start f (StartNames d) p = behind_declaration f d p
-behind_start f _ p = p
-
--- behind an item; the names of lists within a statement are out of scope
-abbrev pub behind : InFunction → Item → Place → Place
-behind f (Declares first after d) p = behind_declaration f d p
-behind f (States ls s) p = p
-
--- ---- functions
-
--- in front of the parameters: they and the outermost list are one scope
-abbrev pub entered : List Scope → Place
-entered scopes = record { scopes = [] ∷ scopes; around = no_construct }
-
-abbrev pub behind_parameter : InFunction → Parameter → Place → Place
-behind_parameter f x p =
-    record {
-      scopes = elim x.name [ Some at ↦ with_declaration (f.word at) (Local (variable_number f.variables x.first) (parameter_shape f.word x)) p.scopes | None ↦ p.scopes ];
-      around = p.around;
-    }
-
-abbrev pub behind_parameters : InFunction → List Parameter → Place → Place
-behind_parameters f [] p = p
-behind_parameters f (x ∷ xs) p = behind_parameters f xs (behind_parameter f x p)
+-- the parameters of a function and its outermost list are one scope
+abbrev pub within_function : InFunction → Function → List (List Identifier) → Place
+within_function f fn scopes = record { scopes = (flat_map (parameter_identifier f) fn.parameters ++ outermost_identifiers f fn.body) ∷ scopes; around = no_construct }

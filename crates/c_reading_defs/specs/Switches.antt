@@ -5,6 +5,7 @@ use Rattle.c_types.specs.Numbers.{promoted, converted}
 use Rattle.c_tree.specs.declared.tree.Expression.{Expression}
 use Rattle.c_layers.specs.Items.{Label, Named, Case, Default, Item, Declares, States, Plain, From, Statement, If, IfElse, While, DoWhile, For, Block, Body, Braces, Lone, Items, NoItem, Then, item_first}
 use Rattle.c_kinds.specs.declared.typed.Fault.{Fault}
+use Rattle.c_layers.specs.Terms.{Term}
 use Rattle.c_kinds.specs.Constants.{constant_of}
 use Rattle.c_kinds.specs.Scopes.{Env}
 use Rattle.c_statements.specs.declared.entries.Entry.{Entry}
@@ -13,7 +14,7 @@ use Rattle.c_statements.specs.Statements.{begins, is_element}
 use Rattle.c_reading_defs.specs.Typings.{Typing}
 use Rattle.c_reading_defs.specs.Behind.{SomeBehind}
 use Rattle.c_reading_defs.specs.Labels.{InFunction}
-use Rattle.c_reading_defs.specs.Places.{Place, env_of, within, behind_start, behind}
+use Rattle.c_reading_defs.specs.Places.{Place, names, within, within_for}
 use Rattle.c_reading_defs.specs.Violations.{broken}
 
 -- ---- the case and default labels that belong to a switch, in text order; a switch within it keeps its own
@@ -23,16 +24,16 @@ abbrev pub case_entry : ℕ → Option (Expression × ℤ) → List Entry
 case_entry at (Some c) = Value at c.1 ∷ []
 case_entry at None = []
 
-abbrev pub label_entries : Typing → Env → List Label → List Entry
+abbrev pub label_entries : Typing → (Term → Env) → List Label → List Entry
 label_entries typing env [] = []
 label_entries typing env (Named at after ∷ ls) = label_entries typing env ls
 label_entries typing env (Default at after ∷ ls) = Other at ∷ label_entries typing env ls
-label_entries typing env (Case at after t ∷ ls) = case_entry at (constant_of (typing env t)) ++ label_entries typing env ls
+label_entries typing env (Case at after t ∷ ls) = case_entry at (constant_of (typing (env t) t)) ++ label_entries typing env ls
 
 abbrev mutual
   pub item_entries : Typing → InFunction → Place → Item → List Entry
   item_entries typing f p (Declares first after d) = []
-  item_entries typing f p (States ls s) = label_entries typing (env_of f.word p) ls ++ plain_entries typing f p s
+  item_entries typing f p (States ls s) = label_entries typing (names f p) ls ++ plain_entries typing f p s
 
   pub plain_entries : Typing → InFunction → Place → Plain → List Entry
   plain_entries typing f p (From first after s) = statement_entries typing f p s
@@ -42,17 +43,17 @@ abbrev mutual
   statement_entries typing f p (IfElse t b c) = body_entries typing f p b ++ body_entries typing f p c
   statement_entries typing f p (While t b) = body_entries typing f p b
   statement_entries typing f p (DoWhile b t) = body_entries typing f p b
-  statement_entries typing f p (For start t u b) = body_entries typing f (behind_start f start (within p)) b
+  statement_entries typing f p (For start t u b) = body_entries typing f (within_for f start p) b
   statement_entries typing f p (Block b) = body_entries typing f p b
   statement_entries typing f p _ = []
 
   pub body_entries : Typing → InFunction → Place → Body → List Entry
-  body_entries typing f p (Braces first after xs) = list_entries typing f (within p) xs
-  body_entries typing f p (Lone first after x) = item_entries typing f (within p) x
+  body_entries typing f p (Braces first after xs) = list_entries typing f (within f (Braces first after xs) p) xs
+  body_entries typing f p (Lone first after x) = item_entries typing f (within f (Lone first after x) p) x
 
   pub list_entries : Typing → InFunction → Place → Items → List Entry
   list_entries typing f p NoItem = []
-  list_entries typing f p (Then x xs) = item_entries typing f p x ++ list_entries typing f (behind f x p) xs
+  list_entries typing f p (Then x xs) = item_entries typing f p x ++ list_entries typing f p xs
 
 -- ---- the rules
 

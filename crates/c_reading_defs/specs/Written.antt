@@ -19,23 +19,23 @@ use Rattle.c_scopes.specs.Enums.{an_int, next_value}
 use Rattle.c_reading_defs.specs.Typings.{Typing}
 use Rattle.c_reading_defs.specs.Labels.{InFunction, notes_at, mark}
 
--- ---- expressions
+-- ---- expressions, by the names of each
 
 -- one of which the value is used
-abbrev pub value_at : Typing → Env → Term → Expression
-value_at typing env t = or_placeholder (values.value_of (typing env t))
+abbrev pub value_at : Typing → (Term → Env) → Term → Expression
+value_at typing env t = or_placeholder (values.value_of (typing (env t) t))
 
-abbrev pub test_at : Typing → Env → Term → test.Test
+abbrev pub test_at : Typing → (Term → Env) → Term → test.Test
 test_at typing env t = test.Source (value_at typing env t)
 
 -- one of which a value is dropped
-abbrev pub dropped_at : Typing → Env → Term → Expression
-dropped_at typing env t = or_dropped (values.dropped (typing env t))
+abbrev pub dropped_at : Typing → (Term → Env) → Term → Expression
+dropped_at typing env t = or_dropped (values.dropped (typing (env t) t))
 
-abbrev pub constant_at : Typing → Env → Term → Expression
-constant_at typing env t = constant_or_placeholder (constant_of (typing env t))
+abbrev pub constant_at : Typing → (Term → Env) → Term → Expression
+constant_at typing env t = constant_or_placeholder (constant_of (typing (env t) t))
 
--- what a constant expression is worth
+-- what a constant expression is worth among these names
 abbrev pub worth : Typing → Env → Term → Option ℤ
 worth typing env t = option_map (λ c. c.1) (constant_of (typing env t))
 
@@ -53,12 +53,12 @@ slot_of typing env k d = slot (env.word d.name) (shape_of k d) (cells_of (extent
 -- ---- labels
 
 -- in a nested statement a case or default label is an Arrival
-abbrev pub label_items : Typing → InFunction → Env → Label → List item.Item
+abbrev pub label_items : Typing → InFunction → (Term → Env) → Label → List item.Item
 label_items typing f env (Named at after) = mark f at
 label_items typing f env (Case at after t) = notes_at f (Before at) ++ item.Arrival (Some (constant_at typing env t)) ∷ []
 label_items typing f env (Default at after) = notes_at f (Before at) ++ item.Arrival None ∷ []
 
-abbrev pub labels_items : Typing → InFunction → Env → List Label → List item.Item
+abbrev pub labels_items : Typing → InFunction → (Term → Env) → List Label → List item.Item
 labels_items typing f env [] = []
 labels_items typing f env (l ∷ ls) = label_items typing f env l ++ labels_items typing f env ls
 
@@ -69,11 +69,11 @@ section_marks f (Named at after ∷ ls) = mark f at ++ section_marks f ls
 section_marks f (l ∷ ls) = section_marks f ls
 
 -- the cases at the head of a section
-abbrev pub label_cases : Typing → Env → Label → List Expression
+abbrev pub label_cases : Typing → (Term → Env) → Label → List Expression
 label_cases typing env (Case at after t) = constant_at typing env t ∷ []
 label_cases typing env _ = []
 
-abbrev pub section_cases : Typing → Env → List Label → List Expression
+abbrev pub section_cases : Typing → (Term → Env) → List Label → List Expression
 section_cases typing env [] = []
 section_cases typing env (l ∷ ls) = label_cases typing env l ++ section_cases typing env ls
 

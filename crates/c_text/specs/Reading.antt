@@ -13,6 +13,8 @@ use Rattle.c_scopes.specs.Resolving.{refused}
 use Rattle.c_reading_defs.specs.Derivations.{DeriveFile, IsUnexpected, IsTooMany}
 use Rattle.c_reading_defs.specs.Violations.{IsLeast, IsFaultless}
 use Rattle.c_reading_defs.specs.Typings.{Typing, IsTyping}
+use Rattle.c_reading_defs.specs.Scopes.{Identifier}
+use Rattle.c_reading_defs.specs.FileScopes.{IsFileScope}
 use Rattle.c_reading_defs.specs.Files.{IsViolation}
 use Rattle.c_reading_defs.specs.Programs.{program, file_written}
 use Rattle.c_tree.specs.declared.tree.Program.{Program}
@@ -44,8 +46,10 @@ pub record HasViolation (t : List ℕ) (refusal : Refusal) : Type 0 where
   pub derives : DeriveFile (classes_of t (tokens_of pieces)) file
   pub typing : Typing
   pub types : IsTyping typing
+  pub scope : List Identifier
+  pub scopes : IsFileScope typing (file_written counts_of t (tokens_of pieces) (comments_of pieces) file) file scope
   pub violation : Fault
-  pub least : IsLeast (IsViolation typing (file_written counts_of t (tokens_of pieces) (comments_of pieces) file) file) violation
+  pub least : IsLeast (IsViolation typing (file_written counts_of t (tokens_of pieces) (comments_of pieces) file) scope file) violation
   pub place : refusal ≡ refused t (tokens_of pieces) violation
 
 -- the first fault of a text: of its bytes, else of its tokens, else of the rules for names, kinds and statements; a text that is
@@ -55,8 +59,8 @@ IsRefusedFor t refusal = IsFirstFault t refusal ⊎ (HasFaultyToken t refusal �
 
 -- ---- what a text means
 
--- The text is spelled by good pieces, its tokens derive a file, each expression is what it means, no rule for names, kinds
--- and statements is broken in that file, and the program is the one that it writes, with the comments as Notes.
+-- The text is spelled by good pieces, its tokens derive a file, each expression is what it means, the file has this scope, no
+-- rule for names, kinds and statements is broken in it, and the program is the one that it writes, with the comments as Notes.
 pub record IsProgramOf (t : List ℕ) (p : Program) : Type 0 where
   pub pieces : List Piece
   pub spells : Spells pieces t
@@ -64,8 +68,10 @@ pub record IsProgramOf (t : List ℕ) (p : Program) : Type 0 where
   pub derives : DeriveFile (classes_of t (tokens_of pieces)) file
   pub typing : Typing
   pub types : IsTyping typing
-  pub faultless : IsFaultless (IsViolation typing (file_written counts_of t (tokens_of pieces) (comments_of pieces) file) file)
-  pub is : p ≡ program typing (file_written counts_of t (tokens_of pieces) (comments_of pieces) file) file
+  pub scope : List Identifier
+  pub scopes : IsFileScope typing (file_written counts_of t (tokens_of pieces) (comments_of pieces) file) file scope
+  pub faultless : IsFaultless (IsViolation typing (file_written counts_of t (tokens_of pieces) (comments_of pieces) file) scope file)
+  pub is : p ≡ program typing (file_written counts_of t (tokens_of pieces) (comments_of pieces) file) scope file
 
 -- a text without fault
 abbrev pub IsInSubset : List ℕ → Type 0

@@ -1,5 +1,5 @@
 -- What a walk finds in a declaration of a block.
-use Rattle.std.proofs.Common.{◌≡◌, ◌⊎◌, inl, inr, ℕ, Bool, true, List, [], ◌∷◌, ◌++◌, option_map, refl, sym, ap, subst, ◌∙◌}
+use Rattle.std.proofs.Common.{◌≡◌, ◌≤◌, ◌⊎◌, inl, inr, ℕ, Bool, true, List, [], ◌∷◌, ◌++◌, map, option_map, refl, sym, ap, subst, ◌∙◌, arith}
 use Rattle.c_layers.specs.Terms.{Term, first_of}
 use Rattle.c_layers.specs.Items.{Size, NoSize, Unsized, Sized, Initialiser, NoValue, OneValue, ValueList, Declarator}
 use Rattle.c_kinds.specs.declared.typed.Fault.{Fault}
@@ -18,18 +18,21 @@ use Rattle.c_reading_defs.specs.Written as written
 use Rattle.c_reading_defs.specs.Violations.{broken}
 use Rattle.c_reading_defs.specs.Arrays.{ArrayBreaks}
 use Rattle.c_reading_defs.specs.Bindings.{IsDeclared}
-use Rattle.c_reading_defs.specs.Behind.{SomeBehind}
+use Rattle.c_reading_defs.specs.Behind.{SomeOf}
 use Rattle.c_reading_defs.specs.Labels.{InFunction}
 use Rattle.c_reading_defs.specs.Variables.{name_tokens}
-use Rattle.c_reading_defs.specs.Places.{Place, behind_name, behind_names}
+use Rattle.c_reading_defs.specs.Scopes.{scopes_at}
+use Rattle.c_reading_defs.specs.Places as places
+use Rattle.c_reading_defs.specs.Places.{Place, variable}
 use Rattle.c_reading_defs.specs.Expressions.{Role, NeedsValue, NeedsConstant, MayBeVoid, IsJudgedElsewhere, ExpressionBreaks}
 use Rattle.c_reading_defs.specs.Declared.{SizeBreaks, ValuesBreak, InitialiserBreaks, LocalBreaks, DeclaratorBreaks}
 use Rattle.c_violation_laws.specs.Finds.{Finds}
 use Rattle.c_violation_laws.proofs.Finding.{finds_none, finds_both, finds_same, finds_as, finds_if}
 use Rattle.c_violation_laws.proofs.Expressions.{value, dropped, constant, argument}
 use Rattle.c_violation_laws.proofs.Arrays.{array_breaks, breaks_bad}
-use Rattle.c_violation_laws.proofs.Rising.{Apart}
-use Rattle.c_violation_laws.proofs.Standing.{AreMaps, Stands, stands_name}
+use Rattle.c_violation_laws.proofs.Rising.{Rising, rising_ends, Apart}
+use Rattle.c_violation_laws.proofs.Marks.{each_marks, term_marks, value_marks, declarator_marks}
+use Rattle.c_violation_laws.proofs.Standing.{AreMaps, StandsIn, stands_name_here, stands_values, stands_name}
 use Rattle.c_violation_laws.proofs.Scopes.{bound_alike, is_declared, declared_is}
 use Rattle.c_violation_laws.proofs.AlikeTerms.{typed_alike, faults_alike}
 
@@ -60,15 +63,6 @@ module _ (word : ℕ → List ℕ) (ms ss : List Scope) (m : AreMaps ms ss) wher
   sizes Unsized = finds_none
   sizes (Sized t) = constant_at t
 
-  pub options : (k : Term → Faults → Faults) (role : Role) → ((t : Term) → Finds (k t) (λ v. ExpressionBreaks theirs role t v)) → (ts : List Term) → Finds (each_faults k ts) (λ v. ValuesBreak theirs role ts v)
-  options k role h [] = finds_none
-  options k role h (t ∷ ts) = finds_both (k t) (each_faults k ts) _ _ (h t) (options k role h ts)
-
-  pub initialisers : (k : Term → Faults → Faults) (role : Role) → ((t : Term) → Finds (k t) (λ v. ExpressionBreaks theirs role t v)) → (x : Initialiser) → Finds (initial_faults k x) (λ v. InitialiserBreaks theirs role x v)
-  initialisers k role h NoValue = finds_none
-  initialisers k role h (OneValue t) = h t
-  initialisers k role h (ValueList ts) = options k role h ts
-
   length_alike : (size : Size) → length_in ours size ≡ written.length_in typed theirs size
   length_alike NoSize = refl
   length_alike Unsized = refl
@@ -89,36 +83,56 @@ module _ (word : ℕ → List ℕ) (ms ss : List Scope) (m : AreMaps ms ss) wher
       (λ v p. (is_declared name ss (sym (bound_alike name ms ss m) ∙ p.0), p.1))
       (λ v p. (bound_alike name ms ss m ∙ declared_is name ss p.0, p.1))
 
+-- an initialiser, of which the values begin from one token to another
+module _ (lo hi : ℕ) (env : Term → Env) (k : Term → Faults → Faults) (role : Role) (h : (t : Term) → lo ≤ first_of t → first_of t ≤ hi → Finds (k t) (λ v. ExpressionBreaks (env t) role t v)) where
+  values : (from : ℕ) (ts : List Term) → lo ≤ from → Rising from (each_marks term_marks ts) hi → Finds (each_faults k ts) (λ v. ValuesBreak env role ts v)
+  values from [] l r = finds_none
+  values from (t ∷ ts) l r =
+      let first = r.0 in
+      finds_both (k t) (each_faults k ts) _ _ (h t (omega (arith, l, first)) (rising_ends (first_of t) (each_marks term_marks ts) hi r.1)) (values (first_of t) ts (omega (arith, l, first)) r.1)
+
+  pub initialiser : (x : Initialiser) → Rising lo (value_marks x) hi → Finds (initial_faults k x) (λ v. InitialiserBreaks env role x v)
+  initialiser NoValue r = finds_none
+  initialiser (OneValue t) r = h t r.0 r.1
+  initialiser (ValueList ts) r = values lo ts (omega arith) r
+
 module _ (f : InFunction) (apart : Apart f.variables) (k : Kinded) where
   -- of the name
-  names : (w : Walk) (p : Place) → AreMaps w.scopes p.scopes → (d : Declarator)
+  names : (w : Walk) (p : Place) (d : Declarator) → AreMaps w.scopes (scopes_at p.scopes d.name)
       → Finds (λ vs. bind_fault d.name (f.word d.name) w.scopes (fault_if (is_bad_array true (env_in f.word w) d) d.name 35 vs)) (λ v. LocalBreaks typed f p d v)
-  names w p s d =
+  names w p d s =
+      let ss = scopes_at p.scopes d.name in
       finds_same (λ vs. bind_fault d.name (f.word d.name) w.scopes (fault_if (is_bad_array true (env_in f.word w) d) d.name 35 vs)) _ (λ v. LocalBreaks typed f p d v)
       (finds_both (fault_if (is_bad_array true (env_in f.word w) d) d.name 35) (bind_fault d.name (f.word d.name) w.scopes) _ _
-      (finds_if (is_bad_array true (env_in f.word w) d) d.name 35) (twice f.word w.scopes p.scopes s (f.word d.name) d.name))
+      (finds_if (is_bad_array true (env_in f.word w) d) d.name 35) (twice f.word w.scopes ss s (f.word d.name) d.name))
       to fro
     where
-      to : (v : Fault) → ((is_bad_array true (env_in f.word w) d ≡ true) × (v ≡ broken d.name 35)) ⊎ (IsDeclared (f.word d.name) p.scopes × (v ≡ broken d.name 21)) → LocalBreaks typed f p d v
-      to v (inl q) = subst (LocalBreaks typed f p d) (sym q.1) (LocalBreaks.bad_array (bad_breaks f.word w.scopes p.scopes s true d q.0))
+      to : (v : Fault) → ((is_bad_array true (env_in f.word w) d ≡ true) × (v ≡ broken d.name 35)) ⊎ (IsDeclared (f.word d.name) (scopes_at p.scopes d.name) × (v ≡ broken d.name 21)) → LocalBreaks typed f p d v
+      to v (inl q) = subst (LocalBreaks typed f p d) (sym q.1) (LocalBreaks.bad_array (bad_breaks f.word w.scopes (scopes_at p.scopes d.name) s true d q.0))
       to v (inr q) = subst (LocalBreaks typed f p d) (sym q.1) (LocalBreaks.declared_twice q.0)
 
-      fro : (v : Fault) → LocalBreaks typed f p d v → ((is_bad_array true (env_in f.word w) d ≡ true) × (v ≡ broken d.name 35)) ⊎ (IsDeclared (f.word d.name) p.scopes × (v ≡ broken d.name 21))
+      fro : (v : Fault) → LocalBreaks typed f p d v → ((is_bad_array true (env_in f.word w) d ≡ true) × (v ≡ broken d.name 35)) ⊎ (IsDeclared (f.word d.name) (scopes_at p.scopes d.name) × (v ≡ broken d.name 21))
       fro v (LocalBreaks.declared_twice h) = inr (h, refl)
-      fro v (LocalBreaks.bad_array e) = inl (breaks_are_bad f.word w.scopes p.scopes s true d e, refl)
+      fro v (LocalBreaks.bad_array e) = inl (breaks_are_bad f.word w.scopes (scopes_at p.scopes d.name) s true d e, refl)
 
-  declarator : (d : Declarator) (w : Walk) (p : Place) (rest : List ℕ) → Stands f.variables w p (d.name ∷ rest) → Finds (local_faults f.word k d w) (λ v. DeclaratorBreaks typed f k p d v)
-  declarator d w p rest s =
-      let q = stands_name f apart k d w p rest s in
+  -- what is declared in turn
+  abbrev DeclareIn : Walk → Place → List Declarator → List ℕ → Type 0
+  DeclareIn w p ds rest = StandsIn f.variables w p (map (variable f k) ds) (each_marks declarator_marks ds) (name_tokens ds ++ rest)
+
+  declarator : (d : Declarator) (ds : List Declarator) (w : Walk) (p : Place) (rest : List ℕ) → DeclareIn w p (d ∷ ds) rest → Finds (local_faults f.word k d w) (λ v. DeclaratorBreaks typed f p d v)
+  declarator d ds w p rest s =
+      let here = stands_name_here f apart k d ds w p rest s in
       let inner = declared f.word k d w in
+      let given = stands_values f apart k d ds w p rest s in
       finds_both (size_faults (env_in f.word w) d.size) (λ vs. initial_faults (value_faults (env_in f.word inner)) d.value (bind_fault d.name (f.word d.name) w.scopes (fault_if (is_bad_array true (env_in f.word w) d) d.name 35 vs))) _ _
-      (sizes f.word w.scopes p.scopes s.maps d.size)
+      (sizes f.word w.scopes (scopes_at p.scopes d.name) here d.size)
       (finds_both (λ vs. bind_fault d.name (f.word d.name) w.scopes (fault_if (is_bad_array true (env_in f.word w) d) d.name 35 vs)) (initial_faults (value_faults (env_in f.word inner)) d.value) _ _
-      (names w p s.maps d)
-      (initialisers f.word inner.scopes (behind_name f k d p).scopes q.maps (value_faults (env_in f.word inner)) NeedsValue (value_at f.word inner.scopes (behind_name f k d p).scopes q.maps) d.value))
+      (names w p d here)
+      (initialiser given.lo given.hi (places.names f p) (value_faults (env_in f.word inner)) NeedsValue
+      (λ t l m. value_at f.word inner.scopes (scopes_at p.scopes (first_of t)) (given.sees (first_of t) l m) t) d.value given.order))
 
-  pub declarators : (ds : List Declarator) (w : Walk) (p : Place) (rest : List ℕ) → Stands f.variables w p (name_tokens ds ++ rest) → Finds (locals_faults f.word k ds w) (λ v. SomeBehind (λ before d. DeclaratorBreaks typed f k (behind_names f k before p) d v) ds)
+  pub declarators : (ds : List Declarator) (w : Walk) (p : Place) (rest : List ℕ) → DeclareIn w p ds rest → Finds (locals_faults f.word k ds w) (λ v. SomeOf (λ d. DeclaratorBreaks typed f p d v) ds)
   declarators [] w p rest s = finds_none
   declarators (d ∷ ds) w p rest s =
-      finds_both (local_faults f.word k d w) (locals_faults f.word k ds (declared f.word k d w)) _ _ (declarator d w p (name_tokens ds ++ rest) s)
-      (declarators ds (declared f.word k d w) (behind_name f k d p) rest (stands_name f apart k d w p (name_tokens ds ++ rest) s))
+      finds_both (local_faults f.word k d w) (locals_faults f.word k ds (declared f.word k d w)) _ _ (declarator d ds w p rest s)
+      (declarators ds (declared f.word k d w) p rest (stands_name f apart k d ds w p rest s))

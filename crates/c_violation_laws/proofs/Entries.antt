@@ -23,15 +23,18 @@ use Rattle.c_statements.specs.Cases as walked
 use Rattle.c_statements.specs.Cases.{is_among, with_value, entry_faults, default_faults, switch_faults}
 use Rattle.c_violation_laws.proofs.Behind.{Behind, finds_behind}
 use Rattle.c_reading_defs.specs.Labels.{InFunction}
-use Rattle.c_reading_defs.specs.Variables.{start_variables, item_variables, plain_variables, statement_variables, body_variables, list_variables}
-use Rattle.c_reading_defs.specs.Places.{Place, env_of, within, behind}
+use Rattle.c_reading_defs.specs.Variables.{item_variables, plain_variables, statement_variables, body_variables, list_variables}
+use Rattle.c_layers.specs.Terms.{first_of}
+use Rattle.c_reading_defs.specs.Scopes.{scopes_at}
+use Rattle.c_reading_defs.specs.Places.{Place, item_identifiers, list_identifiers, within}
 use Rattle.c_reading_defs.specs.Places as places
 use Rattle.c_reading_defs.specs.Switches.{case_entry, label_entries, item_entries, plain_entries, statement_entries, body_entries, list_entries, HasCase, HasDefault, EntryBreaks, EntriesBreak}
 use Rattle.c_reading_defs.specs.Violations.{broken}
 use Rattle.c_violation_laws.specs.Finds.{Finds}
 use Rattle.c_violation_laws.proofs.Finding.{finds_none, finds_both, finds_same, finds_if}
 use Rattle.c_violation_laws.proofs.Rising.{Apart}
-use Rattle.c_violation_laws.proofs.Standing.{AreMaps, Stands, in_function, stands_grouped, stands_item, stands_start, stands_body, stands_within}
+use Rattle.c_violation_laws.proofs.Marks.{each_marks, term_marks, option_marks, label_marks, item_marks, plain_marks, statement_marks, body_marks, list_marks}
+use Rattle.c_violation_laws.proofs.Standing.{Stands, StandsIn, in_function, numbered_grouped, stands_first, stands_behind, stands_before, stands_stated, LabelsSee, labels_see, stands_braces, stands_lone, stands_body, stands_start, stands_item, stands_rest}
 use Rattle.c_violation_laws.proofs.AlikeTerms.{typed_alike}
 
 -- ---- they are those by places
@@ -44,44 +47,52 @@ module _ (ctx : Context) (names : List (List ℕ)) (vs : List ℕ) (apart : Apar
   abbrev f : InFunction
   f = in_function ctx names vs
 
-  labelled : (w : Walk) (p : Place) → AreMaps w.scopes p.scopes → (ls : List Label) (found : List Entry) → walked.label_entries (env_at ctx w) ls found ≡ found ++ label_entries typed (env_of ctx.word p) ls
-  labelled w p s [] found = append_none found
-  labelled w p s (Named at after ∷ ls) found = labelled w p s ls found
-  labelled w p s (Default at after ∷ ls) found = labelled w p s ls (found ++ Other at ∷ []) ∙ append_assoc found (Other at ∷ []) (label_entries typed (env_of ctx.word p) ls)
-  labelled w p s (Case at after t ∷ ls) found =
-      ap (λ x. walked.label_entries (env_at ctx w) ls (walked.case_entry at (constant_of x) found)) (typed_alike ctx.word w.scopes p.scopes s t)
-      ∙ by (constant_of (typed (env_of ctx.word p) t)) (λ f. labelled w p s ls f)
+  labelled : (w : Walk) (p : Place) (ls : List Label) → LabelsSee w p ls → (found : List Entry) → walked.label_entries (env_at ctx w) ls found ≡ found ++ label_entries typed (places.names f p) ls
+  labelled w p [] s found = append_none found
+  labelled w p (Named at after ∷ ls) s found = labelled w p ls s.1 found
+  labelled w p (Default at after ∷ ls) s found = labelled w p ls s.1 (found ++ Other at ∷ []) ∙ append_assoc found (Other at ∷ []) (label_entries typed (places.names f p) ls)
+  labelled w p (Case at after t ∷ ls) s found =
+      ap (λ x. walked.label_entries (env_at ctx w) ls (walked.case_entry at (constant_of x) found)) (typed_alike ctx.word w.scopes (scopes_at p.scopes (first_of t)) s.0 t)
+      ∙ by (constant_of (typed (places.names f p t) t)) (λ l. labelled w p ls s.1 l)
     where
-      by : (o : Option (Expression × ℤ)) → ((f : List Entry) → walked.label_entries (env_at ctx w) ls f ≡ f ++ label_entries typed (env_of ctx.word p) ls)
-          → walked.label_entries (env_at ctx w) ls (walked.case_entry at o found) ≡ found ++ (case_entry at o ++ label_entries typed (env_of ctx.word p) ls)
-      by (Some c) f = f (found ++ Value at c.1 ∷ []) ∙ append_assoc found (Value at c.1 ∷ []) (label_entries typed (env_of ctx.word p) ls)
-      by None f = f found
+      by : (o : Option (Expression × ℤ)) → ((l : List Entry) → walked.label_entries (env_at ctx w) ls l ≡ l ++ label_entries typed (places.names f p) ls)
+          → walked.label_entries (env_at ctx w) ls (walked.case_entry at o found) ≡ found ++ (case_entry at o ++ label_entries typed (places.names f p) ls)
+      by (Some c) k = k (found ++ Value at c.1 ∷ []) ∙ append_assoc found (Value at c.1 ∷ []) (label_entries typed (places.names f p) ls)
+      by None k = k found
 
   mutual
-    item : (x : Item) (w : Walk) (p : Place) (rest : List ℕ) → Stands vs w p (item_variables x ++ rest) → (found : List Entry) → walked.item_entries ctx x w found ≡ found ++ item_entries typed f p x
+    item : (x : Item) (w : Walk) (p : Place) (rest : List ℕ) → StandsIn vs w p (item_identifiers f x) (item_marks x) (item_variables x ++ rest) → (found : List Entry) → walked.item_entries ctx x w found ≡ found ++ item_entries typed f p x
     item (Declares first after d) w p rest s found = append_none found
     item (States ls x) w p rest s found =
-        plain x w p rest s (walked.label_entries (env_at ctx w) ls found)
-        ∙ ap (λ l. l ++ plain_entries typed f p x) (labelled w p s.maps ls found)
-        ∙ append_assoc found (label_entries typed (env_of ctx.word p) ls) (plain_entries typed f p x)
+        let more = plain_variables x ++ rest in
+        let g = stands_stated vs w p (each_marks label_marks ls ++ plain_marks x) more s in
+        plain x w p rest (stands_behind vs w p (each_marks label_marks ls) (plain_marks x) more g) (walked.label_entries (env_at ctx w) ls found)
+        ∙ ap (λ l. l ++ plain_entries typed f p x) (labelled w p ls (labels_see vs w p ls (plain_marks x) more g) found)
+        ∙ append_assoc found (label_entries typed (places.names f p) ls) (plain_entries typed f p x)
 
-    plain : (x : Plain) (w : Walk) (p : Place) (rest : List ℕ) → Stands vs w p (plain_variables x ++ rest) → (found : List Entry) → walked.plain_entries ctx x w found ≡ found ++ plain_entries typed f p x
+    plain : (x : Plain) (w : Walk) (p : Place) (rest : List ℕ) → Stands vs w p (plain_marks x) (plain_variables x ++ rest) → (found : List Entry) → walked.plain_entries ctx x w found ≡ found ++ plain_entries typed f p x
     plain (From first after x) w p rest s found = statement x w p rest s found
 
-    statement : (x : Statement) (w : Walk) (p : Place) (rest : List ℕ) → Stands vs w p (statement_variables x ++ rest) → (found : List Entry) → walked.statement_entries ctx x w found ≡ found ++ statement_entries typed f p x
-    statement (If t b) w p rest s found = body b w p rest s found
+    statement : (x : Statement) (w : Walk) (p : Place) (rest : List ℕ) → Stands vs w p (statement_marks x) (statement_variables x ++ rest) → (found : List Entry) → walked.statement_entries ctx x w found ≡ found ++ statement_entries typed f p x
+    statement (If t b) w p rest s found = body b w p rest (stands_behind vs w p (term_marks t) (body_marks b) (body_variables b ++ rest) s) found
     statement (IfElse t b c) w p rest s found =
+        let all = (body_variables b ++ body_variables c) ++ rest in
         let more = body_variables c ++ rest in
-        let g = stands_grouped vs w p (body_variables b) (body_variables c) rest s in
-        body c (behind_body ctx b w) p rest (stands_body ctx names vs apart b w p more g) (walked.body_entries ctx b w found)
-        ∙ ap (λ l. l ++ body_entries typed f p c) (body b w p more g found)
+        let g = stands_behind vs w p (term_marks t) (body_marks b ++ body_marks c) all s in
+        let first = stands_first vs w p (body_marks b) (body_marks c) (body_variables b ++ more) all g (numbered_grouped vs w (body_variables b) (body_variables c) rest g.numbered) in
+        let second = stands_body ctx names vs apart b w p (body_marks c) (body_variables c) rest g in
+        body c (behind_body ctx b w) p rest second (walked.body_entries ctx b w found)
+        ∙ ap (λ l. l ++ body_entries typed f p c) (body b w p more first found)
         ∙ append_assoc found (body_entries typed f p b) (body_entries typed f p c)
-    statement (While t b) w p rest s found = body b w p rest s found
-    statement (DoWhile b t) w p rest s found = body b w p rest s found
+    statement (While t b) w p rest s found = body b w p rest (stands_behind vs w p (term_marks t) (body_marks b) (body_variables b ++ rest) s) found
+    statement (DoWhile b t) w p rest s found = body b w p rest (stands_before vs w p (body_marks b) (term_marks t) (body_variables b ++ rest) s) found
     statement (For start t u b) w p rest s found =
+        let v = behind_start ctx start (enter w) in
+        let q = places.within_for f start p in
         let more = body_variables b ++ rest in
-        let g = stands_within vs w p (start_variables start ++ more) (stands_grouped vs w p (start_variables start) (body_variables b) rest s) in
-        body b (behind_start ctx start (enter w)) (places.behind_start f start (within p)) rest (stands_start ctx names vs apart start (enter w) (within p) more g) found
+        let ms = option_marks t ++ (option_marks u ++ body_marks b) in
+        let g = stands_start ctx names vs apart start w p ms (body_variables b) rest s in
+        body b v q rest (stands_behind vs v q (option_marks u) (body_marks b) more (stands_behind vs v q (option_marks t) (option_marks u ++ body_marks b) more g)) found
     statement (Block b) w p rest s found = body b w p rest s found
     statement Null w p rest s found = append_none found
     statement (Evaluate t) w p rest s found = append_none found
@@ -92,19 +103,16 @@ module _ (ctx : Context) (names : List (List ℕ)) (vs : List ℕ) (apart : Apar
     statement (Return t) w p rest s found = append_none found
     statement Unread w p rest s found = append_none found
 
-    pub body : (b : Body) (w : Walk) (p : Place) (rest : List ℕ) → Stands vs w p (body_variables b ++ rest) → (found : List Entry) → walked.body_entries ctx b w found ≡ found ++ body_entries typed f p b
-    body (Braces first after xs) w p rest s found = list xs (enter w) (within p) rest (stands_within vs w p (list_variables xs ++ rest) s) found
-    body (Lone first after x) w p rest s found = item x (enter w) (within p) rest (stands_within vs w p (item_variables x ++ rest) s) found
+    pub body : (b : Body) (w : Walk) (p : Place) (rest : List ℕ) → Stands vs w p (body_marks b) (body_variables b ++ rest) → (found : List Entry) → walked.body_entries ctx b w found ≡ found ++ body_entries typed f p b
+    body (Braces first after xs) w p rest s found = list xs (enter w) (within f (Braces first after xs) p) rest (stands_braces f vs w p first after xs (list_variables xs ++ rest) s) found
+    body (Lone first after x) w p rest s found = item x (enter w) (within f (Lone first after x) p) rest (stands_lone f vs w p first after x (item_variables x ++ rest) s) found
 
-    list : (xs : Items) (w : Walk) (p : Place) (rest : List ℕ) → Stands vs w p (list_variables xs ++ rest) → (found : List Entry) → walked.list_entries ctx xs w found ≡ found ++ list_entries typed f p xs
+    list : (xs : Items) (w : Walk) (p : Place) (rest : List ℕ) → StandsIn vs w p (list_identifiers f xs) (list_marks xs) (list_variables xs ++ rest) → (found : List Entry) → walked.list_entries ctx xs w found ≡ found ++ list_entries typed f p xs
     list NoItem w p rest s found = append_none found
     list (Then x xs) w p rest s found =
-        let more = list_variables xs ++ rest in
-        let g = stands_grouped vs w p (item_variables x) (list_variables xs) rest s in
-        let q = behind f x p in
-        list xs (behind_item ctx x w) q rest (stands_item ctx names vs apart x w p more g) (walked.item_entries ctx x w found)
-        ∙ ap (λ l. l ++ list_entries typed f q xs) (item x w p more g found)
-        ∙ append_assoc found (item_entries typed f p x) (list_entries typed f q xs)
+        list xs (behind_item ctx x w) p rest (stands_rest ctx names vs apart x xs w p rest s) (walked.item_entries ctx x w found)
+        ∙ ap (λ l. l ++ list_entries typed f p xs) (item x w p (list_variables xs ++ rest) (stands_item ctx names vs apart x xs w p rest s) found)
+        ∙ append_assoc found (item_entries typed f p x) (list_entries typed f p xs)
 
 -- ---- numbers that were seen
 

@@ -1,5 +1,6 @@
 -- What a walk finds in a function.
-use Rattle.std.proofs.Common.{◌≡◌, ◌⊎◌, ℕ, Bool, true, List, [], ◌∷◌, map, Option, Some, None, is_some, refl, sym, ap, subst, ◌++◌, ◌∙◌}
+use Rattle.std.specs.Prelude.{flat_map}
+use Rattle.std.proofs.Common.{append_assoc, arith, ◌≤◌, ◌≡◌, ◌⊎◌, ℕ, Bool, true, List, [], ◌∷◌, map, Option, Some, None, is_some, refl, sym, ap, subst, ◌++◌, ◌∙◌}
 use Rattle.c_tree.specs.declared.tree.Item as tree
 use Rattle.c_layers.specs.Items.{Body, Braces, Lone}
 use Rattle.c_layers.specs.Tops.{Parameter, Function}
@@ -15,30 +16,34 @@ use Rattle.c_statements.specs.Measures.{is_tangled}
 use Rattle.c_kinds.specs.Typing.{typed}
 use Rattle.c_reading_defs.specs.Bodies.{known}
 use Rattle.c_reading_defs.specs.Bodies as written
-use Rattle.c_violation_laws.proofs.WrittenFunctions.{body_same, stands_inside}
+use Rattle.c_violation_laws.proofs.WrittenFunctions.{body_same}
 use Rattle.c_violation_laws.proofs.WalkedLabels.{labels_same}
 use Rattle.c_reading_defs.specs.Labels.{InFunction, each_once, body_labels}
-use Rattle.c_reading_defs.specs.Variables.{item_variables, body_variables, list_variables, variables_within, variables_of}
+use Rattle.c_reading_defs.specs.Variables.{variables_within, variables_of}
 use Rattle.c_reading_defs.specs.Behind.{SomeBehind}
 use Rattle.c_reading_defs.specs.Bindings.{IsDeclared}
 use Rattle.c_reading_defs.specs.Declared.{SizeBreaks}
 use Rattle.c_reading_defs.specs.Functions.{ParameterBreaks, ParametersBreak, LabelTwice, OutermostBreaks, Tangled, DefinitionBreaks, FunctionBreaks}
-use Rattle.c_reading_defs.specs.Places.{Place, env_of, entered, behind_parameter, behind_parameters}
+use Rattle.c_reading_defs.specs.Scopes.{Identifier, scopes_at}
+use Rattle.c_reading_defs.specs.Places.{Place, names_behind, parameter_identifier, outermost_identifiers}
 use Rattle.c_reading_defs.specs.Violations.{broken}
 use Rattle.c_violation_laws.specs.Finds.{Finds}
 use Rattle.c_violation_laws.proofs.Finding.{Rule, finds_none, finds_both, finds_same, finds_nothing, finds_if}
-use Rattle.c_violation_laws.proofs.Rising.{Apart}
-use Rattle.c_violation_laws.proofs.Standing.{AreMaps, Stands, stands_last, stands_entered, stands_parameter}
+use Rattle.c_violation_laws.proofs.Rising.{Rising, rising_ends, parted, Apart}
+use Rattle.c_violation_laws.proofs.Standing.{AreMaps, Numbered}
+use Rattle.c_violation_laws.proofs.Marks.{each_marks, parameter_marks, within_marks, inner_marks}
+use Rattle.c_violation_laws.proofs.Known.{FromOn, from_earlier, from_both, Sees, InScope}
+use Rattle.c_violation_laws.proofs.Inside.{OutermostIn, GivenIn, parameter_here, parameter_named, parameter_past, parameters_from, entered_scope, entered_numbered, stands_inside, outermost_from}
 use Rattle.c_violation_laws.proofs.Declared.{sizes, twice}
 use Rattle.c_violation_laws.proofs.LabelFaults.{labels_twice}
-use Rattle.c_violation_laws.proofs.Statements.{IsAt, item, list}
+use Rattle.c_violation_laws.proofs.Statements.{item, list}
 
 module _ (f : InFunction) (apart : Apart f.variables) where
   -- ---- parameters
 
-  module _ (defines : Bool) (w : Walk) (p : Place) (s : AreMaps w.scopes p.scopes) (x : Parameter) where
+  module _ (defines : Bool) (w : Walk) (p : Place) (x : Parameter) (here : AreMaps w.scopes (scopes_at p.scopes x.first)) (there : (at : ℕ) → x.name ≡ Some at → AreMaps w.scopes (scopes_at p.scopes at)) where
     abbrev Breaks : Rule
-    Breaks v = SizeBreaks (env_of f.word p) x.size v ⊎ ParameterBreaks f p defines x v
+    Breaks v = SizeBreaks (names_behind f p x.first) x.size v ⊎ ParameterBreaks f p defines x v
 
     some_same : (a b : ℕ) → x.name ≡ Some a → x.name ≡ Some b → a ≡ b
     some_same a b e g = cc
@@ -49,15 +54,15 @@ module _ (f : InFunction) (apart : Apart f.variables) where
     by_name : (o : Option ℕ) → x.name ≡ o
         → Finds (λ vs. elim o [ Some at ↦ bind_fault at (f.word at) w.scopes (size_faults (env_in f.word w) x.size vs) | None ↦ fault_if defines x.first 43 (size_faults (env_in f.word w) x.size vs) ]) Breaks
     by_name (Some at) e =
-        finds_both (size_faults (env_in f.word w) x.size) (bind_fault at (f.word at) w.scopes) _ _ (sizes f.word w.scopes p.scopes s x.size)
-        (finds_same (bind_fault at (f.word at) w.scopes) _ (λ v. ParameterBreaks f p defines x v) (twice f.word w.scopes p.scopes s (f.word at) at)
+        finds_both (size_faults (env_in f.word w) x.size) (bind_fault at (f.word at) w.scopes) _ _ (sizes f.word w.scopes (scopes_at p.scopes x.first) here x.size)
+        (finds_same (bind_fault at (f.word at) w.scopes) _ (λ v. ParameterBreaks f p defines x v) (twice f.word w.scopes (scopes_at p.scopes at) (there at e) (f.word at) at)
         (λ v q. subst (ParameterBreaks f p defines x) (sym q.1) (ParameterBreaks.declared_twice at e q.0)) fro)
       where
-        fro : (v : Fault) → ParameterBreaks f p defines x v → IsDeclared (f.word at) p.scopes × (v ≡ broken at 21)
-        fro v (ParameterBreaks.declared_twice b g h) = let same = some_same b at g e in (subst (λ z. IsDeclared (f.word z) p.scopes) same h, ap (λ z. broken z 21) same)
+        fro : (v : Fault) → ParameterBreaks f p defines x v → IsDeclared (f.word at) (scopes_at p.scopes at) × (v ≡ broken at 21)
+        fro v (ParameterBreaks.declared_twice b g h) = let same = some_same b at g e in (subst (λ z. IsDeclared (f.word z) (scopes_at p.scopes z)) same h, ap (λ z. broken z 21) same)
         fro v (ParameterBreaks.no_name d g) = absurd (some_none at e g)
     by_name None e =
-        finds_both (size_faults (env_in f.word w) x.size) (fault_if defines x.first 43) _ _ (sizes f.word w.scopes p.scopes s x.size)
+        finds_both (size_faults (env_in f.word w) x.size) (fault_if defines x.first 43) _ _ (sizes f.word w.scopes (scopes_at p.scopes x.first) here x.size)
         (finds_same (fault_if defines x.first 43) _ (λ v. ParameterBreaks f p defines x v) (finds_if defines x.first 43)
         (λ v q. subst (ParameterBreaks f p defines x) (sym q.1) (ParameterBreaks.no_name q.0 e)) fro)
       where
@@ -68,19 +73,31 @@ module _ (f : InFunction) (apart : Apart f.variables) where
     parameter : Finds (parameter_fault f.word defines x w) Breaks
     parameter = by_name x.name refl
 
-  parameters : (defines : Bool) (xs : List Parameter) (w : Walk) (p : Place) (rest : List ℕ) → Stands f.variables w p (map (λ x. x.first) xs ++ rest) → Finds (parameters_faults f.word defines xs w) (λ v. ParametersBreak f p defines xs v)
-  parameters defines [] w p rest s = finds_none
-  parameters defines (x ∷ xs) w p rest s =
-      finds_both (parameter_fault f.word defines x w) (parameters_faults f.word defines xs (bind_parameter f.word x w)) _ _ (parameter defines w p s.maps x)
-      (parameters defines xs (bind_parameter f.word x w) (behind_parameter f x p) rest (stands_parameter f apart x w p (map (λ x. x.first) xs ++ rest) s))
+  parameters : (defines : Bool) (xs : List Parameter) (w : Walk) (p : Place) (lo end hi : ℕ) (zs : List Identifier) (rest : List ℕ) → InScope w.scopes p.scopes lo hi (flat_map (parameter_identifier f) xs ++ zs)
+      → Rising lo (each_marks parameter_marks xs) end → end ≤ hi → FromOn end zs → Numbered f.variables w (map (λ x. x.first) xs ++ rest) → Finds (parameters_faults f.word defines xs w) (λ v. ParametersBreak f p defines xs v)
+  parameters defines [] w p lo end hi zs rest h r room beyond n = finds_none
+  parameters defines (x ∷ xs) w p lo end hi zs rest h r room beyond n =
+      let s = parted lo (parameter_marks x) (each_marks parameter_marks xs) end r in
+      let more = flat_map (parameter_identifier f) xs in
+      let last = rising_ends s.0 (each_marks parameter_marks xs) end s.2 in
+      let inner = subst (λ l. InScope w.scopes p.scopes lo hi l) (append_assoc (parameter_identifier f x) more zs) h in
+      let after = from_both s.0 more zs (parameters_from f apart s.0 xs end s.2) (from_earlier s.0 end zs last beyond) in
+      let here = parameter_here f apart x w p.scopes lo s.0 hi (more ++ zs) inner s.1 (omega (arith, last, room)) after in
+      let there = λ (at : ℕ) (e : x.name ≡ Some at). parameter_named f apart x at x.name e w p.scopes lo s.0 hi (more ++ zs) inner s.1 (omega (arith, last, room)) after in
+      let g = parameter_past f apart x w p.scopes lo s.0 hi (more ++ zs) (map (λ x. x.first) xs ++ rest) inner s.1 n in
+      finds_both (parameter_fault f.word defines x w) (parameters_faults f.word defines xs (bind_parameter f.word x w)) _ _ (parameter defines w p x here there)
+      (parameters defines xs (bind_parameter f.word x w) p s.0 end hi zs rest g.0 s.2 room beyond g.1)
 
-  parameters_around : (xs : List Parameter) (p : Place) → (behind_parameters f xs p).around ≡ p.around
-  parameters_around [] p = refl
-  parameters_around (x ∷ xs) p = parameters_around xs (behind_parameter f x p)
-
-module _ (word : ℕ → List ℕ) (flat : FlatCounts) (notes : Anchor → List (List ℕ)) (f : Function) (apart : Apart (variables_of f)) (ms ss : List Scope) (m : AreMaps ms ss) where
+module _ (word : ℕ → List ℕ) (flat : FlatCounts) (notes : Anchor → List (List ℕ)) (f : Function) (apart : Apart (variables_of f)) (ms : List Scope) (ss : List (List Identifier)) (lo hi : ℕ)
+    (sees : Sees ms ss lo hi) (order : Rising lo (inner_marks f) hi) where
   abbrev vs : List ℕ
   vs = variables_of f
+
+  abbrev here : InFunction
+  here = known word notes f
+
+  abbrev place : Place
+  place = written.inside word notes f ss
 
   module _ (b : Body) (is : f.body ≡ Some b) where
     abbrev ours : List tree.Item
@@ -88,7 +105,7 @@ module _ (word : ℕ → List ℕ) (flat : FlatCounts) (notes : Anchor → List 
 
     -- those that are written there
     abbrev theirs : List tree.Item
-    theirs = written.body_items typed (known word notes f) b (written.inside word notes f ss)
+    theirs = written.body_items typed here b place
 
     some_counts : (n k : ℕ × ℕ) → flat theirs ≡ Some n → flat theirs ≡ Some k → n ≡ k
     some_counts n k e g = cc
@@ -108,39 +125,27 @@ module _ (word : ℕ → List ℕ) (flat : FlatCounts) (notes : Anchor → List 
         no : (v : Fault) → Tangled typed flat word notes f b ss v → ⊥
         no v (Tangled.tangled k g t) = none_counts k g e
 
-    stands_body : Stands vs (inside word f ms) (written.inside word notes f ss) (body_variables b)
-    stands_body = subst (λ o. Stands vs (inside word f ms) (written.inside word notes f ss) (variables_within o)) is (stands_inside word notes f apart ms ss m)
+    stands_body : OutermostIn here apart (inside word f ms) place b
+    stands_body = subst (λ o. GivenIn here apart (inside word f ms) place o) is (stands_inside here apart f refl ms ss lo hi sees order)
 
     items_alike : ours ≡ theirs
-    items_alike = body_same word notes f apart b is (inside word f ms) (written.inside word notes f ss) stands_body
+    items_alike = body_same word notes f apart b is (inside word f ms) place stands_body
 
     tangles : Finds (tangle_fault flat word f b ours) (λ v. Tangled typed flat word notes f b ss v)
     tangles = by_counts (flat ours) (ap flat (sym items_alike))
-
-    at_body : IsAt vs no_construct (inside word f ms) (written.inside word notes f ss) (body_variables b)
-    at_body = record { stands = stands_body; same = parameters_around (known word notes f) apart f.parameters (entered ss) }
 
   -- in a function with these labels
   abbrev Outermost : Body → List (List ℕ) → Type 0
   Outermost b labels =
       Finds (body_faults (context word notes f b) b (inside word f ms))
-      (λ v. OutermostBreaks typed (record { word = word; notes = notes; labels = labels; variables = vs; result = result_kind word f }) (written.inside word notes f ss) b v)
+      (λ v. OutermostBreaks typed (record { word = word; notes = notes; labels = labels; variables = vs; result = result_kind word f }) place b v)
 
-  last_at : (w : Walk) (p : Place) (rest : List ℕ) → IsAt vs no_construct w p rest → IsAt vs no_construct w p (rest ++ [])
-  last_at w p rest s = record { stands = stands_last vs w p rest s.stands; same = s.same }
-
-  by_walk : (b : Body) → f.body ≡ Some b → Outermost b (each_once (map word (walked_labels b [])))
-  by_walk (Braces first after xs) is =
-      let b = Braces first after xs in
-      let p = written.inside word notes f ss in
-      list word notes (map word (walked_labels b [])) (result_kind word f) vs apart no_construct xs (inside word f ms) p [] (last_at (inside word f ms) p (list_variables xs) (at_body b is))
-  by_walk (Lone first after x) is =
-      let b = Lone first after x in
-      let p = written.inside word notes f ss in
-      item word notes (map word (walked_labels b [])) (result_kind word f) vs apart no_construct x (inside word f ms) p [] (last_at (inside word f ms) p (item_variables x) (at_body b is))
+  by_walk : (b : Body) → f.body ≡ Some b → OutermostIn here apart (inside word f ms) place b → Outermost b (each_once (map word (walked_labels b [])))
+  by_walk (Braces first after xs) is h = list word notes (map word (walked_labels (Braces first after xs) [])) (result_kind word f) vs apart no_construct xs (inside word f ms) place [] refl h
+  by_walk (Lone first after x) is h = item word notes (map word (walked_labels (Lone first after x) [])) (result_kind word f) vs apart no_construct x (inside word f ms) place [] refl h
 
   outermost : (b : Body) → f.body ≡ Some b → Outermost b (written.labels_within word f.body)
-  outermost b is = subst (Outermost b) (ap (λ ats. each_once (map word ats)) (labels_same b) ∙ ap (written.labels_within word) (sym is)) (by_walk b is)
+  outermost b is = subst (Outermost b) (ap (λ ats. each_once (map word ats)) (labels_same b) ∙ ap (written.labels_within word) (sym is)) (by_walk b is (stands_body b is))
 
   twice_labelled : (b : Body) → Finds (twice_faults word (walked_labels b [])) (λ v. SomeBehind (λ before at. LabelTwice word before at v) (body_labels b))
   twice_labelled b = subst (λ ats. Finds (twice_faults word (walked_labels b [])) (λ v. SomeBehind (λ before at. LabelTwice word before at v) ats)) (labels_same b) (labels_twice word (walked_labels b []))
@@ -153,5 +158,8 @@ module _ (word : ℕ → List ℕ) (flat : FlatCounts) (notes : Anchor → List 
 
   pub function : Finds (function_faults flat word notes f ms) (λ v. FunctionBreaks typed flat word notes f ss v)
   function =
+      let s = parted lo (each_marks parameter_marks f.parameters) (within_marks f.body) hi order in
       finds_both (parameters_faults word (is_some f.body) f.parameters (walked.entered ms)) (faults_within flat word notes f f.body (inside word f ms)) _ _
-      (parameters (known word notes f) apart (is_some f.body) f.parameters (walked.entered ms) (entered ss) (variables_within f.body) (stands_entered vs ms ss m)) (definition f.body refl)
+      (parameters here apart (is_some f.body) f.parameters (walked.entered ms) place lo s.0 hi (outermost_identifiers here f.body) (variables_within f.body) (entered_scope here apart f refl ms ss lo hi sees order) s.1
+      (rising_ends s.0 (within_marks f.body) hi s.2) (outermost_from here apart s.0 f.body hi s.2) (entered_numbered here apart f refl ms ss lo hi sees order))
+      (definition f.body refl)

@@ -16,13 +16,13 @@ use Rattle.c_kinds.proofs.Entries.{same_names, names_same}
 use Rattle.c_scopes.specs.Files.{File}
 use Rattle.c_scopes.specs.FunctionNames.{has_function, with_function, has_body, with_body, again_faults, is_main_form, same_signature, signature_in, function_name_faults}
 use Rattle.c_reading_defs.specs.Bindings.{IsDeclared, IsDeclaredAs}
-use Rattle.c_reading_defs.specs.FilePlaces.{names_at}
 use Rattle.c_reading_defs.specs.Files.{IsDefinedIn, FunctionNameBreaks}
 use Rattle.c_reading_defs.specs.Violations.{broken}
 use Rattle.c_violation_laws.specs.Finds.{Finds}
 use Rattle.c_violation_laws.proofs.Bound.{there, there_back}
 use Rattle.c_violation_laws.proofs.Finding.{Rule, finds_none, finds_both, finds_same, finds_fault, finds_if}
 use Rattle.c_violation_laws.proofs.Standing.{AreMaps}
+use Rattle.c_violation_laws.proofs.FileStanding.{in_scopes}
 use Rattle.c_violation_laws.proofs.Scopes.{found_alike, is_declared, declared_is}
 
 -- ---- functions that have a body so far
@@ -191,9 +191,9 @@ module _ (file : File) (before : List Top) (bodies : List (List ℕ)) (defined :
   fro v (FunctionNameBreaks.other_main e g) = inr (inl (and_both (bytes_eq name (codes "main")) (not (is_main_form file.word f)) (names_same name (codes "main") e) (ap not g), refl))
   fro v (FunctionNameBreaks.disagrees g h e) = inr (inr (known (binding.Function g) (broken f.name 37) h (inl (ap not e, refl))))
 
-  pub function_name : Finds (function_name_faults file.bodies bodies f (names_at file.word ms)) Breaks
+  pub function_name : Finds (function_name_faults file.bodies bodies f (in_scopes file.word ms)) Breaks
   function_name =
-      finds_same (function_name_faults file.bodies bodies f (names_at file.word ms)) Parts Breaks
+      finds_same (function_name_faults file.bodies bodies f (in_scopes file.word ms)) Parts Breaks
       (finds_both (fault_if (is_known name) f.name 21) (λ vs. again_faults f.name again own (bound name ms) (fault_if main f.name 36 vs)) _ _ (finds_if (is_known name) f.name 21)
       (finds_both (fault_if main f.name 36) (again_faults f.name again own (bound name ms)) _ _ (finds_if main f.name 36)
       (subst (λ o. Finds (again_faults f.name again own o) (again_rule f.name again own (bound name ss))) (sym (found_alike name ms ss m)) (again_finds f.name again own (bound name ss)))))

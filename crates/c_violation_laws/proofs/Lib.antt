@@ -6,6 +6,7 @@ pub mod Constants
 pub mod Typings
 pub mod TheMeaningLaws
 pub mod Scopes
+pub mod Known
 pub mod AlikeTerms
 pub mod Rising
 pub mod Marks
@@ -18,8 +19,10 @@ pub mod Items
 pub mod Slots
 pub mod WrittenLabels
 pub mod WalkedLabels
+pub mod Inside
 pub mod WrittenFunctions
 pub mod Programs
+pub mod Scoped
 pub mod Comments
 pub mod SameFunctions
 pub mod TheProgramLaws

@@ -1,23 +1,24 @@
 -- What stands at file scope, and the whole.
-use Rattle.std.proofs.Common.{◌≡◌, ℕ, Bool, true, false, ◌||◌, cond, List, [], ◌∷◌, ◌++◌, is_some, refl, ap, sym, subst, ◌∙◌, append_assoc, bytes_eq}
-use Rattle.std.specs.Prelude.{option_map, flat_map}
+use Rattle.std.proofs.Common.{◌≡◌, ℕ, Bool, true, false, ◌||◌, cond, List, [], ◌∷◌, ◌++◌, is_some, refl, ap, sym, subst, ◌∙◌, append_assoc, bytes_eq, map, Option, Some, None}
+use Rattle.std.specs.Prelude.{ℤ, option_map, flat_map}
 use Rattle.std.specs.BTreeSet.{insert_key}
 use Rattle.std.specs.declared.cmp.Ordering.{Ordering}
 use Rattle.std.specs.declared.cmp.Ordering.TheVariants.{Less, Equal, Greater}
 use Rattle.std.specs.Ordering.{match_ordering, is_eq}
 use Rattle.std.proofs.lemmas.Map.Text.{is_eq-slice_cmp}
 use Rattle.c_types.specs.Words.{name_cmp}
-use Rattle.c_tree.specs.declared.tree.Top as tree_top
 use Rattle.c_tree.specs.declared.tree.Top.TheVariants as top
+use Rattle.c_layers.specs.Terms.{Term, first_of}
 use Rattle.c_layers.specs.Items.{Declarator}
 use Rattle.c_layers.specs.Tops.{Enumerator, Form, Line, Enum, Globals, Defines, Unread, Top, From}
 use Rattle.c_kinds.specs.declared.binding.Binding.TheVariants.{Constant, Global}
 use Rattle.c_kinds.specs.Scopes.{Scope, bind}
 use Rattle.c_kinds.proofs.Entries.{same_names}
 use Rattle.c_statements.specs.declared.extents.Kinded.{Kinded}
-use Rattle.c_statements.specs.declared.anchors.Anchor.TheVariants.{Before, Last}
-use Rattle.c_statements.specs.Context.{Walk, no_construct}
-use Rattle.c_statements.specs.Declarations.{kinded, shape_of, initial}
+use Rattle.c_statements.specs.declared.anchors.Anchor.TheVariants as anchor
+use Rattle.c_statements.specs.declared.anchors.Anchor.TheVariants.{Last}
+use Rattle.c_statements.specs.Declarations.{kinded, shape_of}
+use Rattle.c_statements.specs.Declarations as walked_names
 use Rattle.c_scopes.specs.Enums.{value_of, or_zero}
 use Rattle.c_scopes.specs.Enums as enums
 use Rattle.c_scopes.specs.Globals as walked_globals
@@ -26,16 +27,18 @@ use Rattle.c_scopes.specs.Files.{File, State, start}
 use Rattle.c_scopes.specs.Files as walked
 use Rattle.c_scopes.specs.Resolving.{program_of}
 use Rattle.c_kinds.specs.Typing.{typed}
-use Rattle.c_reading_defs.specs.Places.{Place}
-use Rattle.c_reading_defs.specs.FilePlaces.{names_at, file_start, InEnum, enum_start, behind_enumerator, global_named, function_named, behind_form, behind_tops}
-use Rattle.c_lexer.specs.Behind.{each_behind}
-use Rattle.c_reading_defs.specs.Programs.{enum_items, globals, form_tops, top_tops, program, defined}
-use Rattle.c_violation_laws.proofs.FileStanding.{start_maps, value_alike, enum_maps, global_maps, function_maps, form_maps}
+use Rattle.c_reading_defs.specs.Scopes.{Identifier, scopes_at, names_for}
+use Rattle.c_reading_defs.specs.FileScopes.{first_before, value_in, constants, global_variable, form_identifiers, IsFileScope}
+use Rattle.c_reading_defs.specs.Written.{constant_at}
+use Rattle.c_reading_defs.specs.Programs.{enum_items, global, form_tops, top_tops, program, defined}
+use Rattle.c_violation_laws.proofs.FileStanding.{in_scopes, file_walk, FileIn, Follow, file_last, value_alike, constant_here, constant_past, global_here, global_values, global_past, function_inside, Before, form_first, tops_rest, file_begins}
+use Rattle.c_violation_laws.proofs.Ordered.{file as ordered_file}
+use Rattle.c_violation_laws.proofs.Marks.{each_marks, enumerator_marks, declarator_marks, form_marks}
 use Rattle.c_reading_defs.specs.Entries.{Entry}
 use Rattle.c_reading_defs.specs.DerivedTops.{IsFile}
 use Rattle.c_violation_laws.proofs.Numbered.{IsApart, AreApart, file_apart}
 use Rattle.c_violation_laws.proofs.Standing.{AreMaps}
-use Rattle.c_violation_laws.proofs.Items.{constant_same, slot_same}
+use Rattle.c_violation_laws.proofs.Items.{constant_same, slot_same, initial_same}
 use Rattle.c_violation_laws.proofs.WrittenFunctions.{function_same}
 
 -- ---- functions with a body
@@ -75,58 +78,58 @@ defined_same word (From first after (Defines f) ∷ xs) name =
     with_one (word f.name) name (bodies_of word xs) (defined word xs) (is_some f.body) (defined_same word xs name)
 defined_same word (From first after Unread ∷ xs) name = defined_same word xs name
 
--- ---- expressions at file scope
+-- ---- what is declared at file scope
 
--- a walk over a file has no slots
-abbrev file_walk : List Scope → Walk
-file_walk ms = record { scopes = ms; slots = [] }
+module _ (word : ℕ → List ℕ) (ss : List (List Identifier)) where
+  given_same : (ms known : List Scope) → AreMaps ms known → (t : Option Term) → option_map (walked_names.constant_at (in_scopes word ms)) t ≡ option_map (constant_at typed (λ z. in_scopes word known)) t
+  given_same ms known m None = refl
+  given_same ms known m (Some t) = ap Some (constant_same word (file_walk ms) known m t)
 
-abbrev file_place : List Scope → Place
-file_place ss = record { scopes = ss; around = no_construct }
+  enums_same : (es : List Enumerator) (before : Option ℤ) (ms : List Scope) (zs : List Identifier) (ns : List ℕ) → FileIn ms ss (constants typed word ss before es ++ zs) (each_marks enumerator_marks es ++ ns) → Follow ns zs
+      → enums.enum_items es before (in_scopes word ms) ≡ enum_items typed word ss before es
+  enums_same [] before ms zs ns h follow = refl
+  enums_same (e ∷ es) before ms zs ns h follow =
+      let known = scopes_at ss e.name in
+      let m = constant_here word ss e es before ms zs ns h follow in
+      let v = value_of (in_scopes word ms) e.value before in
+      let same = value_alike word ms known m e.value before in
+      let rest = ap (λ z. enums.enum_items es z (in_scopes word (bind (word e.name) (Constant (or_zero v)) ms))) same
+      ∙ enums_same es (value_in typed word ss before e) (bind (word e.name) (Constant (or_zero v)) ms) zs ns (constant_past word ss e es before ms zs ns v same h) follow in
+      λ i. record { name = word e.name; given = given_same ms known m e.value i; value = or_zero (same i) } ∷ rest i
 
-module _ (word : ℕ → List ℕ) where
-  enums_same : (es : List Enumerator) (p : InEnum) (ms : List Scope) → AreMaps ms p.scopes → enums.enum_items es p.value (names_at word ms) ≡ enum_items typed word es p
-  enums_same [] p ms h = refl
-  enums_same (e ∷ es) p ms h =
-      let v = value_of (names_at word ms) e.value p.value in
-      let same = value_alike word ms p.scopes h e.value p.value in
-      let ns = bind (word e.name) (Constant (or_zero v)) ms in
-      let rest = ap (λ z. enums.enum_items es z (names_at word ns)) same ∙ enums_same es (behind_enumerator typed word e p) ns (enum_maps word e p ms h) in
-      λ i. record { name = word e.name; given = option_map (λ t. constant_same word (file_walk ms) (file_place p.scopes) h t i) e.value; value = or_zero (same i) } ∷ rest i
-
-  globals_same : (static : Bool) (k : Kinded) (ds : List Declarator) (ms ss : List Scope) → AreMaps ms ss → walked_globals.globals static k ds (names_at word ms) ≡ globals typed word static k ds ss
-  globals_same static k [] ms ss h = refl
-  globals_same static k (d ∷ ds) ms ss h =
-      let ns = bind (word d.name) (Global (shape_of k d)) ms in
-      let ts = global_named word k d ss in
-      let g = global_maps word k d ms ss h in
-      let rest = globals_same static k ds ns ts g in
-      λ i. top.Global (record {
-        slot = slot_same word (file_walk ms) (file_place ss) h k d i;
-        init = initial (λ t. constant_same word (file_walk ns) (file_place ts) g t i) d.value;
-        file_only = static;
-      }) ∷ rest i
+  globals_same : (static : Bool) (k : Kinded) (ds : List Declarator) (ms : List Scope) (zs : List Identifier) (ns : List ℕ) → FileIn ms ss (map (global_variable word k) ds ++ zs) (each_marks declarator_marks ds ++ ns) → Follow ns zs
+      → walked_globals.globals static k ds (in_scopes word ms) ≡ map (global typed word ss static k) ds
+  globals_same static k [] ms zs ns h follow = refl
+  globals_same static k (d ∷ ds) ms zs ns h follow =
+      let inner = bind (word d.name) (Global (shape_of k d)) ms in
+      let here = global_here word ss k d ds ms zs ns h follow in
+      let values = global_values word ss k d ds ms zs ns h follow in
+      let given = initial_same values.lo values.hi (walked_names.constant_at (in_scopes word inner)) (constant_at typed (names_for word ss))
+      (λ t l g. constant_same word (file_walk inner) (scopes_at ss (first_of t)) (values.sees (first_of t) l g) t) d.value values.order in
+      let rest = globals_same static k ds inner zs ns (global_past word ss k d ds ms zs ns h follow) follow in
+      λ i. top.Global (record { slot = slot_same word (file_walk ms) (scopes_at ss d.name) here k d i; init = given i; file_only = static }) ∷ rest i
 
 -- ---- the whole
 
-module _ (file : File) where
-  form_same : (first : ℕ) (form : Form) (s : State) (ss : List Scope) → IsApart form → AreMaps s.scopes ss → walked.form_tops file first form s ≡ form_tops typed file first form ss
-  form_same first Line s ss a h = refl
-  form_same first (Enum es) s ss a h = λ i. top.Enum (enums_same file.word es (enum_start ss) s.scopes h i) ∷ []
-  form_same first (Globals static d) s ss a h = globals_same file.word static (kinded file.word d) d.names s.scopes ss h
-  form_same first (Defines f) s ss a h = λ i. top.Function (function_same file.word file.notes f a (walked.function_declared file f s).scopes (function_named file f ss) (function_maps file f s ss h) i) ∷ []
-  form_same first Unread s ss a h = refl
+module _ (file : File) (ss : List (List Identifier)) where
+  form_same : (first : ℕ) (form : Form) (s : State) → IsApart form → FileIn s.scopes ss (form_identifiers typed file ss form) (form_marks form) → walked.form_tops file first form s ≡ form_tops typed file ss first form
+  form_same first Line s a h = refl
+  form_same first (Enum es) s a h = λ i. top.Enum (enums_same file.word ss es first_before s.scopes [] [] (file_last s.scopes ss (constants typed file.word ss first_before es) (each_marks enumerator_marks es) h) (λ mid hi r. tt) i) ∷ []
+  form_same first (Globals static d) s a h =
+      let k = kinded file.word d in
+      globals_same file.word ss static k d.names s.scopes [] [] (file_last s.scopes ss (map (global_variable file.word k) d.names) (each_marks declarator_marks d.names) h) (λ mid hi r. tt)
+  form_same first (Defines f) s a h =
+      let g = function_inside file ss f s h in
+      λ i. top.Function (function_same file.word file.notes f a (walked.function_declared file f s).scopes ss g.lo g.hi g.sees g.order i) ∷ []
+  form_same first Unread s a h = refl
 
-  -- those of these, behind what is in the scopes, without the Notes at the end
-  abbrev tops_of : List Top → List Scope → List tree_top.Top
-  tops_of xs ss = flat_map (λ ts. ts) (each_behind (λ before x. top_tops typed file x (behind_tops typed file before ss)) xs)
+  tops_same : (xs : List Top) (s : State) → AreApart xs → Before file ss xs s → walked.tops_of file xs s ≡ flat_map (top_tops typed file ss) xs ++ walked.notes_tops file Last
+  tops_same [] s a h = refl
+  tops_same (From first after form ∷ xs) s a h =
+      let t = From first after form in
+      (λ i. (walked.notes_tops file (anchor.Before first) ++ form_same first form s a.0 (form_first file ss first after form xs s h) i) ++ tops_same xs (walked.behind_form file form s) a.1 (tops_rest file ss first after form xs s h) i)
+      ∙ sym (append_assoc (top_tops typed file ss t) (flat_map (top_tops typed file ss) xs) (walked.notes_tops file Last))
 
-  tops_same : (xs : List Top) (s : State) (ss : List Scope) → AreApart xs → AreMaps s.scopes ss → walked.tops_of file xs s ≡ tops_of xs ss ++ walked.notes_tops file Last
-  tops_same [] s ss a h = refl
-  tops_same (From first after form ∷ xs) s ss a h =
-      let rest = behind_form typed file form ss in
-      (λ i. (walked.notes_tops file (Before first) ++ form_same first form s ss a.0 h i) ++ tops_same xs (walked.behind_form file form s) rest a.1 (form_maps file form s ss h) i)
-      ∙ sym (append_assoc (top_tops typed file (From first after form) ss) (tops_of xs rest) (walked.notes_tops file Last))
-
-  pub program_same : (entries : List Entry) (xs : List Top) → IsFile 0 entries xs → program_of file xs ≡ program typed file xs
-  program_same entries xs derives = λ i. record { tops = tops_same xs start file_start (file_apart 0 entries xs derives) start_maps i }
+pub program_same : (file : File) (entries : List Entry) (xs : List Top) → IsFile 0 entries xs → (scope : List Identifier) → IsFileScope typed file xs scope → program_of file xs ≡ program typed file scope xs
+program_same file entries xs derives scope e =
+    λ i. record { tops = tops_same file (scope ∷ []) xs start (file_apart 0 entries xs derives) (file_begins file xs scope _ e (ordered_file 0 entries xs derives)) i }

@@ -16,6 +16,8 @@ use Rattle.c_scopes.specs.Resolving.{file_at, program_of, violation_of, least}
 use Rattle.c_kinds.specs.Typing.{typed}
 use Rattle.c_reading_defs.specs.Entries.{Entry}
 use Rattle.c_reading_defs.specs.DerivedTops.{IsFile}
+use Rattle.c_reading_defs.specs.Scopes.{Identifier}
+use Rattle.c_reading_defs.specs.FileScopes.{IsFileScope}
 use Rattle.c_reading_defs.specs.Programs.{program, defined, file_written}
 use Rattle.c_violation_laws.proofs.Comments.{notes_same}
 use Rattle.c_violation_laws.proofs.Programs.{program_same, defined_same}
@@ -72,8 +74,9 @@ module _ (flat : FlatCounts) (text : List ℕ) (tokens : List Token) (comments :
       ∙ (λ i. violation_of (noted i) xs)
 
   -- and is the same program
-  pub program_written : (entries : List Entry) → IsFile 0 entries xs → program_of (file_at flat text tokens comments xs) xs ≡ program typed (file_written flat text tokens comments xs) xs
-  program_written entries derives =
+  pub program_written : (entries : List Entry) → IsFile 0 entries xs → (scope : List Identifier) → IsFileScope typed (file_written flat text tokens comments xs) xs scope
+      → program_of (file_at flat text tokens comments xs) xs ≡ program typed (file_written flat text tokens comments xs) scope xs
+  program_written entries derives scope e =
       (λ i. record { tops = tops_same (file_at flat text tokens comments xs) (defined (word_of text tokens) xs) (defined_same (word_of text tokens) xs) xs start i })
       ∙ (λ i. program_of (noted i) xs)
-      ∙ program_same (file_written flat text tokens comments xs) entries xs derives
+      ∙ program_same (file_written flat text tokens comments xs) entries xs derives scope e

@@ -3,7 +3,7 @@ use Rattle.std.proofs.Common.{◌≡◌, inl, inr, ℕ, Bool, true, false, cond,
 use Rattle.c_kinds.specs.declared.binding.Binding.{Binding}
 use Rattle.c_kinds.specs.Scopes.{Scope, found, look_up, or_else, with_name, with_entry, bind, bound, is_bound}
 use Rattle.c_kinds.proofs.Entries.{same_names, names_same, by_bool, found_new}
-use Rattle.c_reading_defs.specs.Bindings.{DeclaresAs, IsDeclared, with_declaration}
+use Rattle.c_reading_defs.specs.Bindings.{DeclaresAs, IsDeclared}
 
 -- each map finds in its scope the first declaration of a name
 abbrev pub AreMaps : List Scope → List Scope → Type 0
@@ -23,6 +23,11 @@ alike [] = tt
 alike (s ∷ ss) = (λ name. refl, alike ss)
 
 -- ---- one more declaration
+
+-- it stands last in the nearest scope
+abbrev pub with_declaration : List ℕ → Binding → List Scope → List Scope
+with_declaration name b [] = []
+with_declaration name b (s ∷ ss) = (s ++ (name, b) ∷ []) ∷ ss
 
 found_behind : (q name : List ℕ) (b : Binding) (s : Scope) → found q (s ++ (name, b) ∷ []) ≡ or_else (found q s) (cond (bytes_eq q name) (Some b) None)
 found_behind q name b [] = refl
