@@ -45,11 +45,11 @@ form_identifiers typing file scopes (Globals static d) = map (global_variable fi
 form_identifiers typing file scopes (Defines f) = function_identifier file f ∷ []
 form_identifiers typing file scopes _ = []
 
--- what is declared in these scopes
+-- what a file declares, where expressions have the names of these scopes
 abbrev pub file_identifiers : Typing → File → List (List Identifier) → List Top → List Identifier
 file_identifiers typing file scopes [] = []
 file_identifiers typing file scopes (From first after form ∷ xs) = form_identifiers typing file scopes form ++ file_identifiers typing file scopes xs
 
--- the scope of a file, in which constants have the values that their expressions have in this same scope
+-- the scope of a file: what it declares, where expressions have the names of this same scope
 abbrev pub IsFileScope : Typing → File → List Top → List Identifier → Type 0
 IsFileScope typing file xs scope = scope ≡ file_identifiers typing file (scope ∷ []) xs

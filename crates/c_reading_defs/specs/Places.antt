@@ -19,11 +19,11 @@ pub record Place : Type 0 where
   -- the constructs round it
   pub around : Around
 
--- the names of an expression there
+-- the names of an expression
 abbrev pub names : InFunction → Place → Term → Env
 names f p t = names_for f.word p.scopes t
 
--- and those of the brackets behind the name at a token
+-- the names of what stands in brackets behind a declared name
 abbrev pub names_behind : InFunction → Place → ℕ → Env
 names_behind f p name = names_at f.word p.scopes name
 
@@ -35,7 +35,7 @@ variable f k d = record { at = d.name; name = f.word d.name; binding = Local (va
 abbrev pub declared : InFunction → Declaration → List Identifier
 declared f d = map (variable f (kinded f.word d)) d.names
 
--- by an item itself; what is within it has scopes of its own
+-- by an item of a list; what stands within the item has scopes of its own
 abbrev pub item_identifiers : InFunction → Item → List Identifier
 item_identifiers f (Declares first after d) = declared f d
 item_identifiers f (States ls s) = []
@@ -57,7 +57,7 @@ parameter_identifier f x = elim x.name [ Some at ↦ record { at = at; name = f.
 abbrev pub within : InFunction → Body → Place → Place
 within f b p = record { scopes = list_identifiers f (items_in b) ∷ p.scopes; around = p.around }
 
--- so is the first part of a `for`, to its end
+-- so is a `for`, with what its first part declares
 abbrev pub within_for : InFunction → Start → Place → Place
 within_for f start p = record { scopes = start_identifiers f start ∷ p.scopes; around = p.around }
 

@@ -23,7 +23,7 @@ scopes_at scopes token = map (known_at token) scopes ++ known_scope ∷ []
 abbrev pub names_at : (ℕ → List ℕ) → List (List Identifier) → ℕ → Env
 names_at word scopes token = record { word = word; scopes = scopes_at scopes token }
 
--- An expression has the names that are known at its first token. But what stands in square brackets behind a declared name has
--- those that are known at that name, and so has the value of an enum constant: they are in front of its scope (6.2.1, 7).
+-- An expression has the names that are known at its first token. What stands in square brackets behind a declared name, and the
+-- value of an enum constant, have those that are known at that name, since its scope begins behind them (6.2.1, 7).
 abbrev pub names_for : (ℕ → List ℕ) → List (List Identifier) → Term → Env
 names_for word scopes t = names_at word scopes (first_of t)

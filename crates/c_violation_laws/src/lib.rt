@@ -2,7 +2,8 @@
 //! the same. Names are bound and expressions typed as defined, the program is the one that the file writes, and the
 //! violation that is reported is the least of all places where a rule for names, kinds or statements is broken.
 //!
-//! The definitions stand in c_reading_defs. The functions here run no code: their contracts are the laws.
+//! The definitions stand in c_reading_defs. They tell places by the numbers of tokens, so the laws are of what is derived, whose
+//! tokens stand in text order. The functions here run no code: their contracts are the laws.
 #![tactic(auto)]
 
 ghost use Rattle.c_violation_laws.specs.MeaningLaws.{MeaningLaws};
