@@ -30,7 +30,7 @@ use Rattle.c_tree.specs.Views.{layer_at, tree_at, before}
 use Rattle.c_tree.proofs.Views.{trees-at}
 use Rattle.flat_items.specs.declared.plans.Plan as L
 use Rattle.flat_items.specs.declared.plans.Cases as C
-use Rattle.flat_items.specs.Forms.{switch_breaks, entered_of, past_among, kept_form, scattered_form, local_form, is_breaks}
+use Rattle.flat_items.specs.Forms.{switch_breaks, entered_of, past_among, kept_form, scattered_form, local_form}
 use Rattle.flat_items.specs.Pieces.{number_tests}
 use Rattle.flat_items.specs.Plans.{plan_of, case_names, number_label}
 use Rattle.flat_items.proofs.Joining.{joined}
@@ -60,12 +60,6 @@ switch_item p h b c r s d =
 
 -- ---- items that hold no list
 
-pub last_other : (p : Plan) (h : Here) (b c : Aim) (r : Arrivals) (x : Item) → ((a : List Item) → x ≡ Block a → ⊥) → flat_last_item p h b c r (tree_at x) ≡ Nil
-last_other p h b c r x other = put (out-Item x) (sym (roll-out-Item x)) where
-  put : (y : Item-F Item Real.Section) → x ≡ roll-Item y → flat_last_item p h b c r (layer_at y) ≡ Nil
-  put (O.Block a) e = absurd (other a (e ∙ rolls-Block a))
-  put _ e = refl
-
 -- an item that stays as it is, with no number of its own
 pub record IsSame (p : Plan) (h : Here) (b c : Aim) (r : Arrivals) (x : Tree) : Type 0 where
   pub stays : flat_item p h b c r x ≡ one x
@@ -90,107 +84,6 @@ same_item p h b c r x i w d f s k v br co g m ar = put (out-Item x) (sym (roll-o
   put (O.Mark l) e = absurd (m l (e ∙ rolls-Mark l))
   put (O.Arrival z) e = absurd (ar z (e ∙ rolls-Arrival z))
   put y e = record { stays = refl; still = still h }
-
-no_break : (e : Ending) → if_jumps e ≡ Breaks → ⊥
-no_break Gone h = cc
-no_break Breaks h = cc
-no_break Jumps h = cc
-no_break Otherwise h = cc
-
-no_break_if : (y : Bool) (e : Ending) → cond y (if_jumps e) Otherwise ≡ Breaks → ⊥
-no_break_if true e h = no_break e h
-no_break_if false e h = cc
-
-gone_or_no : (y : Bool) → gone_or y ≡ Breaks → ⊥
-gone_or_no true h = cc
-gone_or_no false h = cc
-
-pub past_other : (live : ℕ → Bool) (h : Here) (x : Item) → ((a : List Item) → x ≡ Block a → ⊥) → ending_of live (tree_at x) ≡ Breaks → h ≡ past_item (tree_at x) h
-past_other live h x other = put (out-Item x) (sym (roll-out-Item x)) where
-  put : (y : Item-F Item Real.Section) → x ≡ roll-Item y → ending_of live (layer_at y) ≡ Breaks → h ≡ past_item (layer_at y) h
-  put (O.Block a) e q = absurd (other a (e ∙ rolls-Block a))
-  put O.Break e q = sym (still h)
-  put (O.Switch s d) e q = absurd (no_break_if (is_scattered (sections_of d) && not (leaves (sections_of d))) (last_ending live (sections_of d)) q)
-  put (O.Mark l) e q = absurd (gone_or_no (live l) q)
-  put (O.Local x None) e q = cc
-  put (O.Local x (Some es)) e q = cc
-  put _ e q = cc
-
--- ---- what goes has nothing in it that is numbered
-
-abbrev none_of : (Tree → ℕ) → Type 0
-none_of f = ((x : ℕ) → f (P.Local x None) ≡ 0) × ((l : ℕ) → f (P.Mark l) ≡ 0) × ((a : Forest) → f (P.Block a) ≡ 0)
-
-later_both : (e f : Ending) → is_gone (later e f) ≡ true → (is_gone e ≡ true) × (is_gone f ≡ true)
-later_both Gone f h = (refl, h)
-later_both Breaks f h = absurd (false≢true h)
-later_both Jumps f h = absurd (false≢true h)
-later_both Otherwise f h = absurd (false≢true h)
-
-not_gone : (e : Ending) → is_gone (if_jumps e) ≡ true → ⊥
-not_gone Gone h = false≢true h
-not_gone Breaks h = false≢true h
-not_gone Jumps h = false≢true h
-not_gone Otherwise h = false≢true h
-
-not_gone_if : (y : Bool) (e : Ending) → is_gone (cond y (if_jumps e) Otherwise) ≡ true → ⊥
-not_gone_if true e h = not_gone e h
-not_gone_if false e h = false≢true h
-
-module _ (live : ℕ → Bool) (f : Tree → ℕ) (none : none_of f) where
-  mutual
-    nothing : (xs : Forest) → is_gone (ending live xs) ≡ true → total f xs ≡ 0
-    nothing Nil h = refl
-    nothing (Then x xs) h =
-        let both = later_both (ending live xs) (ending_of live x) h in
-        let a = nothing_in x both.1 in
-        let b = nothing xs both.0 in
-        omega arith
-
-    nothing_in : (x : Tree) → is_gone (ending_of live x) ≡ true → total_of f x ≡ 0
-    nothing_in (P.Local x None) h = none.0 x
-    nothing_in (P.Mark l) h = none.1 l
-    nothing_in (P.Block a) h = let e = none.2 a in let g = nothing a h in omega arith
-    nothing_in (P.Switch s d) h = absurd (not_gone_if (is_scattered d && not (leaves d)) (last_ending live d) h)
-    nothing_in (P.Local x (Some es)) h = absurd (false≢true h)
-    nothing_in _ h = absurd (false≢true h)
-
-pub past_gone : (live : ℕ → Bool) (xs : Forest) (h : Here) → is_gone (ending live xs) ≡ true → past xs h ≡ h
-past_gone live xs h e =
-    let a = nothing live constructs_of (λ x. refl, λ l. refl, λ a. refl) xs e in
-    let b = nothing live cases_of (λ x. refl, λ l. refl, λ a. refl) xs e in
-    let c = nothing live variables_of (λ x. refl, λ l. refl, λ a. refl) xs e in
-    same_here (omega arith) (omega arith) (omega arith)
-
--- ---- a list that ends by a `break`
-
-pub breaks_is : (e : Ending) → is_breaks e ≡ true → e ≡ Breaks
-breaks_is Breaks h = refl
-breaks_is Gone h = absurd (false≢true h)
-breaks_is Jumps h = absurd (false≢true h)
-breaks_is Otherwise h = absurd (false≢true h)
-
-pub other_end : (e : Ending) (a b : Forest) → is_breaks e ≡ false → if_breaks e a b ≡ b
-other_end Breaks a b h = absurd (false≢true (sym h))
-other_end Gone a b h = refl
-other_end Jumps a b h = refl
-other_end Otherwise a b h = refl
-
-later_kept : (e f : Ending) → is_gone e ≡ false → later e f ≡ e
-later_kept Gone f h = absurd (false≢true (sym h))
-later_kept Breaks f h = refl
-later_kept Jumps f h = refl
-later_kept Otherwise f h = refl
-
--- where something stays behind an item, the list ends as behind it
-pub ends_on : (live : ℕ → Bool) (xs : List Item) (i : ℕ) (x : Item) → i < length xs → x ≡ get_or xs i x → goes live xs (i + 1) ≡ false → ending live (trees_of (drop i xs)) ≡ ending live (trees_of (drop (i + 1) xs))
-ends_on live xs i x l e g = ap (ending live) (trees-at xs i x l e) ∙ later_kept (ending live (trees_of (drop (i + 1) xs))) (ending_of live (tree_at x)) g
-
--- behind the item by which the list ends
-pub past_last : (live : ℕ → Bool) (xs : List Item) (i : ℕ) (x : Item) → i < length xs → x ≡ get_or xs i x → goes live xs (i + 1) ≡ true → (h h' all : Here) → h' ≡ past_item (tree_at x) h → past (trees_of (drop i xs)) h ≡ all → h' ≡ all
-past_last live xs i x l e g h h' all q inv =
-    let rest = trees_of (drop (i + 1) xs) in
-    q ∙ sym (past_gone live rest (past_item (tree_at x) h) g) ∙ sym (past_more (tree_at x) rest h) ∙ sym (ap (λ a. past a h) (trees-at xs i x l e)) ∙ inv
 
 -- ---- a scattered switch
 

@@ -4,3 +4,4 @@ pub mod Tests
 pub mod Steps
 pub mod Arms
 pub mod SoughtPlaces
+pub mod LastItems

@@ -71,27 +71,6 @@ walk_step p b c r xs i x l e h h' out new all q n inv =
 pub walk_end : (p : Plan) (b c : Aim) (r : Arrivals) (xs : List Item) (i : ℕ) → length xs ≤ i → (h : Here) (out all : Forest) → join out (flat p h b c r (trees_of (drop i xs))) ≡ all → out ≡ all
 walk_end p b c r xs i l h out all inv = sym (join-nil out) ∙ sym (ap (λ a. join out (flat p h b c r a)) (trees-end xs i l)) ∙ inv
 
--- ---- a list that ends by a `break`
-
-pub last_step : (p : Plan) (b c : Aim) (r : Arrivals) (xs : List Item) (i : ℕ) (x : Item) → i < length xs → x ≡ get_or xs i x → goes p.live xs (i + 1) ≡ false → (h h' : Here) (out new all : Forest) → h' ≡ past_item (tree_at x) h → new ≡ join out (flat_item p h b c r (tree_at x))
-    → join out (flat_last p h b c r (trees_of (drop i xs))) ≡ all → join new (flat_last p h' b c r (trees_of (drop (i + 1) xs))) ≡ all
-last_step p b c r xs i x l e g h h' out new all q n inv =
-    let rest = trees_of (drop (i + 1) xs) in
-    let y = flat_item p h b c r (tree_at x) in
-    ap (λ z. join z (flat_last p h' b c r rest)) n ∙ joined out y (flat_last p h' b c r rest)
-    ∙ ap (λ g. join out (join y (flat_last p g b c r rest))) q
-    ∙ sym (ap (λ a. join out (flat_last p h b c r a)) (trees-at xs i x l e) ∙ ap (λ z. join out (cond z (flat_last_item p h b c r (tree_at x)) (join y (flat_last p (past_item (tree_at x) h) b c r rest)))) g) ∙ inv
-
-pub last_here : (p : Plan) (b c : Aim) (r : Arrivals) (xs : List Item) (i : ℕ) (x : Item) → i < length xs → x ≡ get_or xs i x → goes p.live xs (i + 1) ≡ true → (h : Here) (out all : Forest)
-    → join out (flat_last p h b c r (trees_of (drop i xs))) ≡ all → join out (flat_last_item p h b c r (tree_at x)) ≡ all
-last_here p b c r xs i x l e g h out all inv =
-    let rest = trees_of (drop (i + 1) xs) in
-    let y = flat_item p h b c r (tree_at x) in
-    sym (ap (λ a. join out (flat_last p h b c r a)) (trees-at xs i x l e) ∙ ap (λ z. join out (cond z (flat_last_item p h b c r (tree_at x)) (join y (flat_last p (past_item (tree_at x) h) b c r rest)))) g) ∙ inv
-
-pub last_end : (p : Plan) (b c : Aim) (r : Arrivals) (xs : List Item) (i : ℕ) → length xs ≤ i → (h : Here) (out all : Forest) → join out (flat_last p h b c r (trees_of (drop i xs))) ≡ all → out ≡ all
-last_end p b c r xs i l h out all inv = sym (join-nil out) ∙ sym (ap (λ a. join out (flat_last p h b c r a)) (trees-end xs i l)) ∙ inv
-
 -- ---- sections
 
 pub place_step_in : (cs : List Real.Section) (i : ℕ) (x : Real.Section) → i < length cs → x ≡ get_or cs i x → (h h' all : Here) → h' ≡ past (trees_of (list_of x)) h → past_among (sections_of (drop i cs)) h ≡ all → past_among (sections_of (drop (i + 1) cs)) h' ≡ all

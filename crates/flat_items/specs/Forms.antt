@@ -51,10 +51,11 @@ kept_form p h c s d = Then (Switch s (flat_sections p (entered_of h) (is_jumpy_s
 abbrev pub scattered_form : Plan → Here → Aim → SelectorTree → Sections → Forest
 scattered_form p h c s d = dissolved p h s d (spread p (inside (Switch s d) h) (scatter_aim p h d) c (names_of p h (switch_kind s) d) d)
 
--- whether a list ends by a `break`
-abbrev pub is_breaks : Ending → Bool
-is_breaks Breaks = true
-is_breaks _ = false
+-- a list without its last item
+abbrev pub but_last : Forest → Forest
+but_last Nil = Nil
+but_last (Then x Nil) = Nil
+but_last (Then x (Then y ys)) = Then x (but_last (Then y ys))
 
 -- the list of a section of a switch that stays
 abbrev pub section_form : Plan → Here → Aim → Aim → Forest → Forest

@@ -6,10 +6,10 @@ ghost use Rattle.c_tree.specs.TestTrees.{test_tree, selector_tree};
 ghost use Rattle.c_tree.specs.Trees.{If, While, Do, Switch, Goto, Break, Continue, NoSection, expression_trees, trees_of, sections_of, join};
 ghost use Rattle.flat_looser_laws.specs.Loose.{NoArrival};
 ghost use Rattle.flat_looser_laws.specs.Pieces.{Stays};
-ghost use Rattle.flat_laws.specs.Parts.{Breaks, is_scattered as the_is_scattered, ending, ending_of, past, past_item};
-ghost use Rattle.flat_laws.specs.FlatForm.{mark_if, arrival, exit, first_here, flat, flat_item, flat_last, flat_last_item, flat_sections, spread};
+ghost use Rattle.flat_laws.specs.Parts.{is_scattered as the_is_scattered, past, past_item};
+ghost use Rattle.flat_laws.specs.FlatForm.{mark_if, arrival, exit, first_here, flat, flat_item, flat_sections, if_breaks, spread};
 ghost use Rattle.flat_questions.specs.Reading.{ending_as};
-ghost use Rattle.flat_items.specs.Forms.{is_breaks, with_parts, entered_of, past_among, while_form, do_form, for_form, kept_form, scattered_form, section_form, section_before, part_form, local_form};
+ghost use Rattle.flat_items.specs.Forms.{but_last, with_parts, entered_of, past_among, while_form, do_form, for_form, kept_form, scattered_form, section_before, part_form, local_form};
 ghost use Rattle.flat_items.specs.Pieces.{behind};
 ghost use Rattle.flat_items.specs.Plans.{aim_of, plan_of, here_of, arrivals_of, case_names};
 ghost use Rattle.c_tree.specs.Views.{tree_at};
@@ -24,7 +24,7 @@ use crate::plans::{Aim, Cases, Here, Plan, Scope, entered, source_label};
 use c_copies::copy_expressions;
 use c_tree::{Expression, Item, Section, Selector, Test};
 use c_types::{List, Memory};
-use flat_questions::{Ending, ends_by, is_flagged, is_scattered, kept_length};
+use flat_questions::{Ending, ends_by, is_flagged, is_scattered};
 use std::alloc::Global;
 
 /// A list of the flat form, and the numbers of what comes behind it.
@@ -241,13 +241,37 @@ fn write_section(
     ensures place { IfOk result (λ it. here_of it ≡ past (trees_of (list_of section.now)) (here_of here)) }
     ensures sections { OnOk result (sections_of out.new ≡ behind (sections_of out.old) (section_before (plan_of plan.now) (here_of here) jumpy (aim_of scope.breaks) (aim_of scope.continues) section.now NoSection)) }
 {
-    let named = plan.named.as_slice();
-    let ending = ends_by(named, &section.list);
-    let made = write_ending(alloc, plan, scope, ending, &section.list, here)?;
+    let none = no_cases(alloc);
+    let made = write_list(alloc, plan, scope, &none, &section.list, here)?;
     let after = made.here;
+    let ending = ends_by(plan.named.as_slice(), &section.list);
+    let list = without_break(alloc, ending, made.items);
     let ends = ends_then(jumpy, section.ends, ending);
-    add_section(alloc, section, made.items, ends, out)?;
+    add_section(alloc, section, list, ends, out)?;
     Ok(after)
+}
+
+/// A list without its last item. An empty one takes no memory.
+fn without_last(alloc: Global, list: List<Item>) -> List<Item>
+    ensures { trees_of result ≡ but_last (trees_of list) }
+{
+    let mut list = list;
+    list.pop();
+    if list.is_empty() {
+        List::new(alloc)
+    } else {
+        list
+    }
+}
+
+/// The flat form of a list that ended so, without the `break` that becomes the end of a section.
+fn without_break(alloc: Global, ending: Ending, list: List<Item>) -> List<Item>
+    ensures { trees_of result ≡ if_breaks (ending_as ending) (but_last (trees_of list)) (trees_of list) }
+{
+    match ending {
+        Ending::Breaks => without_last(alloc, list),
+        _ => list,
+    }
 }
 
 /// Puts a section behind others that has the labels of another, this list and this end. Want of
@@ -268,101 +292,6 @@ pub fn add_section(
         list,
         ends,
     })
-}
-
-/// The list of a section, which ends so.
-#[cycle(write)]
-fn write_ending(
-    alloc: Global,
-    plan: &Plan,
-    scope: Scope,
-    ends: Ending,
-    list: &List<Item>,
-    here: Here,
-) -> Result<Written, Memory>
-    requires { ending_as ends ≡ ending (plan_of plan.now).live (trees_of list.now) }
-    ensures place { IfOk result (λ it. here_of it.here ≡ past (trees_of list.now) (here_of here)) }
-    ensures items { IfOk result (λ it. trees_of it.items ≡ section_form (plan_of plan.now) (here_of here) (aim_of scope.breaks) (aim_of scope.continues) (trees_of list.now)) }
-{
-    let none = no_cases(alloc);
-    if is_break(ends) {
-        write_trimmed(alloc, plan, scope, list, here)
-    } else {
-        write_list(alloc, plan, scope, &none, list, here)
-    }
-}
-
-fn is_break(ends: Ending) -> bool
-    ensures { result ≡ is_breaks (ending_as ends) }
-{
-    match ends {
-        Ending::Breaks => true,
-        _ => false,
-    }
-}
-
-/// A list that ends by a `break`, without it.
-#[cycle(write)]
-fn write_trimmed(
-    alloc: Global,
-    plan: &Plan,
-    scope: Scope,
-    list: &List<Item>,
-    here: Here,
-) -> Result<Written, Memory>
-    ensures place { ending (plan_of plan.now).live (trees_of list.now) ≡ Breaks → IfOk result (λ it. here_of it.here ≡ past (trees_of list.now) (here_of here)) }
-    ensures items { IfOk result (λ it. trees_of it.items ≡ flat_last (plan_of plan.now) (here_of here) (aim_of scope.breaks) (aim_of scope.continues) NoArrival (trees_of list.now)) }
-{
-    let none = no_cases(alloc);
-    let mut items = List::new(alloc);
-    let here = write_last(alloc, plan, scope, &none, list.as_slice(), here, &mut items)?;
-    Ok(Written { items, here })
-}
-
-/// The flat form of a list that ends by a `break`, without it.
-#[cycle(write)]
-fn write_last(
-    alloc: Global,
-    plan: &Plan,
-    scope: Scope,
-    cases: &Cases,
-    items: &[Item],
-    here: Here,
-    out: &mut List<Item>,
-) -> Result<Here, Memory>
-    ensures place { ending (plan_of plan.now).live (trees_of items.now) ≡ Breaks → IfOk result (λ it. here_of it ≡ past (trees_of items.now) (here_of here)) }
-    ensures items { OnOk result (trees_of out.new ≡ join (trees_of out.old) (flat_last (plan_of plan.now) (here_of here) (aim_of scope.breaks) (aim_of scope.continues) (arrivals_of plan.now cases.now) (trees_of items.now))) }
-{
-    let named = plan.named.as_slice();
-    let kept = kept_length(named, items);
-    let mut here = here;
-    for i in 0..items.len() {
-        if kept <= i + 1 {
-            return write_last_item(alloc, plan, scope, cases, &items[i], here, out);
-        }
-        here = write_item(alloc, plan, scope, cases, &items[i], here, out)?;
-    }
-    Ok(here)
-}
-
-/// The flat form of the item by which such a list ends.
-#[cycle(write)]
-fn write_last_item(
-    alloc: Global,
-    plan: &Plan,
-    scope: Scope,
-    cases: &Cases,
-    item: &Item,
-    here: Here,
-    out: &mut List<Item>,
-) -> Result<Here, Memory>
-    ensures place { ending_of (plan_of plan.now).live (tree_at item.now) ≡ Breaks → IfOk result (λ it. here_of it ≡ past_item (tree_at item.now) (here_of here)) }
-    ensures items { OnOk result (trees_of out.new ≡ join (trees_of out.old) (flat_last_item (plan_of plan.now) (here_of here) (aim_of scope.breaks) (aim_of scope.continues) (arrivals_of plan.now cases.now) (tree_at item.now))) }
-{
-    match item {
-        Item::Block(a) => write_last(alloc, plan, scope, cases, a.as_slice(), here, out),
-        _ => Ok(here),
-    }
 }
 
 /// A switch with a case label in a nested statement: items in its place.

@@ -18,13 +18,14 @@ use Rattle.flat_laws.specs.FlatForm.{aim, flat, flat_item, flat_last, flat_last_
 use Rattle.flat_looser_laws.specs.Loose.{NoArrival}
 use Rattle.flat_questions.specs.Reading.{is_flagged, ending_as}
 use Rattle.flat_questions.proofs.EndLaws.{goes, ends_here}
-use Rattle.flat_items.specs.Forms.{entered_of, past_among, kept_form, scattered_form, section_form, with_parts, is_breaks, loop_breaks}
+use Rattle.flat_items.specs.Forms.{entered_of, past_among, kept_form, scattered_form, section_form, with_parts, but_last, loop_breaks}
 use Rattle.flat_items.specs.Pieces.{behind}
 use Rattle.flat_items.specs.Plans.{plan_of, here_of, aim_of, arrivals_of, arrivals_if, case_names}
 use Rattle.c_tree.proofs.TreeLaws.{sections-none}
 use Rattle.flat_items.proofs.Joining.{joined}
-use Rattle.flat_items.proofs.Steps.{same_here, still, past_If, past_While, past_Do, past_For, past_Block, place_step, place_end, walk_step, walk_end, last_step, last_here, last_end, place_step_in, place_end_in, sections_step, sections_end, spread_step, spread_end}
-use Rattle.flat_items.proofs.Arms.{same_item, past_kept, switch_item, last_other, past_other, breaks_is, other_end, ends_on, past_last, inside_scattered, scattered_is, cases_are, local_is}
+use Rattle.flat_items.proofs.Steps.{same_here, still, past_If, past_While, past_Do, past_For, past_Block, place_step, place_end, walk_step, walk_end, place_step_in, place_end_in, sections_step, sections_end, spread_step, spread_end}
+use Rattle.flat_items.proofs.LastItems.{cut_is}
+use Rattle.flat_items.proofs.Arms.{same_item, past_kept, switch_item, inside_scattered, scattered_is, cases_are, local_is}
 use Rattle.flat_items.proofs.Steps.{past_Switch}
 use Rattle.flat_laws.specs.Parts.{switch_labels, cases_among}
 use Rattle.flat_laws.specs.FlatForm.{otherwise_label, scatter_aim}
@@ -257,148 +258,14 @@ write_section-returns-clause-sections t c =
     let d = aim_of c.args.scope.continues in
     let o = out-Section c.args.section.now in
     let a = trees_of o.list in
+    let whole = flat p h b d NoArrival a in
     let before = sections_of c.args.out.now in
-    let e = c.ends_by-ending.ensures ∙ ap (λ z. ending (is_flagged z) a) c.as_slice-named.ensures.value in
-    c.in_ok-add_section.ensures ∙ ap (λ z. behind before (with_parts c.args.section.now z c.ends_then-ends.result)) c.in_ok-made.ensures.items
+    let e = c.ends_by-ending.ensures ∙ ap (λ z. ending (is_flagged z) a) c.as_slice.ensures.value in
+    let made = c.in_ok-made.ensures.items ∙ ap (λ y. flat p h b d (arrivals_if y (case_names c.args.plan.now c.no_cases-none.result)) a) c.no_cases-none.ensures in
+    let list = c.without_break-list.ensures ∙ ap (λ z. if_breaks (ending_as c.ends_by-ending.result) (but_last z) z) made
+        ∙ ap (λ z. if_breaks z (but_last whole) whole) e ∙ cut_is p h b d a (ending p.live a) refl in
+    c.in_ok-add_section.ensures ∙ ap (λ z. behind before (with_parts c.args.section.now z c.ends_then-ends.result)) list
     ∙ ap (λ y. behind before (with_parts c.args.section.now (section_form p h b d a) y)) (c.ends_then-ends.ensures ∙ ap (ends_then c.args.jumpy o.ends) e)
-
-pub write_ending-returns-then-is_break-clause-place : goal.write_ending-returns-then-is_break-clause-place
-write_ending-returns-then-is_break-clause-place t c =
-    IfOk-weaker c.write_trimmed.result _ _ (λ it e. e) (c.write_trimmed.ensures.place (sym c.requires ∙ breaks_is (ending_as c.args.ends) (sym c.is_break.ensures ∙ c.if-is_break.true)))
-
-pub write_ending-returns-then-is_break-clause-items : goal.write_ending-returns-then-is_break-clause-items
-write_ending-returns-then-is_break-clause-items t c =
-    let p = plan_of c.args.plan.now in
-    let h = here_of c.args.here in
-    let b = aim_of c.args.scope.breaks in
-    let d = aim_of c.args.scope.continues in
-    let a = trees_of c.args.list.now in
-    let q = sym c.requires ∙ breaks_is (ending_as c.args.ends) (sym c.is_break.ensures ∙ c.if-is_break.true) in
-    IfOk-weaker c.write_trimmed.result _ _ (λ it e. e ∙ sym (ap (λ z. if_breaks z (flat_last p h b d NoArrival a) (flat p h b d NoArrival a)) q)) c.write_trimmed.ensures.items
-
-pub write_ending-returns : goal.write_ending-returns
-write_ending-returns t c =
-    let p = plan_of c.args.plan.now in
-    let h = here_of c.args.here in
-    let b = aim_of c.args.scope.breaks in
-    let d = aim_of c.args.scope.continues in
-    let a = trees_of c.args.list.now in
-    let q = ap is_breaks (sym c.requires) ∙ sym c.is_break.ensures ∙ c.if-is_break.false in
-    record {
-      place = c.write_list.ensures.place;
-      items = IfOk-weaker c.write_list.result _ _ (λ it e. e ∙ ap (λ y. flat p h b d (arrivals_if y (case_names c.args.plan.now c.no_cases-none.result)) a) c.no_cases-none.ensures
-          ∙ sym (other_end (ending p.live a) (flat_last p h b d NoArrival a) (flat p h b d NoArrival a) q)) c.write_list.ensures.items;
-    }
-
-pub write_trimmed-returns-clause-items : goal.write_trimmed-returns-clause-items
-write_trimmed-returns-clause-items t c =
-    let p = plan_of c.args.plan.now in
-    let h = here_of c.args.here in
-    let b = aim_of c.args.scope.breaks in
-    let d = aim_of c.args.scope.continues in
-    let r = arrivals_of c.args.plan.now c.no_cases-none.result in
-    let y = flat_last p h b d r (trees_of c.as_slice.result.now) in
-    c.in_ok-here.ensures.items ∙ ap (λ z. join (trees_of z) y) c.new-items.ensures ∙ ap (λ z. join z y) trees-none ∙ ap (λ z. flat_last p h b d r (trees_of z)) c.as_slice.ensures.value
-    ∙ ap (λ y. flat_last p h b d (arrivals_if y (case_names c.args.plan.now c.no_cases-none.result)) (trees_of c.args.list.now)) c.no_cases-none.ensures
-
-pub write_last-returns-then-kept-i-clause-items : goal.write_last-returns-then-kept-i-clause-items
-write_last-returns-then-kept-i-clause-items t c =
-    let p = plan_of c.args.plan.now in
-    let h = here_of c.args.here in
-    let out = trees_of c.args.out.now in
-    let b = aim_of c.args.scope.breaks in
-    let d = aim_of c.args.scope.continues in
-    let r = arrivals_of c.args.plan.now c.args.cases.now in
-    let xs = c.args.items.now in
-    let i = c.loop-i.i in
-    let v = c.as_slice-named.ensures.value in
-    let g = here_of c.loop-i.here in
-    let x = c.index-items-i.result in
-    let gone = ap (λ z. goes (is_flagged z) xs (i + 1)) (sym v) ∙ c.kept_length-kept.ensures.gone (i + 1) (omega arith) in
-    on_ok_weaker c.write_last_item.result (λ e. e ∙ last_here p b d r xs i x c.loop-i-test.true c.index-items-i.is gone g (trees_of c.loop-i.out) _ c.loop-i.invariant.items) c.write_last_item.ensures.items
-
-pub write_last-returns-then-kept-i-clause-place : goal.write_last-returns-then-kept-i-clause-place
-write_last-returns-then-kept-i-clause-place t c =
-    λ q.
-    let p = plan_of c.args.plan.now in
-    let h = here_of c.args.here in
-    let xs = c.args.items.now in
-    let i = c.loop-i.i in
-    let v = c.as_slice-named.ensures.value in
-    let g = here_of c.loop-i.here in
-    let x = c.index-items-i.result in
-    let gone = ap (λ z. goes (is_flagged z) xs (i + 1)) (sym v) ∙ c.kept_length-kept.ensures.gone (i + 1) (omega arith) in
-    let last = sym (ends_here p.live xs i (i + 1) x c.loop-i-test.true refl c.index-items-i.is gone) ∙ sym c.loop-i.invariant.ends ∙ q in
-    IfOk-weaker c.write_last_item.result _ _ (λ it e. past_last p.live xs i x c.loop-i-test.true c.index-items-i.is gone g (here_of it) _ e c.loop-i.invariant.place) (c.write_last_item.ensures.place last)
-
-pub write_last-loop-i-preserved : goal.write_last-loop-i-preserved
-write_last-loop-i-preserved t c =
-    let p = plan_of c.args.plan.now in
-    let h = here_of c.args.here in
-    let out = trees_of c.args.out.now in
-    let b = aim_of c.args.scope.breaks in
-    let d = aim_of c.args.scope.continues in
-    let r = arrivals_of c.args.plan.now c.args.cases.now in
-    let xs = c.args.items.now in
-    let i = c.loop-i.i in
-    let v = c.as_slice-named.ensures.value in
-    let g = here_of c.loop-i.here in
-    let x = c.index-items-i-in-loop-i.result in
-    let is = c.index-items-i-in-loop-i.is in
-    let stays = ap (λ z. goes (is_flagged z) xs (i + 1)) (sym v) ∙ c.kept_length-kept.ensures.kept (i + 1) (omega arith) in
-    record {
-      place = place_step xs i x c.loop-i-test.true is g _ _ c.in_ok-here.ensures.place c.loop-i.invariant.place;
-      ends = c.loop-i.invariant.ends ∙ ends_on p.live xs i x c.loop-i-test.true is stays;
-      items = last_step p b d r xs i x c.loop-i-test.true is stays g _ (trees_of c.loop-i.out) (trees_of c.write_item.new.out) _ c.in_ok-here.ensures.place c.in_ok-here.ensures.items c.loop-i.invariant.items;
-    }
-
-pub write_last-returns-clause-place : goal.write_last-returns-clause-place
-write_last-returns-clause-place t c =
-    λ q. place_end c.args.items.now c.loop-i.i c.loop-i-test.false (here_of c.loop-i.here) _ c.loop-i.invariant.place
-
-pub write_last-returns-clause-items : goal.write_last-returns-clause-items
-write_last-returns-clause-items t c =
-    let p = plan_of c.args.plan.now in
-    let h = here_of c.args.here in
-    let out = trees_of c.args.out.now in
-    let b = aim_of c.args.scope.breaks in
-    let d = aim_of c.args.scope.continues in
-    let r = arrivals_of c.args.plan.now c.args.cases.now in
-    last_end p b d r c.args.items.now c.loop-i.i c.loop-i-test.false (here_of c.loop-i.here) (trees_of c.loop-i.out) _ c.loop-i.invariant.items
-
-pub write_last_item-returns-in-Block-clause-place : goal.write_last_item-returns-in-Block-clause-place
-write_last_item-returns-in-Block-clause-place t c =
-    λ q.
-    let p = plan_of c.args.plan.now in
-    let h = here_of c.args.here in
-    let e = ap tree_at c.in-Block.is ∙ at-Block c.in-Block.a in
-    let v = c.as_slice.ensures.value in
-    IfOk-weaker c.write_last.result _ _ (λ it f. f ∙ ap (λ z. past (trees_of z) h) v ∙ past_Block (trees_of c.in-Block.a) h ∙ sym (ap (λ y. past_item y h) e))
-    (c.write_last.ensures.place (ap (λ z. ending p.live (trees_of z)) v ∙ sym (ap (ending_of p.live) e) ∙ q))
-
-pub write_last_item-returns-in-Block-clause-items : goal.write_last_item-returns-in-Block-clause-items
-write_last_item-returns-in-Block-clause-items t c =
-    let p = plan_of c.args.plan.now in
-    let h = here_of c.args.here in
-    let out = trees_of c.args.out.now in
-    let b = aim_of c.args.scope.breaks in
-    let d = aim_of c.args.scope.continues in
-    let r = arrivals_of c.args.plan.now c.args.cases.now in
-    let e = ap tree_at c.in-Block.is ∙ at-Block c.in-Block.a in
-    on_ok_weaker c.write_last.result (λ f. f ∙ ap (λ z. join out (flat_last p h b d r (trees_of z))) c.as_slice.ensures.value ∙ sym (ap (λ y. join out (flat_last_item p h b d r y)) e)) c.write_last.ensures.items
-
-pub write_last_item-returns-in_default : goal.write_last_item-returns-in_default
-write_last_item-returns-in_default t c =
-    let p = plan_of c.args.plan.now in
-    let h = here_of c.args.here in
-    let out = trees_of c.args.out.now in
-    let b = aim_of c.args.scope.breaks in
-    let d = aim_of c.args.scope.continues in
-    let r = arrivals_of c.args.plan.now c.args.cases.now in
-    record {
-      place = λ q. past_other p.live h c.args.item.now c.in_default.not-Block q;
-      items = sym (join-nil out) ∙ ap (join out) (sym (last_other p h b d r c.args.item.now c.in_default.not-Block));
-    }
 
 pub write_scattered-returns-clause-place : goal.write_scattered-returns-clause-place
 write_scattered-returns-clause-place t c =

@@ -1,7 +1,7 @@
 use Rattle.std.proofs.Common.{◌≡◌, drop}
 use Rattle.c_tree.specs.Trees.{trees_of, sections_of, join}
-use Rattle.flat_laws.specs.Parts.{past, ending}
-use Rattle.flat_laws.specs.FlatForm.{flat, flat_last, flat_sections, spread}
+use Rattle.flat_laws.specs.Parts.{past}
+use Rattle.flat_laws.specs.FlatForm.{flat, flat_sections, spread}
 use Rattle.flat_items.specs.Forms.{past_among}
 use Rattle.flat_items.specs.Pieces.{behind}
 use Rattle.flat_items.specs.Plans.{plan_of, here_of, aim_of, arrivals_of, case_names}
@@ -11,13 +11,6 @@ abbrev pub invariant-write_items-loop-i : goal.invariant-write_items-loop-i
 invariant-write_items-loop-i l = record {
   place : past (trees_of (drop l.i l.items)) (here_of l.here) ≡ past (trees_of l.items) (here_of l.initial.here);
   items : join (trees_of l.out) (flat (plan_of l.plan) (here_of l.here) (aim_of l.scope.breaks) (aim_of l.scope.continues) (arrivals_of l.plan l.cases) (trees_of (drop l.i l.items))) ≡ join (trees_of l.initial.out) (flat (plan_of l.plan) (here_of l.initial.here) (aim_of l.scope.breaks) (aim_of l.scope.continues) (arrivals_of l.plan l.cases) (trees_of l.items));
-}
-
-abbrev pub invariant-write_last-loop-i : goal.invariant-write_last-loop-i
-invariant-write_last-loop-i l = record {
-  place : past (trees_of (drop l.i l.items)) (here_of l.here) ≡ past (trees_of l.items) (here_of l.initial.here);
-  ends : ending (plan_of l.plan).live (trees_of l.items) ≡ ending (plan_of l.plan).live (trees_of (drop l.i l.items));
-  items : join (trees_of l.out) (flat_last (plan_of l.plan) (here_of l.here) (aim_of l.scope.breaks) (aim_of l.scope.continues) (arrivals_of l.plan l.cases) (trees_of (drop l.i l.items))) ≡ join (trees_of l.initial.out) (flat_last (plan_of l.plan) (here_of l.initial.here) (aim_of l.scope.breaks) (aim_of l.scope.continues) (arrivals_of l.plan l.cases) (trees_of l.items));
 }
 
 abbrev pub invariant-write_sections-loop-i : goal.invariant-write_sections-loop-i
