@@ -1,5 +1,5 @@
-use Rattle.std.proofs.Common.{◌≡◌, ℕ, zero, suc, ◌+◌, ◌-◌, ◌<◌, ◌≤◌, List, [], ◌∷◌, ◌++◌, length, take, drop, slice_range, refl, sym, ap, ◌∙◌, arith, add-one, append_assoc}
-use Rattle.std.proofs.lemmas.List.{drop-take}
+use Rattle.std.proofs.Common.{◌≡◌, ℕ, zero, suc, ◌+◌, ◌-◌, ◌<◌, ◌≤◌, List, [], ◌∷◌, ◌++◌, length, take, drop, slice_range, refl, sym, ap, ◌∙◌, arith, add-one, append_assoc, length-append}
+use Rattle.std.proofs.lemmas.List.{drop-take, drop_at}
 use Rattle.std.proofs.Math.ListN.{set, length-take, length-drop}
 use Rattle.c_tree.specs.declared.tree.Item.{Item, If}
 use Rattle.c_tree.specs.declared.tree.Test.{Off}
@@ -9,6 +9,16 @@ use Rattle.c_tree.specs.Join.{guarded, joined_after}
 
 pub cut_front : {X : Type 0} (xs : List X) (i j : ℕ) → i ≤ j → drop i (take j xs) ≡ slice_range xs i j
 cut_front xs i j h = let e : i + (j - i) ≡ j = omega arith in ap (λ n. drop i (take n xs)) (sym e) ∙ drop-take i (j - i) xs
+
+-- a stretch that was turned behind what comes after it
+
+pub cut_behind : {X : Type 0} (xs ys mid : List X) (i j n : ℕ) → i ≤ j → j ≤ length xs → n ≡ length xs → ys ≡ take i xs ++ (drop (j - i) (drop i xs) ++ take (j - i) (drop i xs)) → mid ≡ drop (n - (j - i)) ys → mid ≡ slice_range xs i j
+cut_behind xs ys mid i j n h k l e f =
+    let front = take i xs in
+    let tail = drop (j - i) (drop i xs) in
+    let part = take (j - i) (drop i xs) in
+    let m : length (front ++ tail) ≡ n - (j - i) = omega (arith, l, length-append front tail, length-take i xs, length-drop (j - i) (drop i xs), length-drop i xs) in
+    f ∙ ap (drop (n - (j - i))) (e ∙ sym (append_assoc front tail part)) ∙ drop_at (front ++ tail) part (n - (j - i)) m
 
 -- an item put into what is left of a list from which a stretch was cut
 

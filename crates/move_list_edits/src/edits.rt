@@ -12,8 +12,40 @@ fn give_back<T: Drop>(items: &mut Vec<T>)
     }
 }
 
-/// Moves the items from one place up to another out. After `Memory` nothing has changed.
-pub fn cut<T: Drop>(items: &mut Vec<T>, from: usize, to: usize) -> Result<Vec<T>, Memory>
+/// Puts so many items from a place on behind the others.
+fn turn<T: Drop>(items: &mut Vec<T>, from: usize, count: usize)
+    requires { from + count ≤ vec_len items.old }
+    ensures items { items.new.items ≡ take from items.old.items ++ (drop count (drop from items.old.items) ++ take count (drop from items.old.items)) }
+    ensures len { vec_len items.new ≡ vec_len items.old }
+{
+    items.slice_mut(from..).rotate_left(count);
+}
+
+/// `cut` of fewer items than stand behind them, which are moved once and take no room elsewhere.
+fn cut_few<T: Drop>(items: &mut Vec<T>, from: usize, to: usize) -> Result<Vec<T>, Memory>
+    requires start_le_end { from ≤ to }
+    requires in_bounds { to ≤ vec_len items.old }
+    ensures cut { IfOk result (λ mid. mid.items ≡ slice_range items.old.items from to) }
+    ensures rest { OnOk result (items.new.items ≡ take from items.old.items ++ drop to items.old.items) }
+    ensures err { OnErr result (items.new.items ≡ items.old.items) }
+{
+    let count = to - from;
+    let keep = items.len() - count;
+    turn(items, from, count);
+    match items.split_off(keep) {
+        Ok(mid) => {
+            give_back(items);
+            Ok(mid)
+        }
+        Err(_) => {
+            turn(items, from, keep - from);
+            Err(Memory)
+        }
+    }
+}
+
+/// `cut` of no fewer items than stand behind them.
+fn cut_many<T: Drop>(items: &mut Vec<T>, from: usize, to: usize) -> Result<Vec<T>, Memory>
     requires start_le_end { from ≤ to }
     requires in_bounds { to ≤ vec_len items.old }
     ensures cut { IfOk result (λ mid. mid.items ≡ slice_range items.old.items from to) }
@@ -31,6 +63,21 @@ pub fn cut<T: Drop>(items: &mut Vec<T>, from: usize, to: usize) -> Result<Vec<T>
     match mid {
         Ok(mid) => Ok(mid),
         Err(_) => Err(Memory),
+    }
+}
+
+/// Moves the items from one place up to another out. After `Memory` nothing has changed.
+pub fn cut<T: Drop>(items: &mut Vec<T>, from: usize, to: usize) -> Result<Vec<T>, Memory>
+    requires start_le_end { from ≤ to }
+    requires in_bounds { to ≤ vec_len items.old }
+    ensures cut { IfOk result (λ mid. mid.items ≡ slice_range items.old.items from to) }
+    ensures rest { OnOk result (items.new.items ≡ take from items.old.items ++ drop to items.old.items) }
+    ensures err { OnErr result (items.new.items ≡ items.old.items) }
+{
+    if to - from < items.len() - to {
+        cut_few(items, from, to)
+    } else {
+        cut_many(items, from, to)
     }
 }
 

@@ -1,6 +1,6 @@
 use Rattle.std.proofs.Common.{drop, ap, ◌∙◌}
 use Rattle.move_list_edits.proofs.CutLemmas.{cut_front}
-use Rattle.move_list_edits.proofs.edits.cut.Goals as goal
+use Rattle.move_list_edits.proofs.edits.cut_many.Goals as goal
 
 pub returns-in-Ok-mid-clause-cut : goal.returns-in-Ok-mid-clause-cut
 returns-in-Ok-mid-clause-cut g c =
