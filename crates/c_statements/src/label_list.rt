@@ -23,18 +23,20 @@ pub struct FunctionLabels<'a> {
 #[tactic(auto, using(crate::proofs::Lists::names_behind))]
 fn add_name<'a>(
     alloc: Global,
+    known: bool,
     numbers: &mut LabelNumbers<'a>,
     names: &mut List<Name>,
     name: &'a [u8],
 ) -> Result<(), Memory>
+    requires { known ≡ has_label numbers.old name.now }
     ensures numbers { OnOk result (numbers.new ≡ spec.with_number name.now numbers.old) }
     ensures names { OnOk result (names.new ≡ names.old ++ spec.new_name (has_label numbers.old name.now) name.now []) }
 {
-    if numbers.has(name) {
+    if known {
         return Ok(());
     }
     names.push(name_of(alloc, name)?)?;
-    numbers.add(name)
+    numbers.add_new(name)
 }
 
 /// The labels with these tokens as their names. Those whose name an earlier one has are reported.
@@ -54,8 +56,9 @@ pub fn function_labels<'a>(
     let mut names = List::new(alloc);
     while let Some(at) = left.pop() {
         let name = words.get(at);
-        report_if(faults, numbers.has(name), at, 32)?;
-        add_name(alloc, &mut numbers, &mut names, name)?;
+        let known = numbers.has(name);
+        report_if(faults, known, at, 32)?;
+        add_name(alloc, known, &mut numbers, &mut names, name)?;
     }
     Ok(FunctionLabels { numbers, names })
 }

@@ -1,6 +1,6 @@
 //! The numbers of a function's labels.
 
-ghost use Rattle.std.specs.Prelude.{◌≡◌, [], IfOk, OnOk};
+ghost use Rattle.std.specs.Prelude.{◌≡◌, false, [], IfOk, OnOk};
 ghost use Rattle.std.specs.Option.{option_copied};
 ghost use Rattle.c_kinds.specs.Scopes.{found, with_entry};
 ghost use Rattle.c_statements.specs.Context as context;
@@ -58,13 +58,11 @@ impl<'a> LabelNumbers<'a> {
         Ok(())
     }
 
-    /// Gives a label the next number, unless it has one. More than 2^32 are refused as for want of memory.
-    pub fn add(&mut self, name: &'a [u8]) -> Result<(), Memory>
+    /// Gives a label that has none the next number. More than 2^32 are refused as for want of memory.
+    pub fn add_new(&mut self, name: &'a [u8]) -> Result<(), Memory>
+        requires { context.has_label self.old name.now ≡ false }
         ensures { OnOk result (self.new ≡ spec.with_number name.now self.old) }
     {
-        if self.has(name) {
-            return Ok(());
-        }
         let next = self.numbers.len();
         if next > 4294967295 {
             return Err(Memory);
