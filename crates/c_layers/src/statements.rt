@@ -1,6 +1,7 @@
 //! Labels and statements (ISO/IEC 9899:2011, 6.8), one layer at a time.
 
-ghost use Rattle.std.specs.Prelude.{◌≡◌, ◌≤◌, ◌+◌, length, map, option_map, is_some};
+ghost use Rattle.std.specs.Prelude.{◌≡◌, ◌≤◌, ◌+◌, codes, length, map, option_map, is_some};
+ghost use Rattle.std.specs.Str.{bytes_eq};
 ghost use Rattle.std.specs.List.{list_any};
 ghost use Rattle.c_layers.specs.Items as items;
 ghost use Rattle.c_layers.specs.Parts as spec;
@@ -73,6 +74,14 @@ pub enum StatementLayer<'a> {
     Unread,
 }
 
+/// Whether a word is `default`.
+fn is_default(word: &[u8]) -> bool
+    ensures { result ≡ bytes_eq (codes "default") word.now }
+{
+    let default: &[u8] = b"default";
+    default == word
+}
+
 #[tactic(auto, using(crate::proofs::Items::parts))]
 fn label_by<'a>(words: &Words, first: u32, after: u32, parts: &'a [SyntaxNode]) -> LabelLayer<'a>
     ensures { spec.label (words_of words.now) first after (map (spec.part_of (words_of words.now)) parts.now) ≡ label_form (words_of words.now) result }
@@ -80,10 +89,10 @@ fn label_by<'a>(words: &Words, first: u32, after: u32, parts: &'a [SyntaxNode]) 
     if parts.len() == 3 {
         return LabelLayer::Case(first, after, &parts[1]);
     }
-    match keyword_class(words.get(first)) {
-        Class::Default => LabelLayer::Default(first, after),
-        _ => LabelLayer::Named(first, after),
+    if is_default(words.get(first)) {
+        return LabelLayer::Default(first, after);
     }
+    LabelLayer::Named(first, after)
 }
 
 /// The label that a syntax writes, and none where it writes something else.

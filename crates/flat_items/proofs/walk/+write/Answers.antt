@@ -263,7 +263,7 @@ write_section-returns-clause-sections t c =
     let e = c.ends_by-ending.ensures ∙ ap (λ z. ending (is_flagged z) a) c.as_slice.ensures.value in
     let made = c.in_ok-made.ensures.items ∙ ap (λ y. flat p h b d (arrivals_if y (case_names c.args.plan.now c.no_cases-none.result)) a) c.no_cases-none.ensures in
     let list = c.without_break-list.ensures ∙ ap (λ z. if_breaks (ending_as c.ends_by-ending.result) (but_last z) z) made
-        ∙ ap (λ z. if_breaks z (but_last whole) whole) e ∙ cut_is p h b d a (ending p.live a) refl in
+    ∙ ap (λ z. if_breaks z (but_last whole) whole) e ∙ cut_is p h b d a (ending p.live a) refl in
     c.in_ok-add_section.ensures ∙ ap (λ z. behind before (with_parts c.args.section.now z c.ends_then-ends.result)) list
     ∙ ap (λ y. behind before (with_parts c.args.section.now (section_form p h b d a) y)) (c.ends_then-ends.ensures ∙ ap (ends_then c.args.jumpy o.ends) e)
 
