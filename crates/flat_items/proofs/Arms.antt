@@ -1,12 +1,10 @@
 -- Items by their kinds: what stands in their place, and the numbers of what comes behind them.
-use Rattle.std.proofs.Common.{◌≡◌, ℕ, ℤ, suc, ◌+◌, ◌<◌, Bool, true, false, not, ◌&&◌, cond, List, length, map, drop, get_or, Option, Some, None, arith, refl, sym, ap, ◌∙◌}
+use Rattle.std.proofs.Common.{◌≡◌, ℕ, ℤ, suc, ◌+◌, Bool, true, false, cond, List, length, map, Option, Some, None, refl, sym, ap, ◌∙◌}
 use Rattle.std.proofs.lemmas.List.{length-map}
-use Rattle.std.proofs.lemmas.Bool.{false≢true}
 use Rattle.std.proofs.Math.Path.{fun_ext}
 use Rattle.c_types.specs.declared.kinds.IntKind.{IntKind}
 use Rattle.c_tree.specs.Cases.{case_number, selector_source}
 use Rattle.c_tree.specs.Changed.{one}
-use Rattle.c_tree.specs.Everywhere.{total, total_of}
 use Rattle.c_tree.specs.Numerals.{constant}
 use Rattle.c_tree.specs.declared.tree.Item.{Item, Item-F, Block, out-Item, roll-Item, roll-out-Item}
 use Rattle.c_tree.specs.declared.tree.Item.TheVariants.{rolls-If, rolls-While, rolls-Do, rolls-For, rolls-Switch, rolls-Block, rolls-Local, rolls-Break, rolls-Continue, rolls-Goto, rolls-Mark, rolls-Arrival}
@@ -22,19 +20,17 @@ use Rattle.c_tree.specs.Trees.{Tree, Forest, Nil, Then, Sections, Switch, Evalua
 use Rattle.jump_meaning.specs.Step.{switch_kind}
 use Rattle.flat_looser_laws.specs.Pieces.{Aim, mark_of, assign_number, tests_among}
 use Rattle.flat_looser_laws.specs.Loose.{Arrivals}
-use Rattle.flat_laws.specs.Parts.{Here, Ending, Gone, Breaks, Jumps, Otherwise, constructs_of, cases_of, variables_of, past, past_item, inside, is_gone, later, gone_or, if_jumps, ending, ending_of, last_ending, is_scattered, leaves, switch_labels, cases_among}
-use Rattle.flat_laws.specs.FlatForm.{Plan, is_jumpy_switch, flat_sections, flat_item, flat_last_item, names_of, scatter_aim, otherwise_label, if_breaks, spread}
-use Rattle.flat_questions.proofs.EndLaws.{goes}
+use Rattle.flat_laws.specs.Parts.{Here, past_item, inside, is_scattered, switch_labels, cases_among}
+use Rattle.flat_laws.specs.FlatForm.{Plan, is_jumpy_switch, flat_sections, flat_item, names_of, scatter_aim, otherwise_label, spread}
 use Rattle.c_tree.specs.declared.tree.Expression.{Expression}
 use Rattle.c_tree.specs.Views.{layer_at, tree_at, before}
-use Rattle.c_tree.proofs.Views.{trees-at}
 use Rattle.flat_items.specs.declared.plans.Plan as L
 use Rattle.flat_items.specs.declared.plans.Cases as C
 use Rattle.flat_items.specs.Forms.{switch_breaks, entered_of, past_among, kept_form, scattered_form, local_form}
 use Rattle.flat_items.specs.Pieces.{number_tests}
 use Rattle.flat_items.specs.Plans.{plan_of, case_names, number_label}
 use Rattle.flat_items.proofs.Joining.{joined}
-use Rattle.flat_items.proofs.Steps.{same_here, still, past_more, past_Switch}
+use Rattle.flat_items.proofs.Steps.{same_here, still, past_Switch}
 use Rattle.flat_items.proofs.Tests.{tests_are}
 
 -- ---- a switch

@@ -1,5 +1,5 @@
 -- The numbers of what comes next, and the walk over a list, step by step.
-use Rattle.std.proofs.Common.{◌≡◌, ℕ, ◌+◌, ◌<◌, ◌≤◌, Bool, true, false, cond, List, length, drop, get_or, Option, arith, sym, ap, ◌∙◌}
+use Rattle.std.proofs.Common.{◌≡◌, ℕ, ◌+◌, ◌<◌, ◌≤◌, Bool, List, length, drop, get_or, Option, arith, sym, ap, ◌∙◌}
 use Rattle.c_tree.specs.declared.tree.Item.{Item}
 use Rattle.c_tree.specs.declared.tree.Section as Real
 use Rattle.c_tree.specs.ExpressionTrees.{ExpressionTree}
@@ -10,8 +10,7 @@ use Rattle.c_tree.proofs.TreeLaws.{join-nil}
 use Rattle.flat_looser_laws.specs.Pieces.{Aim, Names, mark_of, case_marks}
 use Rattle.flat_looser_laws.specs.Loose.{Arrivals, Arrives}
 use Rattle.flat_laws.specs.Parts.{Here, past, past_item, inside}
-use Rattle.flat_laws.specs.FlatForm.{Plan, flat, flat_item, flat_last, flat_last_item, flat_sections, end_goto, spread}
-use Rattle.flat_questions.proofs.EndLaws.{goes}
+use Rattle.flat_laws.specs.FlatForm.{Plan, flat, flat_item, flat_sections, end_goto, spread}
 use Rattle.c_tree.specs.Views.{tree_at, before}
 use Rattle.c_tree.proofs.Views.{trees-at, trees-end, sections-at, sections-end}
 use Rattle.flat_items.specs.Forms.{entered_of, past_among, section_before, part_form}

@@ -1,5 +1,5 @@
 -- What stands in the place of each kind of item and section, as the cases of the definition.
-use Rattle.std.specs.Prelude.{ℕ, suc, ◌+◌, Bool, true, false, List, Option, Some, None}
+use Rattle.std.specs.Prelude.{ℕ, suc, ◌+◌, Bool, List, Option, Some, None}
 use Rattle.c_tree.specs.Everywhere.{total_in}
 use Rattle.c_tree.specs.Exits.{breaks, continues}
 use Rattle.c_tree.specs.ExpressionTrees.{ExpressionTree}
@@ -9,7 +9,7 @@ use Rattle.c_tree.specs.declared.tree.Section as Real
 use Rattle.jump_meaning.specs.Step.{switch_kind}
 use Rattle.flat_looser_laws.specs.Pieces.{Aim, Names, mark_of, case_marks}
 use Rattle.flat_looser_laws.specs.Loose.{Arrivals, NoArrival, Arrives}
-use Rattle.flat_laws.specs.Parts.{Here, Ending, Breaks, holds_jump, kept_breaks, ending, ends_then, constructs_of, cases_of, variables_of, inside}
+use Rattle.flat_laws.specs.Parts.{Here, holds_jump, kept_breaks, ending, ends_then, constructs_of, cases_of, variables_of, inside}
 use Rattle.flat_laws.specs.FlatForm.{Plan, aim, is_jumpy_switch, scatter_aim, names_of, dissolved, initialised, if_breaks, end_goto, flat_loop, flat_for, flat, flat_last, flat_sections, spread}
 
 -- inside a construct that has no case labels and variables of its own

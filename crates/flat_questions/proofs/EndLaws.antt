@@ -1,16 +1,14 @@
 -- How lists end, from one place on.
-use Rattle.std.proofs.Common.{◌≡◌, ℕ, zero, suc, ◌+◌, ◌<◌, ◌≤◌, Bool, true, false, cond, ◌||◌, List, [], ◌∷◌, length, drop, get_or, arith, refl, sym, ap, ◌∙◌}
+use Rattle.std.proofs.Common.{◌≡◌, ℕ, zero, suc, ◌+◌, ◌<◌, ◌≤◌, Bool, true, false, List, [], ◌∷◌, length, drop, get_or, arith, refl, sym, ap, ◌∙◌}
 use Rattle.std.proofs.lemmas.Bool.{false≢true}
 use Rattle.c_tree.specs.declared.tree.Item.{Item}
 use Rattle.c_tree.specs.declared.tree.Section as Real
-use Rattle.c_tree.specs.Exits.{breaks, breaks_of}
 use Rattle.c_tree.specs.Paths.{list_of}
-use Rattle.c_tree.specs.Trees.{Then, trees_of, sections_of}
-use Rattle.flat_laws.specs.Parts.{Ending, Gone, Breaks, Jumps, Otherwise, is_some_number, later, is_gone, ending, ending_of, last_ending, trimmed, trimmed_item}
+use Rattle.c_tree.specs.Trees.{trees_of, sections_of}
+use Rattle.flat_laws.specs.Parts.{Ending, Gone, Breaks, Jumps, Otherwise, later, is_gone, ending, ending_of, last_ending}
 use Rattle.c_tree.specs.Views.{tree_at, before}
 use Rattle.c_tree.proofs.Views.{trees-first, trees-at, trees-end, section-first}
 use Rattle.c_tree.proofs.TreeLaws.{sections-none}
-use Rattle.flat_questions.proofs.Steps.{some_sum}
 
 -- of a list from place i on nothing stays
 abbrev pub goes : (ℕ → Bool) → List Item → ℕ → Bool

@@ -1,5 +1,5 @@
 -- A list that ends by a `break` has one more than without it.
-use Rattle.std.proofs.Common.{◌≡◌, ℕ, zero, suc, ◌+◌, min, nat_eq, Bool, true, false, not, cond, ◌&&◌, Option, Some, None, arith, refl, sym, ap, ◌∙◌}
+use Rattle.std.proofs.Common.{◌≡◌, ℕ, zero, suc, ◌+◌, min, nat_eq, Bool, true, false, not, cond, ◌&&◌, Some, None, arith, refl, sym, ap, ◌∙◌}
 use Rattle.std.proofs.lemmas.Bool.{false≢true}
 use Rattle.c_tree.specs.Exits.{breaks, breaks_of}
 use Rattle.c_tree.specs.Trees.{Tree, Forest, Nil, Then, Switch, Block, Local, Break, Mark}
