@@ -3,6 +3,7 @@
 ghost use Rattle.std.specs.Prelude.{◌≡◌, ◌<◌, ◌+◌, [], ◌∷◌, ◌++◌, IfOk};
 ghost use Rattle.c_grammar.specs.Nodes as nodes;
 ghost use Rattle.c_parse_step.specs.Nodes as spec;
+ghost use Rattle.c_parse_step.specs.Shown as shown;
 
 use crate::frame::{Found, Full};
 use c_grammar::{Production, SyntaxNode};
@@ -25,10 +26,33 @@ pub fn leaf(alloc: Global, at: u32) -> SyntaxNode
     SyntaxNode::leaf(alloc, at)
 }
 
+/// The token with this number, in front of the token with that one.
+pub fn token(alloc: Global, at: u32, after: u32) -> SyntaxNode
+    ensures { result ≡ shown.token at after }
+{
+    SyntaxNode::new(Production::Token, at, after, List::new(alloc))
+}
+
 pub fn one(alloc: Global, a: SyntaxNode) -> Result<List<SyntaxNode>, Memory>
     ensures { IfOk result (λ it. it ≡ a ∷ []) }
 {
-    let mut parts = Vec::with_capacity(alloc, 1)?;
+    first_of(alloc, 1, a)
+}
+
+/// No parts so far, with room for so many.
+pub fn none_of(alloc: Global, room: usize) -> Result<List<SyntaxNode>, Memory>
+    ensures { IfOk result (λ it. it ≡ []) }
+{
+    let parts = Vec::with_capacity(alloc, room)?;
+    Ok(List::from_vec(parts))
+}
+
+/// One part so far, with room for so many.
+#[inline(always)]
+pub fn first_of(alloc: Global, room: usize, a: SyntaxNode) -> Result<List<SyntaxNode>, Memory>
+    ensures { IfOk result (λ it. it ≡ a ∷ []) }
+{
+    let mut parts = Vec::with_capacity(alloc, room)?;
     parts.push(a)?;
     Ok(List::from_vec(parts))
 }
@@ -36,7 +60,19 @@ pub fn one(alloc: Global, a: SyntaxNode) -> Result<List<SyntaxNode>, Memory>
 pub fn two(alloc: Global, a: SyntaxNode, b: SyntaxNode) -> Result<List<SyntaxNode>, Memory>
     ensures { IfOk result (λ it. it ≡ a ∷ b ∷ []) }
 {
-    let mut parts = Vec::with_capacity(alloc, 2)?;
+    two_of(alloc, 2, a, b)
+}
+
+/// Two parts so far, with room for so many.
+pub fn two_of(
+    alloc: Global,
+    room: usize,
+    a: SyntaxNode,
+    b: SyntaxNode,
+) -> Result<List<SyntaxNode>, Memory>
+    ensures { IfOk result (λ it. it ≡ a ∷ b ∷ []) }
+{
+    let mut parts = Vec::with_capacity(alloc, room)?;
     parts.push(a)?;
     parts.push(b)?;
     Ok(List::from_vec(parts))
@@ -95,6 +131,15 @@ pub fn two_more(
     Ok(parts)
 }
 
+/// These parts, with room for those of a function.
+pub fn of_function(parts: List<SyntaxNode>) -> Result<List<SyntaxNode>, Memory>
+    ensures { IfOk result (λ it. it ≡ parts) }
+{
+    let mut parts = parts.into_vec();
+    parts.reserve_exact(6)?;
+    Ok(List::from_vec(parts))
+}
+
 /// One more node around it, and none around a target alone.
 pub fn lift(
     alloc: Global,
@@ -128,6 +173,7 @@ pub fn solid_unary(
     }
 }
 
+#[inline(always)]
 pub fn solid_binary(
     alloc: Global,
     first: u32,
@@ -209,18 +255,12 @@ pub fn postfix(
 }
 
 /// A number or a character constant.
-pub fn constant(alloc: Global, at: u32) -> Result<Found, Memory>
-    requires { at < 4294967295 }
-    ensures { IfOk result (λ it. it ≡ spec.postfix at (at + 1) (nodes.leaf at ∷ [])) }
+pub fn constant(alloc: Global, at: u32, after: u32) -> Result<Found, Memory>
+    ensures { IfOk result (λ it. it ≡ spec.postfix at after (shown.token at after ∷ [])) }
 {
-    let inner = SyntaxNode::around(
-        alloc,
-        Production::Postfix,
-        at,
-        at + 1,
-        SyntaxNode::leaf(alloc, at),
-    )?;
-    let whole = SyntaxNode::around(alloc, Production::Unary, at, at + 1, inner)?;
+    let mark = token(alloc, at, after);
+    let inner = SyntaxNode::around(alloc, Production::Postfix, at, after, mark)?;
+    let whole = SyntaxNode::around(alloc, Production::Unary, at, after, inner)?;
     Ok(Found::Whole(whole))
 }
 

@@ -1,22 +1,25 @@
 //! Tokens that begin an expression or a part of one.
 
 ghost use Rattle.std.specs.Prelude.{◌≡◌, ◌<◌, ◌∷◌, []};
+ghost use Rattle.c_parse_step.specs.Shown as shown;
 ghost use Rattle.c_parse_step.specs.Starts as spec;
 ghost use Rattle.c_parse_step.specs.Steps.{Steps};
 
-use crate::build::{constant, leaf, one, three};
+use crate::build::{constant, leaf, one, three, token};
+use crate::entry::Entry;
 use crate::frame::{Frame, Full};
+use crate::frames::FrameStack;
 use crate::kind::{is_close, is_text};
 use crate::load::{COUNTED, Load, UNCOUNTED};
 use crate::types::at_type;
 use crate::want::behind_full;
 use c_grammar::{Class, SyntaxNode};
-use c_types::{List, Memory, Stack};
+use c_types::Memory;
 use std::alloc::Global;
 
 pub fn at_unary(
     alloc: Global,
-    stack: &mut Stack<Frame>,
+    stack: &mut FrameStack,
     class: Class,
     at: u32,
 ) -> Result<Option<Load>, Memory>
@@ -25,36 +28,64 @@ pub fn at_unary(
 {
     match class {
         Class::Sign | Class::Flip => {
-            stack.push(Frame::Prefix(at, leaf(alloc, at), at + 1))?;
-            stack.push(Frame::WantUnary)?;
+            stack.push(Entry::Prefix(at, at + 1))?;
+            stack.push(Entry::WantUnary)?;
             Ok(Some(COUNTED))
         }
         Class::Step => {
-            stack.push(Frame::Stepped(at, leaf(alloc, at)))?;
-            stack.push(Frame::WantTarget)?;
+            stack.push(Entry::Stepped(at, at + 1))?;
+            stack.push(Entry::WantTarget)?;
             Ok(Some(COUNTED))
         }
         Class::Open => {
-            stack.push(Frame::Post(at))?;
-            stack.push(Frame::Opened(at, leaf(alloc, at), at + 1))?;
+            stack.push(Entry::Post(at))?;
+            stack.push(Entry::Opened(at, at + 1))?;
             Ok(Some(COUNTED))
         }
         Class::Name => {
-            stack.push(Frame::Post(at))?;
-            stack.push(Frame::Named(at, leaf(alloc, at)))?;
+            stack.push(Entry::Post(at))?;
+            stack.push(Entry::Named(at, at + 1))?;
             Ok(Some(UNCOUNTED))
         }
         Class::Number | Class::Character => {
-            stack.push(Frame::Done(constant(alloc, at)?))?;
+            stack.push(Entry::Done(constant(alloc, at, at + 1)?))?;
             Ok(Some(UNCOUNTED))
         }
         _ => Ok(None),
     }
 }
 
+/// Where an operand that begins there is a unary expression alone.
+#[inline(always)]
+pub fn at_operand(
+    alloc: Global,
+    stack: &mut FrameStack,
+    first: u32,
+    class: Class,
+    at: u32,
+) -> Result<Option<Load>, Memory>
+    requires { at < 4294967295 }
+    ensures { Steps (spec.at_unary (Frame.Operand first ∷ stack.old) class at) result stack.new }
+{
+    match class {
+        Class::Name => {
+            stack.push(Entry::NamedOperand(at, at + 1, first))?;
+            Ok(Some(UNCOUNTED))
+        }
+        Class::Number | Class::Character => {
+            stack.push(Entry::ConstantOperand(at, at + 1, first))?;
+            Ok(Some(UNCOUNTED))
+        }
+        _ => {
+            stack.push(Entry::Operand(first))?;
+            at_unary(alloc, stack, class, at)
+        }
+    }
+}
+
 pub fn at_target(
     alloc: Global,
-    stack: &mut Stack<Frame>,
+    stack: &mut FrameStack,
     class: Class,
     at: u32,
 ) -> Result<Option<Load>, Memory>
@@ -63,12 +94,12 @@ pub fn at_target(
 {
     match class {
         Class::Open => {
-            stack.push(Frame::Enclosed(at, leaf(alloc, at)))?;
-            stack.push(Frame::WantTarget)?;
+            stack.push(Entry::Enclosed(at, at + 1))?;
+            stack.push(Entry::WantTarget)?;
             Ok(Some(COUNTED))
         }
         Class::Name => {
-            stack.push(Frame::TargetNamed(at, leaf(alloc, at)))?;
+            stack.push(Entry::TargetNamed(at, at + 1))?;
             Ok(Some(UNCOUNTED))
         }
         _ => Ok(None),
@@ -77,7 +108,7 @@ pub fn at_target(
 
 pub fn at_argument(
     alloc: Global,
-    stack: &mut Stack<Frame>,
+    stack: &mut FrameStack,
     class: Class,
     at: u32,
 ) -> Result<Option<Load>, Memory>
@@ -86,19 +117,17 @@ pub fn at_argument(
 {
     if is_text(class) {
         let parts = one(alloc, leaf(alloc, at))?;
-        stack.push(Frame::Texts(at, parts))?;
+        stack.push(Entry::Texts(at, parts))?;
         return Ok(Some(UNCOUNTED));
     }
-    stack.push(Frame::ArgumentSeen(at))?;
-    stack.push(Frame::Assigns(at))?;
-    stack.push(Frame::Choice(at))?;
-    stack.push(Frame::Operand(at))?;
-    at_unary(alloc, stack, class, at)
+    stack.push(Entry::ArgumentSeen(at))?;
+    stack.push(Entry::Begun(Full::Assignment, at))?;
+    at_operand(alloc, stack, at, class, at)
 }
 
 pub fn at_full(
     alloc: Global,
-    stack: &mut Stack<Frame>,
+    stack: &mut FrameStack,
     kind: Full,
     class: Class,
     at: u32,
@@ -106,39 +135,35 @@ pub fn at_full(
     requires { at < 4294967295 }
     ensures { Steps (spec.at_full kind stack.old class at) result stack.new }
 {
-    behind_full(alloc, stack, kind, at)?;
-    at_unary(alloc, stack, class, at)
+    behind_full(stack, kind, at)?;
+    at_operand(alloc, stack, at, class, at)
 }
 
 /// Behind an opening bracket: a type of a cast, or an expression.
 pub fn at_opened(
     alloc: Global,
-    stack: &mut Stack<Frame>,
+    stack: &mut FrameStack,
     first: u32,
-    bracket: SyntaxNode,
     next: u32,
     class: Class,
     at: u32,
 ) -> Result<Option<Load>, Memory>
     requires { at < 4294967295 }
-    ensures { Steps (spec.at_opened first bracket next stack.old class at) result stack.new }
+    ensures { Steps (spec.at_opened first (shown.token first next) next stack.old class at) result stack.new }
 {
     match class {
         Class::Char | Class::Int | Class::Long | Class::Signed | Class::Unsigned => {
-            stack.push(Frame::CastType(first, bracket))?;
+            stack.push(Entry::CastType(first, next))?;
             at_type(alloc, stack, class, at)
         }
         Class::Void => {
-            stack.push(Frame::VoidSeen(first, bracket, leaf(alloc, at)))?;
+            stack.push(Entry::VoidSeen(first, next, at, at + 1))?;
             Ok(Some(UNCOUNTED))
         }
         _ => {
-            stack.push(Frame::Bracketed(first, bracket, next))?;
-            stack.push(Frame::Commas(at, at, List::new(alloc)))?;
-            stack.push(Frame::Assigns(at))?;
-            stack.push(Frame::Choice(at))?;
-            stack.push(Frame::Operand(at))?;
-            at_unary(alloc, stack, class, at)
+            stack.push(Entry::Bracketed(first, next))?;
+            stack.push(Entry::Begun(Full::Expression, at))?;
+            at_operand(alloc, stack, at, class, at)
         }
     }
 }
@@ -146,21 +171,21 @@ pub fn at_opened(
 /// The end of a cast's type.
 pub fn at_type_end(
     alloc: Global,
-    stack: &mut Stack<Frame>,
+    stack: &mut FrameStack,
     first: u32,
-    bracket: SyntaxNode,
+    next: u32,
     kind: SyntaxNode,
     class: Class,
     at: u32,
 ) -> Result<Option<Load>, Memory>
     requires { at < 4294967295 }
-    ensures { Steps (spec.at_type_end first bracket kind stack.old class at) result stack.new }
+    ensures { Steps (spec.at_type_end first (shown.token first next) kind stack.old class at) result stack.new }
 {
     if !is_close(class) {
         return Ok(None);
     }
-    let parts = three(alloc, bracket, kind, leaf(alloc, at))?;
-    stack.push(Frame::Cast(first, parts, at + 1))?;
-    stack.push(Frame::WantUnary)?;
+    let parts = three(alloc, token(alloc, first, next), kind, leaf(alloc, at))?;
+    stack.push(Entry::Cast(first, at + 1, parts))?;
+    stack.push(Entry::WantUnary)?;
     Ok(Some(UNCOUNTED))
 }

@@ -4,9 +4,10 @@ ghost use Rattle.std.specs.Prelude.{◌≡◌, ◌<◌, IfOk};
 ghost use Rattle.c_parse_step.specs.Starts as spec;
 ghost use Rattle.c_parse_step.specs.Steps.{Steps};
 
-use crate::build::{leaf, more, node, one};
+use crate::build::{leaf, more, node, of_function, one};
+use crate::entry::Entry;
 use crate::form::{Lead, Member, Want};
-use crate::frame::Frame;
+use crate::frames::FrameStack;
 use crate::load::{Load, OUTSIDE};
 use crate::types::{at_type, begun};
 use crate::want::{rest, todo};
@@ -32,7 +33,7 @@ fn function_rest(alloc: Global) -> Result<Stack<Want>, Memory>
 /// A declaration or a function, which has these parts so far.
 pub fn at_external(
     alloc: Global,
-    stack: &mut Stack<Frame>,
+    stack: &mut FrameStack,
     first: u32,
     parts: List<SyntaxNode>,
     class: Class,
@@ -54,16 +55,16 @@ pub fn at_external(
                     Want::Token(Class::Semicolon),
                 ],
             )?;
-            begun(alloc, stack, OUTSIDE, Production::Local, 0, at, wants)
+            begun(alloc, stack, OUTSIDE, Production::Local, 0, at, 4, wants)
         }
         Class::Void => {
-            let parts = more(parts, leaf(alloc, at))?;
+            let parts = more(of_function(parts)?, leaf(alloc, at))?;
             let wants = function_rest(alloc)?;
             rest(stack, Production::Function, first, 0, parts, wants)?;
             Ok(Some(OUTSIDE))
         }
         _ => {
-            stack.push(Frame::TopType(first, parts, at))?;
+            stack.push(Entry::TopType(first, at, parts))?;
             at_type(alloc, stack, class, at)
         }
     }
@@ -71,7 +72,7 @@ pub fn at_external(
 
 pub fn at_top(
     alloc: Global,
-    stack: &mut Stack<Frame>,
+    stack: &mut FrameStack,
     parts: List<SyntaxNode>,
     class: Class,
     at: u32,
@@ -81,15 +82,15 @@ pub fn at_top(
 {
     match class {
         Class::End => {
-            stack.push(Frame::Accepted(node(Production::File, 0, at, parts)))?;
+            stack.push(Entry::Accepted(node(Production::File, 0, at, parts)))?;
             Ok(Some(OUTSIDE))
         }
         Class::Directive => {
-            stack.push(Frame::Tops(more(parts, leaf(alloc, at))?))?;
+            stack.push(Entry::Tops(more(parts, leaf(alloc, at))?))?;
             Ok(Some(OUTSIDE))
         }
         Class::Enum => {
-            stack.push(Frame::Tops(parts))?;
+            stack.push(Entry::Tops(parts))?;
             let wants = todo(
                 alloc,
                 &[
@@ -99,15 +100,15 @@ pub fn at_top(
                     Want::Token(Class::Semicolon),
                 ],
             )?;
-            begun(alloc, stack, OUTSIDE, Production::Enum, 0, at, wants)
+            begun(alloc, stack, OUTSIDE, Production::Enum, 0, at, 4, wants)
         }
         Class::Static => {
-            stack.push(Frame::Tops(parts))?;
-            stack.push(Frame::External(at, one(alloc, leaf(alloc, at))?))?;
+            stack.push(Entry::Tops(parts))?;
+            stack.push(Entry::External(at, one(alloc, leaf(alloc, at))?))?;
             Ok(Some(OUTSIDE))
         }
         _ => {
-            stack.push(Frame::Tops(parts))?;
+            stack.push(Entry::Tops(parts))?;
             at_external(alloc, stack, at, List::new(alloc), class, at)
         }
     }

@@ -2,10 +2,12 @@
 #![tactic(auto)]
 
 mod build;
+mod entry;
 mod expressions;
 mod files;
 mod form;
 mod frame;
+mod frames;
 mod given;
 mod kind;
 mod load;
@@ -16,7 +18,9 @@ mod token_step;
 mod types;
 mod want;
 
+pub use entry::Entry;
 pub use form::{Form, Lead, Member, Want};
 pub use frame::{Found, Frame, Full};
+pub use frames::FrameStack;
 pub use load::{Load, Role};
 pub use token_step::step;

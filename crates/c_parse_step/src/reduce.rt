@@ -1,31 +1,38 @@
 //! What a frame does with a value, in front of the next token.
 
-ghost use Rattle.std.specs.Prelude.{◌≡◌, ◌<◌, [], ◌∷◌, IfOk};
+ghost use Rattle.std.specs.Prelude.{◌≡◌, ◌<◌, ◌+◌, [], ◌∷◌, IfOk, OnOk};
+ghost use Rattle.c_grammar.specs.Classes as classes;
+ghost use Rattle.c_grammar.specs.Nodes as nodes;
 ghost use Rattle.c_parse_step.specs.Machine as spec;
+ghost use Rattle.c_parse_step.specs.Shown as shown;
+ghost use Rattle.c_parse_step.specs.Starts as starts;
 ghost use Rattle.c_parse_step.specs.Steps.{Reduces, ReducesAlone};
 
 use crate::build::{
     commas, four, leaf, lift, more, node, one, postfix, solid, solid_assignment, solid_binary,
-    solid_conditional, solid_expression, solid_unary, target, three, two, two_more,
+    solid_conditional, solid_expression, solid_unary, target, three, token, two, two_more, two_of,
 };
+use crate::entry::Entry;
 use crate::expressions::at_type_end;
 use crate::files::at_top;
 use crate::form::Form;
 use crate::frame::{Found, Frame, Full};
+use crate::frames::FrameStack;
 use crate::given::Given;
 use crate::kind::{
     is_assign, is_close, is_close_index, is_colon, is_comma, is_question, is_same, is_step, level,
 };
 use crate::load::{COUNTED, OUTSIDE, UNCOUNTED};
-use crate::resume::resume;
-use crate::want::{want_assignment, want_conditional, want_expression};
+use crate::resume::{ended, resume};
+use crate::statements::at_block_items;
+use crate::want::{rest, want_assignment, want_conditional, want_expression};
 use c_grammar::{Class, Production, SyntaxNode};
-use c_types::{List, Memory, Stack};
+use c_types::{Boxed, List, Memory, Stack};
 use std::alloc::Global;
 
 fn post(
     alloc: Global,
-    stack: &mut Stack<Frame>,
+    stack: &mut FrameStack,
     first: u32,
     found: Found,
     class: Class,
@@ -40,7 +47,7 @@ fn post(
                 return Ok(Given::Passed(Found::Lone(v)));
             }
             let parts = two(alloc, v, leaf(alloc, at))?;
-            stack.push(Frame::Done(postfix(first, at + 1, parts, alloc)?))?;
+            stack.push(Entry::Done(postfix(first, at + 1, parts, alloc)?))?;
             Ok(Given::Taken(COUNTED))
         }
         Found::Whole(v) => Ok(Given::Passed(Found::Whole(v))),
@@ -53,12 +60,27 @@ fn operand(alloc: Global, first: u32, found: Found, at: u32) -> Result<Given, Me
     Ok(Given::Passed(lift(alloc, Production::Binary, first, at, found)?))
 }
 
+/// The operand in front of a binary mark, and what is awaited behind it.
+fn put_join(
+    stack: &mut FrameStack,
+    first: u32,
+    operand: SyntaxNode,
+    class: Class,
+    at: u32,
+) -> Result<(), Memory>
+    requires { at < 4294967295 }
+    ensures { OnOk result (stack.new ≡ Frame.WantUnary ∷ Frame.Operand (at + 1) ∷ Frame.Join first operand (nodes.leaf at) (at + 1) (classes.level class) ∷ stack.old) }
+{
+    stack.push(Entry::Join(first, at, at + 1, level(class), operand))?;
+    stack.push(Entry::WantOperand(at + 1))
+}
+
 fn join(
     alloc: Global,
-    stack: &mut Stack<Frame>,
+    stack: &mut FrameStack,
     first: u32,
     left: SyntaxNode,
-    mark: SyntaxNode,
+    mark: u32,
     next: u32,
     bound: u32,
     found: Found,
@@ -66,47 +88,32 @@ fn join(
     at: u32,
 ) -> Result<Given, Memory>
     requires { at < 4294967295 }
-    ensures { Reduces (spec.give (Frame.Join first left mark next bound ∷ stack.old) found class at) stack.old class at result stack.new }
+    ensures { Reduces (spec.give (Frame.Join first left (shown.token mark next) next bound ∷ stack.old) found class at) stack.old class at result stack.new }
 {
     let operand = solid_binary(alloc, next, at, found)?;
     if bound < level(class) {
-        stack.push(Frame::Join(first, left, mark, next, bound))?;
-        stack.push(Frame::Join(next, operand, leaf(alloc, at), at + 1, level(class)))?;
-        stack.push(Frame::Operand(at + 1))?;
-        stack.push(Frame::WantUnary)?;
+        stack.push(Entry::Join(first, mark, next, bound, left))?;
+        put_join(stack, next, operand, class, at)?;
         return Ok(Given::Taken(COUNTED));
     }
-    let parts = three(alloc, left, mark, operand)?;
+    let parts = three(alloc, left, token(alloc, mark, next), operand)?;
     Ok(Given::Passed(Found::Whole(node(Production::Binary, first, at, parts))))
 }
 
-fn prefix(
-    alloc: Global,
-    first: u32,
-    mark: SyntaxNode,
-    next: u32,
-    found: Found,
-    at: u32,
-) -> Result<Given, Memory>
-    ensures { ReducesAlone (Frame.Prefix first mark next) found at result }
+fn prefix(alloc: Global, first: u32, next: u32, found: Found, at: u32) -> Result<Given, Memory>
+    ensures { ReducesAlone (Frame.Prefix first (shown.token first next) next) found at result }
 {
     let operand = solid_unary(alloc, next, at, found)?;
-    let parts = two(alloc, mark, operand)?;
+    let parts = two(alloc, token(alloc, first, next), operand)?;
     Ok(Given::Passed(Found::Whole(node(Production::Unary, first, at, parts))))
 }
 
-fn stepped(
-    alloc: Global,
-    first: u32,
-    mark: SyntaxNode,
-    found: Found,
-    at: u32,
-) -> Result<Given, Memory>
-    ensures { ReducesAlone (Frame.Stepped first mark) found at result }
+fn stepped(alloc: Global, first: u32, next: u32, found: Found, at: u32) -> Result<Given, Memory>
+    ensures { ReducesAlone (Frame.Stepped first (shown.token first next)) found at result }
 {
     match found {
         Found::Lone(v) => {
-            let parts = two(alloc, mark, v)?;
+            let parts = two(alloc, token(alloc, first, next), v)?;
             Ok(Given::Passed(Found::Whole(node(Production::Unary, first, at, parts))))
         }
         Found::Whole(_) => Ok(Given::Refused),
@@ -115,23 +122,23 @@ fn stepped(
 
 fn enclosed(
     alloc: Global,
-    stack: &mut Stack<Frame>,
+    stack: &mut FrameStack,
     first: u32,
-    bracket: SyntaxNode,
+    next: u32,
     found: Found,
     class: Class,
     at: u32,
 ) -> Result<Given, Memory>
     requires { at < 4294967295 }
-    ensures { Reduces (spec.give (Frame.Enclosed first bracket ∷ stack.old) found class at) stack.old class at result stack.new }
+    ensures { Reduces (spec.give (Frame.Enclosed first (shown.token first next) ∷ stack.old) found class at) stack.old class at result stack.new }
 {
     match found {
         Found::Lone(v) => {
             if !is_close(class) {
                 return Ok(Given::Refused);
             }
-            let parts = three(alloc, bracket, v, leaf(alloc, at))?;
-            stack.push(Frame::Done(target(first, at + 1, parts)))?;
+            let parts = three(alloc, token(alloc, first, next), v, leaf(alloc, at))?;
+            stack.push(Entry::Done(target(first, at + 1, parts)))?;
             Ok(Given::Taken(UNCOUNTED))
         }
         Found::Whole(_) => Ok(Given::Refused),
@@ -153,54 +160,91 @@ fn cast(
     Ok(Given::Passed(Found::Whole(node(Production::Unary, first, at, parts))))
 }
 
-fn choice(
+/// Puts what an expression of this rule awaits behind a conditional expression.
+fn put_behind(alloc: Global, stack: &mut FrameStack, kind: Full, first: u32) -> Result<(), Memory>
+    ensures { OnOk result (stack.new ≡ shown.behind kind first stack.old) }
+{
+    match kind {
+        Full::Conditional => Ok(()),
+        Full::Assignment => stack.push(Entry::Assigns(first)),
+        Full::Expression => {
+            stack.push(Entry::Commas(first, first, List::new(alloc)))?;
+            stack.push(Entry::Assigns(first))
+        }
+    }
+}
+
+/// What an expression awaits behind its first operand.
+fn begun(
     alloc: Global,
-    stack: &mut Stack<Frame>,
+    stack: &mut FrameStack,
+    kind: Full,
     first: u32,
     found: Found,
     class: Class,
     at: u32,
 ) -> Result<Given, Memory>
     requires { at < 4294967295 }
-    ensures { Reduces (spec.give (Frame.Choice first ∷ stack.old) found class at) stack.old class at result stack.new }
+    ensures { Reduces (spec.give (shown.begun kind first stack.old) found class at) stack.old class at result stack.new }
 {
     if 0 < level(class) {
         let operand = solid_binary(alloc, first, at, found)?;
-        stack.push(Frame::Choice(first))?;
-        stack.push(Frame::Join(first, operand, leaf(alloc, at), at + 1, level(class)))?;
-        stack.push(Frame::Operand(at + 1))?;
-        stack.push(Frame::WantUnary)?;
+        stack.push(Entry::Begun(kind, first))?;
+        put_join(stack, first, operand, class, at)?;
         return Ok(Given::Taken(COUNTED));
     }
     if is_question(class) {
         let test = solid_binary(alloc, first, at, found)?;
-        stack.push(Frame::ChoiceThen(first, test, leaf(alloc, at), at + 1))?;
-        want_expression(alloc, stack, at + 1)?;
+        put_behind(alloc, stack, kind, first)?;
+        stack.push(Entry::ChoiceThen(first, at, at + 1, test))?;
+        want_expression(stack, at + 1)?;
         return Ok(Given::Taken(COUNTED));
     }
-    Ok(Given::Passed(lift(alloc, Production::Conditional, first, at, found)?))
+    let whole = lift(alloc, Production::Conditional, first, at, found)?;
+    behind(alloc, stack, kind, first, whole, class, at)
+}
+
+/// What an expression of this rule awaits behind a conditional expression.
+fn behind(
+    alloc: Global,
+    stack: &mut FrameStack,
+    kind: Full,
+    first: u32,
+    found: Found,
+    class: Class,
+    at: u32,
+) -> Result<Given, Memory>
+    requires { at < 4294967295 }
+    ensures { Reduces (spec.give (shown.behind kind first stack.old) found class at) stack.old class at result stack.new }
+{
+    match kind {
+        Full::Conditional => Ok(Given::Passed(found)),
+        Full::Assignment => assigns(alloc, stack, first, found, class, at),
+        Full::Expression => first_of_commas(alloc, stack, first, found, class, at),
+    }
 }
 
 fn choice_then(
     alloc: Global,
-    stack: &mut Stack<Frame>,
+    stack: &mut FrameStack,
     first: u32,
     test: SyntaxNode,
-    question: SyntaxNode,
+    question: u32,
     next: u32,
     found: Found,
     class: Class,
     at: u32,
 ) -> Result<Given, Memory>
     requires { at < 4294967295 }
-    ensures { Reduces (spec.give (Frame.ChoiceThen first test question next ∷ stack.old) found class at) stack.old class at result stack.new }
+    ensures { Reduces (spec.give (Frame.ChoiceThen first test (shown.token question next) next ∷ stack.old) found class at) stack.old class at result stack.new }
 {
     if !is_colon(class) {
         return Ok(Given::Refused);
     }
     let then = solid_expression(alloc, next, at, found)?;
-    let parts = four(alloc, test, question, then, leaf(alloc, at))?;
-    stack.push(Frame::ChoiceElse(first, parts, at + 1))?;
+    let mark = token(alloc, question, next);
+    let parts = four(alloc, test, mark, then, leaf(alloc, at))?;
+    stack.push(Entry::ChoiceElse(first, at + 1, parts))?;
     want_conditional(stack, at + 1)?;
     Ok(Given::Taken(UNCOUNTED))
 }
@@ -220,9 +264,25 @@ fn choice_else(
     Ok(Given::Passed(Found::Whole(node(Production::Conditional, first, at, parts))))
 }
 
+/// A target in front of an assignment's mark, and what is awaited behind it.
+fn put_assigns(
+    alloc: Global,
+    stack: &mut FrameStack,
+    first: u32,
+    left: SyntaxNode,
+    at: u32,
+) -> Result<(), Memory>
+    requires { at < 4294967295 }
+    ensures { OnOk result (stack.new ≡ starts.assignment (at + 1) (Frame.AssignsTo first (left ∷ nodes.leaf at ∷ []) (at + 1) ∷ stack.old)) }
+{
+    let parts = two_of(alloc, 3, left, leaf(alloc, at))?;
+    stack.push(Entry::AssignsTo(first, at + 1, parts))?;
+    want_assignment(stack, at + 1)
+}
+
 fn assigns(
     alloc: Global,
-    stack: &mut Stack<Frame>,
+    stack: &mut FrameStack,
     first: u32,
     found: Found,
     class: Class,
@@ -236,12 +296,39 @@ fn assigns(
             if !is_assign(class) {
                 return Ok(Given::Passed(Found::Lone(v)));
             }
-            let parts = two(alloc, v, leaf(alloc, at))?;
-            stack.push(Frame::AssignsTo(first, parts, at + 1))?;
-            want_assignment(stack, at + 1)?;
+            put_assigns(alloc, stack, first, v, at)?;
             Ok(Given::Taken(COUNTED))
         }
         found => Ok(Given::Passed(lift(alloc, Production::Assignment, first, at, found)?)),
+    }
+}
+
+/// The same where it may be the first of assignments with commas between them.
+fn first_of_commas(
+    alloc: Global,
+    stack: &mut FrameStack,
+    first: u32,
+    found: Found,
+    class: Class,
+    at: u32,
+) -> Result<Given, Memory>
+    requires { at < 4294967295 }
+    ensures { Reduces (spec.give (Frame.Assigns first ∷ Frame.Commas first first [] ∷ stack.old) found class at) stack.old class at result stack.new }
+{
+    let none = List::new(alloc);
+    match found {
+        Found::Lone(v) => {
+            if is_assign(class) {
+                stack.push(Entry::Commas(first, first, none))?;
+                put_assigns(alloc, stack, first, v, at)?;
+                return Ok(Given::Taken(COUNTED));
+            }
+            after_commas(alloc, stack, first, first, none, Found::Lone(v), class, at)
+        }
+        found => {
+            let whole = lift(alloc, Production::Assignment, first, at, found)?;
+            after_commas(alloc, stack, first, first, none, whole, class, at)
+        }
     }
 }
 
@@ -260,9 +347,10 @@ fn assigns_to(
     Ok(Given::Passed(Found::Whole(node(Production::Assignment, first, at, parts))))
 }
 
+#[inline(always)]
 fn after_commas(
     alloc: Global,
-    stack: &mut Stack<Frame>,
+    stack: &mut FrameStack,
     first: u32,
     start: u32,
     parts: List<SyntaxNode>,
@@ -278,14 +366,14 @@ fn after_commas(
     }
     let last = solid_assignment(alloc, start, at, found)?;
     let parts = two_more(parts, last, leaf(alloc, at))?;
-    stack.push(Frame::Commas(first, at + 1, parts))?;
+    stack.push(Entry::Commas(first, at + 1, parts))?;
     want_assignment(stack, at + 1)?;
     Ok(Given::Taken(COUNTED))
 }
 
 fn indexed(
     alloc: Global,
-    stack: &mut Stack<Frame>,
+    stack: &mut FrameStack,
     first: u32,
     parts: List<SyntaxNode>,
     next: u32,
@@ -301,26 +389,26 @@ fn indexed(
     }
     let index = solid_expression(alloc, next, at, found)?;
     let parts = two_more(parts, index, leaf(alloc, at))?;
-    stack.push(Frame::Done(target(first, at + 1, parts)))?;
+    stack.push(Entry::Done(target(first, at + 1, parts)))?;
     Ok(Given::Taken(UNCOUNTED))
 }
 
 fn bracketed(
     alloc: Global,
-    stack: &mut Stack<Frame>,
+    stack: &mut FrameStack,
     first: u32,
-    bracket: SyntaxNode,
     next: u32,
     found: Found,
     class: Class,
     at: u32,
 ) -> Result<Given, Memory>
     requires { at < 4294967295 }
-    ensures { Reduces (spec.give (Frame.Bracketed first bracket next ∷ stack.old) found class at) stack.old class at result stack.new }
+    ensures { Reduces (spec.give (Frame.Bracketed first (shown.token first next) next ∷ stack.old) found class at) stack.old class at result stack.new }
 {
     if !is_close(class) {
         return Ok(Given::Refused);
     }
+    let bracket = token(alloc, first, next);
     let done = match found {
         Found::Lone(v) => target(first, at + 1, three(alloc, bracket, v, leaf(alloc, at))?),
         Found::Whole(v) => postfix(
@@ -330,7 +418,7 @@ fn bracketed(
             alloc,
         )?,
     };
-    stack.push(Frame::Done(done))?;
+    stack.push(Entry::Done(done))?;
     Ok(Given::Taken(UNCOUNTED))
 }
 
@@ -344,7 +432,7 @@ fn argument_seen(alloc: Global, first: u32, found: Found, at: u32) -> Result<Giv
 
 fn arguments(
     alloc: Global,
-    stack: &mut Stack<Frame>,
+    stack: &mut FrameStack,
     first: u32,
     parts: List<SyntaxNode>,
     found: Found,
@@ -359,13 +447,13 @@ fn arguments(
         Found::Whole(v) => {
             if is_comma(class) {
                 let parts = two_more(parts, v, leaf(alloc, at))?;
-                stack.push(Frame::Arguments(first, parts))?;
-                stack.push(Frame::WantArgument)?;
+                stack.push(Entry::Arguments(first, parts))?;
+                stack.push(Entry::WantArgument)?;
                 return Ok(Given::Taken(UNCOUNTED));
             }
             if is_close(class) {
                 let parts = two_more(parts, v, leaf(alloc, at))?;
-                stack.push(Frame::Done(postfix(first, at + 1, parts, alloc)?))?;
+                stack.push(Entry::Done(postfix(first, at + 1, parts, alloc)?))?;
                 return Ok(Given::Taken(UNCOUNTED));
             }
             Ok(Given::Refused)
@@ -375,19 +463,19 @@ fn arguments(
 
 fn cast_end(
     alloc: Global,
-    stack: &mut Stack<Frame>,
+    stack: &mut FrameStack,
     first: u32,
-    bracket: SyntaxNode,
+    next: u32,
     found: Found,
     class: Class,
     at: u32,
 ) -> Result<Given, Memory>
     requires { at < 4294967295 }
-    ensures { Reduces (spec.give (Frame.CastType first bracket ∷ stack.old) found class at) stack.old class at result stack.new }
+    ensures { Reduces (spec.give (Frame.CastType first (shown.token first next) ∷ stack.old) found class at) stack.old class at result stack.new }
 {
     match found {
         Found::Lone(_) => Ok(Given::Refused),
-        Found::Whole(v) => match at_type_end(alloc, stack, first, bracket, v, class, at)? {
+        Found::Whole(v) => match at_type_end(alloc, stack, first, next, v, class, at)? {
             Some(load) => Ok(Given::Taken(load)),
             None => Ok(Given::Refused),
         },
@@ -400,9 +488,72 @@ fn whole(alloc: Global, kind: Full, start: u32, found: Found, at: u32) -> Result
     Ok(Given::Passed(Found::Whole(solid(alloc, kind, start, at, found)?)))
 }
 
+/// The expression of a statement in front of its semicolon.
+fn sentence(
+    alloc: Global,
+    stack: &mut FrameStack,
+    first: u32,
+    level: u32,
+    found: Found,
+    class: Class,
+    at: u32,
+) -> Result<Given, Memory>
+    requires { at < 4294967295 }
+    ensures { Reduces (spec.give (shown.shown (Entry.Sentence first level) stack.old) found class at) stack.old class at result stack.new }
+{
+    if !is_same(Class::Semicolon, class) {
+        drop(found);
+        return Ok(Given::Refused);
+    }
+    let whole = solid_expression(alloc, first, at, found)?;
+    let parts = two(alloc, whole, leaf(alloc, at))?;
+    let none = Stack::new(alloc);
+    rest(stack, Production::Plain, first, level, parts, none)?;
+    Ok(Given::Taken(OUTSIDE))
+}
+
+/// A statement that has no labels, once it is read.
+fn statement(alloc: Global, first: u32, level: u32, found: Found, at: u32) -> Result<Given, Memory>
+    ensures { ReducesAlone (starts.rest Production.Statement first level [] []) found at result }
+{
+    match found {
+        Found::Lone(_) => Ok(Given::Refused),
+        Found::Whole(v) => {
+            let parts = one(alloc, v)?;
+            Ok(Given::Passed(Found::Whole(node(Production::Statement, first, at, parts))))
+        }
+    }
+}
+
+/// One more item of a block.
+fn item(
+    alloc: Global,
+    stack: &mut FrameStack,
+    first: u32,
+    level: u32,
+    mut parts: List<SyntaxNode>,
+    found: Found,
+    class: Class,
+    at: u32,
+) -> Result<Given, Memory>
+    requires { at < 4294967295 }
+    ensures { Reduces (spec.give (shown.shown (Entry.Block first level parts) stack.old) found class at) stack.old class at result stack.new }
+{
+    match found {
+        Found::Lone(_) => Ok(Given::Refused),
+        Found::Whole(v) => {
+            parts.push(v)?;
+            match at_block_items(alloc, stack, first, level, parts, class, at)? {
+                Some(load) => Ok(Given::Taken(load)),
+                None => Ok(Given::Refused),
+            }
+        }
+    }
+}
+
 fn rest_of_node(
     alloc: Global,
-    stack: &mut Stack<Frame>,
+    stack: &mut FrameStack,
     mut form: Form,
     found: Found,
     class: Class,
@@ -415,6 +566,9 @@ fn rest_of_node(
         Found::Lone(_) => Ok(Given::Refused),
         Found::Whole(v) => {
             form.parts.push(v)?;
+            if form.todo.is_empty() {
+                return Ok(Given::Passed(Found::Whole(ended(form, at))));
+            }
             resume(alloc, stack, form, class, at)
         }
     }
@@ -422,7 +576,7 @@ fn rest_of_node(
 
 fn top_type(
     alloc: Global,
-    stack: &mut Stack<Frame>,
+    stack: &mut FrameStack,
     first: u32,
     parts: List<SyntaxNode>,
     start: u32,
@@ -439,7 +593,8 @@ fn top_type(
             if !is_same(Class::Name, class) {
                 return Ok(Given::Refused);
             }
-            stack.push(Frame::TopName(first, parts, start, v, at, leaf(alloc, at)))?;
+            let kind = Boxed::new(alloc, v)?;
+            stack.push(Entry::TopName(first, start, at, at + 1, parts, kind))?;
             Ok(Given::Taken(OUTSIDE))
         }
     }
@@ -447,7 +602,7 @@ fn top_type(
 
 fn tops(
     alloc: Global,
-    stack: &mut Stack<Frame>,
+    stack: &mut FrameStack,
     parts: List<SyntaxNode>,
     found: Found,
     class: Class,
@@ -468,56 +623,69 @@ fn tops(
     }
 }
 
-/// What the frame that stood on the stack does.
+/// What the frames that stood on top of the stack do.
+#[inline(always)]
 pub fn reduce(
     alloc: Global,
-    stack: &mut Stack<Frame>,
-    frame: Frame,
+    stack: &mut FrameStack,
+    entry: Entry,
     found: Found,
     class: Class,
     at: u32,
 ) -> Result<Given, Memory>
     requires { at < 4294967295 }
-    ensures { Reduces (spec.give (frame ∷ stack.old) found class at) stack.old class at result stack.new }
+    ensures { Reduces (spec.give (shown.shown entry stack.old) found class at) stack.old class at result stack.new }
 {
-    match frame {
-        Frame::Post(first) => post(alloc, stack, first, found, class, at),
-        Frame::Prefix(first, mark, next) => prefix(alloc, first, mark, next, found, at),
-        Frame::Stepped(first, mark) => stepped(alloc, first, mark, found, at),
-        Frame::Enclosed(first, bracket) => enclosed(alloc, stack, first, bracket, found, class, at),
-        Frame::Cast(first, parts, next) => cast(alloc, first, parts, next, found, at),
-        Frame::Operand(first) => operand(alloc, first, found, at),
-        Frame::Join(first, left, mark, next, bound) => join(
+    match entry {
+        Entry::Post(first) => post(alloc, stack, first, found, class, at),
+        Entry::Prefix(first, next) => prefix(alloc, first, next, found, at),
+        Entry::Stepped(first, next) => stepped(alloc, first, next, found, at),
+        Entry::Enclosed(first, next) => enclosed(alloc, stack, first, next, found, class, at),
+        Entry::Cast(first, next, parts) => cast(alloc, first, parts, next, found, at),
+        Entry::Operand(first) => operand(alloc, first, found, at),
+        Entry::Join(first, mark, next, bound, left) => join(
             alloc, stack, first, left, mark, next, bound, found, class, at,
         ),
-        Frame::Choice(first) => choice(alloc, stack, first, found, class, at),
-        Frame::ChoiceThen(first, test, question, next) => choice_then(
+        Entry::Begun(kind, first) => begun(alloc, stack, kind, first, found, class, at),
+        Entry::ChoiceThen(first, question, next, test) => choice_then(
             alloc, stack, first, test, question, next, found, class, at,
         ),
-        Frame::ChoiceElse(first, parts, next) => choice_else(alloc, first, parts, next, found, at),
-        Frame::Assigns(first) => assigns(alloc, stack, first, found, class, at),
-        Frame::AssignsTo(first, parts, next) => assigns_to(alloc, first, parts, next, found, at),
-        Frame::Commas(first, start, parts) => {
+        Entry::ChoiceElse(first, next, parts) => choice_else(alloc, first, parts, next, found, at),
+        Entry::Assigns(first) => assigns(alloc, stack, first, found, class, at),
+        Entry::AssignsTo(first, next, parts) => assigns_to(alloc, first, parts, next, found, at),
+        Entry::Commas(first, start, parts) => {
             after_commas(alloc, stack, first, start, parts, found, class, at)
         }
-        Frame::Indexed(first, parts, next) => {
+        Entry::Indexed(first, next, parts) => {
             indexed(alloc, stack, first, parts, next, found, class, at)
         }
-        Frame::Bracketed(first, bracket, next) => {
-            bracketed(alloc, stack, first, bracket, next, found, class, at)
+        Entry::Bracketed(first, next) => bracketed(alloc, stack, first, next, found, class, at),
+        Entry::ArgumentSeen(first) => argument_seen(alloc, first, found, at),
+        Entry::Arguments(first, parts) => arguments(alloc, stack, first, parts, found, class, at),
+        Entry::CastType(first, next) => cast_end(alloc, stack, first, next, found, class, at),
+        Entry::Whole(kind, start) => whole(alloc, kind, start, found, at),
+        Entry::Rest(rule, first, level, parts, todo) => {
+            let form = Form {
+                rule,
+                first,
+                level,
+                parts,
+                todo,
+            };
+            rest_of_node(alloc, stack, form, found, class, at)
         }
-        Frame::ArgumentSeen(first) => argument_seen(alloc, first, found, at),
-        Frame::Arguments(first, parts) => arguments(alloc, stack, first, parts, found, class, at),
-        Frame::CastType(first, bracket) => cast_end(alloc, stack, first, bracket, found, class, at),
-        Frame::Whole(kind, start) => whole(alloc, kind, start, found, at),
-        Frame::Rest(form) => rest_of_node(alloc, stack, form, found, class, at),
-        Frame::TopType(first, parts, start) => {
+        Entry::Block(first, level, parts) => {
+            item(alloc, stack, first, level, parts, found, class, at)
+        }
+        Entry::Statement(first, level) => statement(alloc, first, level, found, at),
+        Entry::Sentence(first, level) => { sentence(alloc, stack, first, level, found, class, at) }
+        Entry::TopType(first, start, parts) => {
             top_type(alloc, stack, first, parts, start, found, class, at)
         }
-        Frame::Tops(parts) => tops(alloc, stack, parts, found, class, at),
+        Entry::Tops(parts) => tops(alloc, stack, parts, found, class, at),
         // The others await no value. A silent drop would be proved part by part.
         _ => {
-            drop(frame);
+            drop(entry);
             drop(found);
             Ok(Given::Refused)
         }

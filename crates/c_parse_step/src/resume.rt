@@ -9,7 +9,8 @@ ghost use Rattle.c_parse_step.specs.Steps.{Reduces, Steps};
 use crate::build::{leaf, node};
 use crate::expressions::at_full;
 use crate::form::{Form, Lead, Member, Want};
-use crate::frame::{Found, Frame, Full};
+use crate::frame::{Found, Full};
+use crate::frames::FrameStack;
 use crate::given::Given;
 use crate::kind::{is_same, skips, starts_local};
 use crate::load::{Load, OUTSIDE, UNCOUNTED};
@@ -18,15 +19,16 @@ use crate::types::{
     at_declarator, at_enumerator, at_initialiser, at_local, at_member, at_parameter, at_parameters,
     at_type,
 };
-use crate::want::lead_in;
-use c_grammar::{Class, Production};
-use c_types::{List, Memory, Stack};
+use crate::want::{lead_in, put};
+use c_grammar::{Class, Production, SyntaxNode};
+use c_types::{List, Memory};
 use std::alloc::Global;
 
 /// The token is the next part of the node.
+#[inline(always)]
 fn take(
     alloc: Global,
-    stack: &mut Stack<Frame>,
+    stack: &mut FrameStack,
     load: Load,
     mut form: Form,
     at: u32,
@@ -35,7 +37,7 @@ fn take(
     ensures { Steps (starts.Takes load (starts.rest form.rule form.first form.level (form.parts ++ nodes.leaf at ∷ []) form.todo ∷ stack.old)) result stack.new }
 {
     form.parts.push(leaf(alloc, at))?;
-    stack.push(Frame::Rest(form))?;
+    put(stack, form)?;
     Ok(Some(load))
 }
 
@@ -51,7 +53,7 @@ fn load_of(lead: Lead) -> Load
 /// What may follow a sign in a type; `long` goes on.
 fn at_base(
     alloc: Global,
-    stack: &mut Stack<Frame>,
+    stack: &mut FrameStack,
     mut form: Form,
     class: Class,
     at: u32,
@@ -72,7 +74,7 @@ fn at_base(
 /// An expression that may be left out, and this token.
 fn at_optional(
     alloc: Global,
-    stack: &mut Stack<Frame>,
+    stack: &mut FrameStack,
     mut form: Form,
     kind: Full,
     close: Class,
@@ -86,13 +88,13 @@ fn at_optional(
         return take(alloc, stack, OUTSIDE, form, at);
     }
     form.todo.push(Want::Token(close))?;
-    stack.push(Frame::Rest(form))?;
+    put(stack, form)?;
     at_full(alloc, stack, kind, class, at)
 }
 
 fn at_tail(
     alloc: Global,
-    stack: &mut Stack<Frame>,
+    stack: &mut FrameStack,
     mut form: Form,
     member: Member,
     class: Class,
@@ -113,7 +115,7 @@ fn at_tail(
 
 fn at_next(
     alloc: Global,
-    stack: &mut Stack<Frame>,
+    stack: &mut FrameStack,
     mut form: Form,
     member: Member,
     class: Class,
@@ -126,13 +128,13 @@ fn at_next(
         return take(alloc, stack, OUTSIDE, form, at);
     }
     form.todo.push(Want::Tail(member))?;
-    stack.push(Frame::Rest(form))?;
+    put(stack, form)?;
     at_member(alloc, stack, member, class, at)
 }
 
 fn at_for_start(
     alloc: Global,
-    stack: &mut Stack<Frame>,
+    stack: &mut FrameStack,
     form: Form,
     class: Class,
     at: u32,
@@ -141,7 +143,7 @@ fn at_for_start(
     ensures { Steps (spec.begin form.rule form.first form.level form.parts form.todo Want.ForStart stack.old class at) result stack.new }
 {
     if starts_local(class) {
-        stack.push(Frame::Rest(form))?;
+        put(stack, form)?;
         return at_local(alloc, stack, class, at);
     }
     at_optional(
@@ -157,7 +159,7 @@ fn at_for_start(
 
 fn at_items(
     alloc: Global,
-    stack: &mut Stack<Frame>,
+    stack: &mut FrameStack,
     mut form: Form,
     class: Class,
     at: u32,
@@ -170,7 +172,7 @@ fn at_items(
     }
     let level = form.level;
     form.todo.push(Want::Items)?;
-    stack.push(Frame::Rest(form))?;
+    put(stack, form)?;
     if starts_local(class) {
         return at_local(alloc, stack, class, at);
     }
@@ -180,7 +182,7 @@ fn at_items(
 /// A node of its own, in front of the rest of this one.
 fn begin_node(
     alloc: Global,
-    stack: &mut Stack<Frame>,
+    stack: &mut FrameStack,
     form: Form,
     want: Want,
     class: Class,
@@ -190,7 +192,7 @@ fn begin_node(
     ensures { Steps (spec.begin_node form.rule form.first form.level form.parts form.todo want stack.old class at) result stack.new }
 {
     let level = form.level;
-    stack.push(Frame::Rest(form))?;
+    put(stack, form)?;
     match want {
         Want::Type => at_type(alloc, stack, class, at),
         Want::Full(kind) => at_full(alloc, stack, kind, class, at),
@@ -207,7 +209,7 @@ fn begin_node(
 /// The token begins what is wanted, in front of the rest of a node.
 fn begin(
     alloc: Global,
-    stack: &mut Stack<Frame>,
+    stack: &mut FrameStack,
     mut form: Form,
     want: Want,
     class: Class,
@@ -247,7 +249,7 @@ fn begin(
             if is_same(Class::Semicolon, class) {
                 return take(alloc, stack, OUTSIDE, form, at);
             }
-            stack.push(Frame::Rest(form))?;
+            put(stack, form)?;
             at_block(alloc, stack, 1, class, at)
         }
         Want::Items => at_items(alloc, stack, form, class, at),
@@ -256,10 +258,17 @@ fn begin(
     }
 }
 
+/// A node of which nothing is left, in front of a token.
+pub fn ended(form: Form, at: u32) -> SyntaxNode
+    ensures { result ≡ nodes.node form.rule form.first at form.parts }
+{
+    node(form.rule, form.first, at, form.parts)
+}
+
 /// Goes on with a node, which is passed on where nothing is left of it.
 pub fn resume(
     alloc: Global,
-    stack: &mut Stack<Frame>,
+    stack: &mut FrameStack,
     mut form: Form,
     class: Class,
     at: u32,
@@ -279,5 +288,5 @@ pub fn resume(
                 .push(node(Production::Params, at, at, List::new(alloc)))?;
         }
     }
-    Ok(Given::Passed(Found::Whole(node(form.rule, form.first, at, form.parts))))
+    Ok(Given::Passed(Found::Whole(ended(form, at))))
 }

@@ -1,19 +1,22 @@
 //! Tokens that begin a statement or a part of one.
 
-ghost use Rattle.std.specs.Prelude.{◌≡◌, ◌<◌, ◌+◌, ◌∷◌, [], IfOk};
+ghost use Rattle.std.specs.Prelude.{◌≡◌, ◌<◌, ◌≤◌, ◌+◌, ◌∷◌, [], IfOk};
+ghost use Rattle.c_parse_step.specs.Machine as machine;
 ghost use Rattle.c_parse_step.specs.Starts as spec;
 ghost use Rattle.c_parse_step.specs.Steps.{Steps};
 
-use crate::build::leaf;
-use crate::expressions::at_full;
+use crate::build::{first_of, leaf, none_of};
+use crate::entry::Entry;
+use crate::expressions::at_operand;
 use crate::form::{Form, Lead, Want};
-use crate::frame::{Frame, Full};
-use crate::kind::is_same;
+use crate::frame::Full;
+use crate::frames::FrameStack;
+use crate::kind::{is_same, starts_local};
 use crate::load::{Load, OUTSIDE, Role, UNCOUNTED};
-use crate::types::begun;
-use crate::want::{rest, todo};
-use c_grammar::{Class, Production};
-use c_types::{List, Memory, Stack};
+use crate::types::{at_local, begun};
+use crate::want::{put, rest, todo};
+use c_grammar::{Class, Production, SyntaxNode};
+use c_types::{Boxed, List, Memory, Stack};
 use std::alloc::Global;
 
 fn one_deeper(level: u32) -> Result<u32, Memory>
@@ -27,7 +30,7 @@ fn one_deeper(level: u32) -> Result<u32, Memory>
 
 pub fn at_block(
     alloc: Global,
-    stack: &mut Stack<Frame>,
+    stack: &mut FrameStack,
     level: u32,
     class: Class,
     at: u32,
@@ -38,12 +41,13 @@ pub fn at_block(
     if !is_same(Class::OpenBlock, class) {
         return Ok(None);
     }
-    let wants = todo(alloc, &[Want::Items])?;
     let load = Load {
         role: Role::Outside,
         opens: Some(level),
     };
-    begun(alloc, stack, load, Production::Block, level, at, wants)
+    let parts = first_of(alloc, 4, leaf(alloc, at))?;
+    stack.push(Entry::Block(at, level, parts))?;
+    Ok(Some(load))
 }
 
 /// What stands behind the first word of a statement with parts.
@@ -113,9 +117,23 @@ fn plain_wants(alloc: Global, class: Class) -> Result<Option<Stack<Want>>, Memor
     }
 }
 
+/// How many parts a statement with this first word mostly has: the room of its list, which grows where that is too little.
+fn usual_parts(class: Class) -> usize
+    ensures { result ≤ 9 }
+{
+    match class {
+        Class::For => 9,
+        Class::Do => 7,
+        Class::If | Class::While | Class::Switch => 5,
+        Class::Goto | Class::Return => 3,
+        Class::Break | Class::Continue => 2,
+        _ => 1,
+    }
+}
+
 pub fn at_plain(
     alloc: Global,
-    stack: &mut Stack<Frame>,
+    stack: &mut FrameStack,
     level: u32,
     class: Class,
     at: u32,
@@ -124,21 +142,37 @@ pub fn at_plain(
     ensures { Steps (spec.at_plain level stack.old class at) result stack.new }
 {
     if let Some(wants) = plain_wants(alloc, class)? {
-        return begun(alloc, stack, OUTSIDE, Production::Plain, level, at, wants);
+        return begun(
+            alloc,
+            stack,
+            OUTSIDE,
+            Production::Plain,
+            level,
+            at,
+            usual_parts(class),
+            wants,
+        );
     }
     if is_same(Class::OpenBlock, class) {
         let none = Stack::new(alloc);
-        rest(stack, Production::Plain, at, level, List::new(alloc), none)?;
+        rest(
+            stack,
+            Production::Plain,
+            at,
+            level,
+            none_of(alloc, 1)?,
+            none,
+        )?;
         return at_block(alloc, stack, one_deeper(level)?, class, at);
     }
-    let wants = todo(alloc, &[Want::Token(Class::Semicolon)])?;
-    rest(stack, Production::Plain, at, level, List::new(alloc), wants)?;
-    at_full(alloc, stack, Full::Expression, class, at)
+    stack.push(Entry::Sentence(at, level))?;
+    stack.push(Entry::Begun(Full::Expression, at))?;
+    at_operand(alloc, stack, at, class, at)
 }
 
 pub fn at_labelled(
     alloc: Global,
-    stack: &mut Stack<Frame>,
+    stack: &mut FrameStack,
     mut form: Form,
     class: Class,
     at: u32,
@@ -149,34 +183,48 @@ pub fn at_labelled(
     match class {
         Class::Case => {
             form.todo.push(Want::Labelled)?;
-            stack.push(Frame::Rest(form))?;
+            put(stack, form)?;
             let wants = todo(
                 alloc,
                 &[Want::Full(Full::Conditional), Want::Token(Class::Colon)],
             )?;
-            begun(alloc, stack, OUTSIDE, Production::Label, 0, at, wants)
+            begun(alloc, stack, OUTSIDE, Production::Label, 0, at, 3, wants)
         }
         Class::Default => {
             form.todo.push(Want::Labelled)?;
-            stack.push(Frame::Rest(form))?;
+            put(stack, form)?;
             let wants = todo(alloc, &[Want::Token(Class::Colon)])?;
-            begun(alloc, stack, OUTSIDE, Production::Label, 0, at, wants)
+            begun(alloc, stack, OUTSIDE, Production::Label, 0, at, 2, wants)
         }
         Class::Name => {
-            stack.push(Frame::LabelOrName(at, leaf(alloc, at), form))?;
+            let form = Boxed::new(alloc, form)?;
+            stack.push(Entry::LabelOrName(at, at + 1, form))?;
             Ok(Some(UNCOUNTED))
         }
         _ => {
             let level = form.level;
-            stack.push(Frame::Rest(form))?;
+            put(stack, form)?;
             at_plain(alloc, stack, level, class, at)
         }
     }
 }
 
+/// A statement of which nothing is read, and which begins there.
+pub fn statement_form(alloc: Global, first: u32, level: u32) -> Form
+    ensures { result ≡ record { rule = Production.Statement; first = first; level = level; parts = []; todo = [] } }
+{
+    Form {
+        rule: Production::Statement,
+        first,
+        level,
+        parts: List::new(alloc),
+        todo: Stack::new(alloc),
+    }
+}
+
 pub fn at_statement(
     alloc: Global,
-    stack: &mut Stack<Frame>,
+    stack: &mut FrameStack,
     level: u32,
     class: Class,
     at: u32,
@@ -184,21 +232,53 @@ pub fn at_statement(
     requires { at < 4294967295 }
     ensures { Steps (spec.at_statement level stack.old class at) result stack.new }
 {
-    let form = Form {
-        rule: Production::Statement,
-        first: at,
-        level,
-        parts: List::new(alloc),
-        todo: Stack::new(alloc),
-    };
-    at_labelled(alloc, stack, form, class, at)
+    match class {
+        Class::Case | Class::Default => {
+            let form = statement_form(alloc, at, level);
+            at_labelled(alloc, stack, form, class, at)
+        }
+        Class::Name => {
+            stack.push(Entry::StatementName(at, at + 1, level))?;
+            Ok(Some(UNCOUNTED))
+        }
+        _ => {
+            stack.push(Entry::Statement(at, level))?;
+            at_plain(alloc, stack, level, class, at)
+        }
+    }
+}
+
+/// What a block goes on with.
+pub fn at_block_items(
+    alloc: Global,
+    stack: &mut FrameStack,
+    first: u32,
+    level: u32,
+    mut parts: List<SyntaxNode>,
+    class: Class,
+    at: u32,
+) -> Result<Option<Load>, Memory>
+    requires { at < 4294967295 }
+    ensures { Steps (machine.begin Production.Block first level parts [] Want.Items stack.old class at) result stack.new }
+{
+    if is_same(Class::CloseBlock, class) {
+        parts.push(leaf(alloc, at))?;
+        let none = Stack::new(alloc);
+        rest(stack, Production::Block, first, level, parts, none)?;
+        return Ok(Some(OUTSIDE));
+    }
+    stack.push(Entry::Block(first, level, parts))?;
+    if starts_local(class) {
+        return at_local(alloc, stack, class, at);
+    }
+    at_statement(alloc, stack, level, class, at)
 }
 
 /// A block as the list of a construct opens the level itself, any other statement with its first
 /// token.
 pub fn at_body(
     alloc: Global,
-    stack: &mut Stack<Frame>,
+    stack: &mut FrameStack,
     level: u32,
     class: Class,
     at: u32,

@@ -5,10 +5,11 @@ ghost use Rattle.c_grammar.specs.Nodes as nodes;
 ghost use Rattle.c_parse_step.specs.Starts as spec;
 ghost use Rattle.c_parse_step.specs.Steps.{Steps};
 
-use crate::build::{leaf, one};
+use crate::build::{first_of, leaf, none_of};
 use crate::expressions::at_full;
 use crate::form::{Lead, Member, Want};
-use crate::frame::{Frame, Full};
+use crate::frame::Full;
+use crate::frames::FrameStack;
 use crate::kind::is_same;
 use crate::load::{Load, OUTSIDE, UNCOUNTED};
 use crate::want::{rest, todo};
@@ -16,27 +17,28 @@ use c_grammar::{Class, Production};
 use c_types::{List, Memory, Stack};
 use std::alloc::Global;
 
-/// Behind the first token of a node, which it has alone so far.
+/// Behind the first token of a node, which it has alone so far, with room for so many parts.
 pub fn begun(
     alloc: Global,
-    stack: &mut Stack<Frame>,
+    stack: &mut FrameStack,
     load: Load,
     rule: Production,
     level: u32,
     at: u32,
+    room: usize,
     todo: Stack<Want>,
 ) -> Result<Option<Load>, Memory>
     requires { at < 4294967295 }
     ensures { Steps (spec.Takes load (spec.rest rule at level (nodes.leaf at ∷ []) todo ∷ stack.old)) result stack.new }
 {
-    let parts = one(alloc, leaf(alloc, at))?;
+    let parts = first_of(alloc, room, leaf(alloc, at))?;
     rest(stack, rule, at, level, parts, todo)?;
     Ok(Some(load))
 }
 
 pub fn at_type(
     alloc: Global,
-    stack: &mut Stack<Frame>,
+    stack: &mut FrameStack,
     class: Class,
     at: u32,
 ) -> Result<Option<Load>, Memory>
@@ -52,6 +54,7 @@ pub fn at_type(
                 Production::NumberType,
                 0,
                 at,
+                1,
                 Stack::new(alloc),
             )
         }
@@ -64,6 +67,7 @@ pub fn at_type(
                 Production::NumberType,
                 0,
                 at,
+                1,
                 wants,
             )
         }
@@ -76,6 +80,7 @@ pub fn at_type(
                 Production::NumberType,
                 0,
                 at,
+                1,
                 wants,
             )
         }
@@ -85,7 +90,7 @@ pub fn at_type(
 
 pub fn at_local(
     alloc: Global,
-    stack: &mut Stack<Frame>,
+    stack: &mut FrameStack,
     class: Class,
     at: u32,
 ) -> Result<Option<Load>, Memory>
@@ -102,7 +107,7 @@ pub fn at_local(
                 Want::Token(Class::Semicolon),
             ],
         )?;
-        return begun(alloc, stack, OUTSIDE, Production::Local, 0, at, wants);
+        return begun(alloc, stack, OUTSIDE, Production::Local, 0, at, 4, wants);
     }
     let wants = todo(
         alloc,
@@ -112,13 +117,13 @@ pub fn at_local(
             Want::Token(Class::Semicolon),
         ],
     )?;
-    rest(stack, Production::Local, at, 0, List::new(alloc), wants)?;
+    rest(stack, Production::Local, at, 0, none_of(alloc, 3)?, wants)?;
     at_type(alloc, stack, class, at)
 }
 
 pub fn at_declarator(
     alloc: Global,
-    stack: &mut Stack<Frame>,
+    stack: &mut FrameStack,
     class: Class,
     at: u32,
 ) -> Result<Option<Load>, Memory>
@@ -132,12 +137,21 @@ pub fn at_declarator(
         alloc,
         &[Want::Optional(Lead::Size), Want::Optional(Lead::Value)],
     )?;
-    begun(alloc, stack, OUTSIDE, Production::Declarator, 0, at, wants)
+    begun(
+        alloc,
+        stack,
+        OUTSIDE,
+        Production::Declarator,
+        0,
+        at,
+        1,
+        wants,
+    )
 }
 
 pub fn at_enumerator(
     alloc: Global,
-    stack: &mut Stack<Frame>,
+    stack: &mut FrameStack,
     class: Class,
     at: u32,
 ) -> Result<Option<Load>, Memory>
@@ -148,12 +162,21 @@ pub fn at_enumerator(
         return Ok(None);
     }
     let wants = todo(alloc, &[Want::Optional(Lead::Constant)])?;
-    begun(alloc, stack, OUTSIDE, Production::Enumerator, 0, at, wants)
+    begun(
+        alloc,
+        stack,
+        OUTSIDE,
+        Production::Enumerator,
+        0,
+        at,
+        1,
+        wants,
+    )
 }
 
 pub fn at_initialiser(
     alloc: Global,
-    stack: &mut Stack<Frame>,
+    stack: &mut FrameStack,
     class: Class,
     at: u32,
 ) -> Result<Option<Load>, Memory>
@@ -165,7 +188,16 @@ pub fn at_initialiser(
             alloc,
             &[Want::Full(Full::Assignment), Want::Tail(Member::Value)],
         )?;
-        return begun(alloc, stack, OUTSIDE, Production::Initialiser, 0, at, wants);
+        return begun(
+            alloc,
+            stack,
+            OUTSIDE,
+            Production::Initialiser,
+            0,
+            at,
+            4,
+            wants,
+        );
     }
     rest(
         stack,
@@ -180,7 +212,7 @@ pub fn at_initialiser(
 
 pub fn at_member(
     alloc: Global,
-    stack: &mut Stack<Frame>,
+    stack: &mut FrameStack,
     member: Member,
     class: Class,
     at: u32,
@@ -196,7 +228,7 @@ pub fn at_member(
 
 pub fn at_parameter(
     alloc: Global,
-    stack: &mut Stack<Frame>,
+    stack: &mut FrameStack,
     class: Class,
     at: u32,
 ) -> Result<Option<Load>, Memory>
@@ -212,19 +244,19 @@ pub fn at_parameter(
                 Want::Optional(Lead::Size),
             ],
         )?;
-        return begun(alloc, stack, OUTSIDE, Production::Param, 0, at, wants);
+        return begun(alloc, stack, OUTSIDE, Production::Param, 0, at, 3, wants);
     }
     let wants = todo(
         alloc,
         &[Want::Optional(Lead::Name), Want::Optional(Lead::Size)],
     )?;
-    rest(stack, Production::Param, at, 0, List::new(alloc), wants)?;
+    rest(stack, Production::Param, at, 0, none_of(alloc, 2)?, wants)?;
     at_type(alloc, stack, class, at)
 }
 
 pub fn at_parameters(
     alloc: Global,
-    stack: &mut Stack<Frame>,
+    stack: &mut FrameStack,
     class: Class,
     at: u32,
 ) -> Result<Option<Load>, Memory>
@@ -239,10 +271,11 @@ pub fn at_parameters(
             Production::Params,
             0,
             at,
+            1,
             Stack::new(alloc),
         );
     }
     let wants = todo(alloc, &[Want::Optional(Lead::Parameters)])?;
-    rest(stack, Production::Params, at, 0, List::new(alloc), wants)?;
+    rest(stack, Production::Params, at, 0, none_of(alloc, 3)?, wants)?;
     at_parameter(alloc, stack, class, at)
 }

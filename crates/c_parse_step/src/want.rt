@@ -2,60 +2,44 @@
 
 ghost use Rattle.std.specs.Prelude.{◌≡◌, ◌∷◌, OnOk, IfOk};
 ghost use Rattle.c_parse_step.specs.Machine as machine;
+ghost use Rattle.c_parse_step.specs.Shown as shown;
 ghost use Rattle.c_parse_step.specs.Starts as spec;
 
+use crate::entry::Entry;
 use crate::form::{Form, Lead, Want};
 use crate::frame::{Frame, Full};
+use crate::frames::FrameStack;
 use c_grammar::{Production, SyntaxNode};
 use c_types::{List, Memory, Stack};
 use std::alloc::Global;
 
-pub fn want_conditional(stack: &mut Stack<Frame>, at: u32) -> Result<(), Memory>
+pub fn want_conditional(stack: &mut FrameStack, at: u32) -> Result<(), Memory>
     ensures { OnOk result (stack.new ≡ spec.conditional at stack.old) }
 {
-    stack.push(Frame::Choice(at))?;
-    stack.push(Frame::Operand(at))?;
-    stack.push(Frame::WantUnary)?;
-    Ok(())
+    stack.push(Entry::Begun(Full::Conditional, at))?;
+    stack.push(Entry::WantOperand(at))
 }
 
-pub fn want_assignment(stack: &mut Stack<Frame>, at: u32) -> Result<(), Memory>
+pub fn want_assignment(stack: &mut FrameStack, at: u32) -> Result<(), Memory>
     ensures { OnOk result (stack.new ≡ spec.assignment at stack.old) }
 {
-    stack.push(Frame::Assigns(at))?;
-    want_conditional(stack, at)?;
-    Ok(())
+    stack.push(Entry::Begun(Full::Assignment, at))?;
+    stack.push(Entry::WantOperand(at))
 }
 
-pub fn want_expression(alloc: Global, stack: &mut Stack<Frame>, at: u32) -> Result<(), Memory>
+pub fn want_expression(stack: &mut FrameStack, at: u32) -> Result<(), Memory>
     ensures { OnOk result (stack.new ≡ spec.expression at stack.old) }
 {
-    stack.push(Frame::Commas(at, at, List::new(alloc)))?;
-    want_assignment(stack, at)?;
-    Ok(())
+    stack.push(Entry::Begun(Full::Expression, at))?;
+    stack.push(Entry::WantOperand(at))
 }
 
-/// The frames of a full expression behind that which awaits its first token.
-pub fn behind_full(
-    alloc: Global,
-    stack: &mut Stack<Frame>,
-    kind: Full,
-    at: u32,
-) -> Result<(), Memory>
-    ensures { OnOk result (stack.new ≡ spec.behind_full kind at stack.old) }
+/// The frames of a full expression behind its first operand.
+pub fn behind_full(stack: &mut FrameStack, kind: Full, at: u32) -> Result<(), Memory>
+    ensures { OnOk result (stack.new ≡ shown.begun kind at (Frame.Whole kind at ∷ stack.old)) }
 {
-    stack.push(Frame::Whole(kind, at))?;
-    match kind {
-        Full::Conditional => {}
-        Full::Assignment => stack.push(Frame::Assigns(at))?,
-        Full::Expression => {
-            stack.push(Frame::Commas(at, at, List::new(alloc)))?;
-            stack.push(Frame::Assigns(at))?;
-        }
-    }
-    stack.push(Frame::Choice(at))?;
-    stack.push(Frame::Operand(at))?;
-    Ok(())
+    stack.push(Entry::Whole(kind, at))?;
+    stack.push(Entry::Begun(kind, at))
 }
 
 /// What is left of a production.
@@ -73,7 +57,7 @@ pub fn todo(alloc: Global, wants: &[Want]) -> Result<Stack<Want>, Memory>
 
 /// Puts what is left of a node on the stack.
 pub fn rest(
-    stack: &mut Stack<Frame>,
+    stack: &mut FrameStack,
     rule: Production,
     first: u32,
     level: u32,
@@ -82,13 +66,21 @@ pub fn rest(
 ) -> Result<(), Memory>
     ensures { OnOk result (stack.new ≡ spec.rest rule first level parts todo ∷ stack.old) }
 {
-    stack.push(Frame::Rest(Form {
+    stack.push(Entry::Rest(rule, first, level, parts, todo))
+}
+
+/// Puts a form on the stack.
+pub fn put(stack: &mut FrameStack, form: Form) -> Result<(), Memory>
+    ensures { OnOk result (stack.new ≡ Frame.Rest form ∷ stack.old) }
+{
+    let Form {
         rule,
         first,
         level,
         parts,
         todo,
-    }))
+    } = form;
+    stack.push(Entry::Rest(rule, first, level, parts, todo))
 }
 
 /// What stands behind the token that leads in what may be left out.

@@ -11,18 +11,12 @@ use Rattle.c_grammar.specs.declared.class.Class.{Class}
 use Rattle.c_grammar.specs.declared.class.Class.TheVariants as c
 use Rattle.c_grammar.specs.declared.syntax.Syntax.{Syntax}
 use Rattle.c_grammar.specs.TokenClasses.{class_of, classes_of, offset_of}
-use Rattle.c_parse_step.specs.declared.frame.Frame.{Frame}
-use Rattle.c_parse_step.specs.declared.frame.Frame.TheVariants as s
 use Rattle.c_parse_step.specs.declared.load.Load.{Load}
 use Rattle.c_parse_step.specs.Starts.{Frames, Next}
 use Rattle.c_parse_step.specs.Steps.{Steps}
 use Rattle.c_parse_step.specs.Machine.{Left, TooMany, count_behind, is_over, go_on, run, step}
-use Rattle.c_parser.specs.Answers.{accepted, file_in, whole, answer, parsed}
+use Rattle.c_parser.specs.Answers.{accepted, whole, answer, parsed}
 use Rattle.c_parse_step.proofs.Resumes.{steps_taken, steps_failed}
-
-pub not_accepted : (frame : Frame) → ((x : Syntax) → frame ≡ s.Accepted x → ⊥) → file_in frame ≡ None
-not_accepted (s.Accepted x) h = absurd (h x refl)
-not_accepted _ h = refl
 
 -- ---- offsets
 

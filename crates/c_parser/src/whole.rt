@@ -12,8 +12,8 @@ ghost use Rattle.c_parser.specs.Reads.{Reads};
 
 use c_grammar::{Class, SyntaxNode, class_of};
 use c_lexer::{Token, refusal_at};
-use c_parse_step::{Frame, Load, Role, step};
-use c_types::{List, MOST, ReadStop, Stack};
+use c_parse_step::{Entry, FrameStack, Load, Role, step};
+use c_types::{List, MOST, ReadStop};
 use std::alloc::Global;
 
 /// The greatest level of nesting, and the most counted tokens of one full expression.
@@ -67,25 +67,15 @@ fn count_behind(role: Role, count: u32) -> u32
     }
 }
 
-/// The file that the frame holds, or the frame itself.
-fn file_in(frame: Frame) -> Result<SyntaxNode, Frame>
-    ensures { MatchResult result (λ whole. answers.file_in frame ≡ Some whole) (λ _. answers.file_in frame ≡ None) }
-{
-    match frame {
-        Frame::Accepted(whole) => Ok(whole),
-        other => Err(other),
-    }
-}
-
 /// The file that the frames hold once all tokens are taken.
-fn accepted(mut stack: Stack<Frame>) -> Option<SyntaxNode>
+fn accepted(mut stack: FrameStack) -> Option<SyntaxNode>
     ensures { result ≡ answers.accepted stack }
 {
     match stack.pop() {
-        Some(frame) => match file_in(frame) {
-            Ok(whole) => Some(whole),
-            Err(other) => {
-                drop(other);
+        Some(entry) => match entry {
+            Entry::Accepted(whole) => Some(whole),
+            _ => {
+                drop(entry);
                 None
             }
         },
@@ -99,8 +89,8 @@ fn run(alloc: Global, text: &[u8], tokens: &[Token]) -> Result<SyntaxNode, ReadS
     requires bound { length tokens.now < 4294967295 }
     ensures { Gives (λ syntax. syntax) result (parsed text.now tokens.now) }
 {
-    let mut stack = Stack::new(alloc);
-    stack.push(Frame::Tops(List::new(alloc)))?;
+    let mut stack = FrameStack::new(alloc);
+    stack.push(Entry::Tops(List::new(alloc)))?;
     let mut count: u32 = 0;
     for i in 0..tokens.len() {
         let class = class_of(text, tokens[i]);
