@@ -1,5 +1,5 @@
 -- The places of comments. That of a comment is decided by the token that follows it.
-use Rattle.std.specs.Prelude.{ℕ, Bool, true, false, cond, ◌&&◌, nat_le, nat_lt, List, [], ◌∷◌, map, filter, Option, Some, None, option_and_then}
+use Rattle.std.specs.Prelude.{ℕ, Bool, true, false, cond, not, ◌&&◌, ◌||◌, nat_le, nat_lt, List, [], ◌∷◌, map, filter, Option, Some, None, option_and_then}
 use Rattle.std.specs.Option.{option_or}
 use Rattle.c_lexer.specs.declared.token.Token.{Token}
 use Rattle.c_lexer.specs.declared.token.Span.{Span}
@@ -26,9 +26,23 @@ in_labels place (l ∷ ls) t = cond (nat_lt t (label_after l)) (Some (place l)) 
 
 -- ---- items
 
--- in a switch in front of its first section: a null statement without labels is no item there
-abbrev pub if_element : Item → Anchor → Option Anchor
-if_element x place = cond (is_element x) (Some place) None
+-- the items of a switch in front of its first section
+abbrev pub outside : Items → Items
+outside NoItem = NoItem
+outside (Then x xs) = cond (begins x) NoItem (Then x (outside xs))
+
+-- token t stands in a null statement without labels
+abbrev pub stands_in_null : Items → ℕ → Bool
+stands_in_null NoItem t = false
+stands_in_null (Then x xs) t = cond (nat_lt t (item_after x)) (not (is_element x)) (stands_in_null xs t)
+
+abbrev pub has_sections : Items → Bool
+has_sections NoItem = false
+has_sections (Then x xs) = begins x || has_sections xs
+
+-- the end of a switch is the end of its last section, if it has one
+abbrev pub section_end : ℕ → Items → Option Anchor
+section_end first xs = cond (has_sections xs) (Some (AtEnd first)) None
 
 abbrev mutual
   -- the place of token t, which stands in an item of a list; one of a switch can begin a section
@@ -60,15 +74,10 @@ abbrev mutual
   in_items switched NoItem t = None
   in_items switched (Then x xs) t = cond (nat_lt t (item_after x)) (Some (item_place switched x t)) (in_items switched xs t)
 
-  -- the end of a switch is the end of its last section, if it has one
+  -- a null statement in front of the first section is no item
   pub in_switch : Body → ℕ → Option Anchor
-  in_switch (Braces first after xs) t = cond (nat_le t first) None (in_outside first xs t)
-  in_switch (Lone first after x) t = cond (nat_lt t first) None (if_element x (item_place true x t))
-
-  -- in the items of a switch that begins with this token, up to the first section or behind its beginning
-  pub in_outside : ℕ → Items → ℕ → Option Anchor
-  in_outside first NoItem t = None
-  in_outside first (Then x xs) t = cond (nat_lt t (item_after x)) (if_element x (item_place true x t)) (cond (begins x) (Some (or_behind (in_items true xs t) (AtEnd first))) (in_outside first xs t))
+  in_switch (Braces first after xs) t = cond (nat_le t first || stands_in_null (outside xs) t) None (option_or (in_items true xs t) (section_end first xs))
+  in_switch (Lone first after x) t = cond (nat_lt t first || not (is_element x)) None (Some (item_place true x t))
 
 -- ---- files
 

@@ -34,21 +34,9 @@ start_items typing f (StartNames d) p = declaration_items typing f d p
 
 -- ---- the sections of a switch
 
--- the items of a list in front of its first section, and its sections
-pub record Parted : Type 0 where
-  pub outside : List item.Item
-  pub sections : List Reading
-
--- with these items in front
-abbrev pub preceded : List item.Item → Parted → Parted
-preceded xs rest = record { outside = xs ++ rest.outside; sections = rest.sections }
-
--- a section with these labels, which begins with these items
-abbrev pub headed : Typing → InFunction → Place → List Label → List item.Item → Parted → Parted
-headed typing f p ls xs rest = record {
-  outside = [];
-  sections = record { cases = section_cases typing (names f p) ls; default = has_default ls; list = (notes_at f (AtSection (first_label ls)) ++ section_marks f ls ++ xs) ++ rest.outside } ∷ rest.sections;
-}
+-- a section with these labels, and these items behind them
+abbrev pub section_with : Typing → InFunction → Place → List Label → List item.Item → Reading
+section_with typing f p ls xs = record { cases = section_cases typing (names f p) ls; default = has_default ls; list = notes_at f (AtSection (first_label ls)) ++ section_marks f ls ++ xs }
 
 -- a section in front of these: one with an empty list and no end gives its cases and its default to the next, if there is one
 abbrev pub in_front : Section → List Section → List Section
@@ -99,10 +87,10 @@ abbrev mutual
   -- the sections of a switch, and what stands in front of them
   pub switch_sections : Typing → InFunction → Body → Place → List Section
   switch_sections typing f (Braces first after xs) p =
-      let inner = within f (Braces first after xs) p in front (outside_items typing f xs inner) ++ map ended (parts typing f xs (notes_at f (AtEnd first)) inner).sections
+      let inner = within f (Braces first after xs) p in front (outside_items typing f xs inner) ++ map ended (list_sections typing f xs (notes_at f (AtEnd first)) inner)
   switch_sections typing f (Lone first after x) p =
       let inner = within f (Lone first after x) p in
-      front (outside_item typing f x inner) ++ map ended (part typing f x (record { outside = notes_at f (AtEnd first); sections = [] }) inner).sections
+      front (outside_item typing f x inner) ++ map ended (item_sections typing f x (notes_at f (AtEnd first)) inner)
 
   -- up to the first section; null statements are left out
   pub outside_items : Typing → InFunction → Items → Place → List item.Item
@@ -113,12 +101,17 @@ abbrev mutual
   outside_item typing f (Declares first after d) p = declares_items typing f first d p
   outside_item typing f (States ls s) p = cond (has_case ls || is_null ls s) [] (labels_items typing f (names f p) ls ++ plain_items typing f s p)
 
-  -- a list that ends with these Notes
-  pub parts : Typing → InFunction → Items → List item.Item → Place → Parted
-  parts typing f NoItem notes p = record { outside = notes; sections = [] }
-  parts typing f (Then x xs) notes p = part typing f x (parts typing f xs notes p) p
+  -- the sections of a list that ends with these Notes
+  pub list_sections : Typing → InFunction → Items → List item.Item → Place → List Reading
+  list_sections typing f NoItem notes p = []
+  list_sections typing f (Then x xs) notes p = item_sections typing f x (run_items typing f xs notes p) p ++ list_sections typing f xs notes p
 
-  -- an item in front of these
-  pub part : Typing → InFunction → items.Item → Parted → Place → Parted
-  part typing f (Declares first after d) rest p = preceded (declares_items typing f first d p) rest
-  part typing f (States ls s) rest p = cond (has_case ls) (headed typing f p ls (plain_items typing f s p) rest) (preceded (labels_items typing f (names f p) ls ++ plain_items typing f s p) rest)
+  -- the section that an item begins, if it has case labels: the item without them, and these behind it
+  pub item_sections : Typing → InFunction → items.Item → List item.Item → Place → List Reading
+  item_sections typing f (Declares first after d) run p = []
+  item_sections typing f (States ls s) run p = cond (has_case ls) (section_with typing f p ls (plain_items typing f s p ++ run) ∷ []) []
+
+  -- up to the next item that begins a section; the last of them ends with these Notes
+  pub run_items : Typing → InFunction → Items → List item.Item → Place → List item.Item
+  run_items typing f NoItem notes p = notes
+  run_items typing f (Then x xs) notes p = cond (begins x) [] (item_items typing f x p ++ run_items typing f xs notes p)

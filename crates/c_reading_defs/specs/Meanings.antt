@@ -1,6 +1,6 @@
 -- What expressions mean (ISO/IEC 9899:2011, 6.5): one row for each form. Where a rule is broken in an expression, it means
 -- nothing.
-use Rattle.std.specs.Prelude.{◌≡◌, ◌⊎◌, ℕ, ℤ, Bool, true, false, List, [], ◌∷◌, Some, None}
+use Rattle.std.specs.Prelude.{◌≡◌, ◌⊎◌, ℕ, ℤ, Bool, true, false, List, [], ◌∷◌, ◌++◌, Some, None}
 use Rattle.c_types.specs.declared.kinds.IntKind.{IntKind}
 use Rattle.c_types.specs.declared.kinds.IntKind.TheVariants.{Int}
 use Rattle.c_types.specs.Numbers.{usual_kind}
@@ -69,6 +69,13 @@ IsCall name binding.Printf (Text bytes ∷ xs) y =
     (ws : List Want) × (es : List Expression) × IsFormat bytes ws × AreHanded ws xs es × (y ≡ of_kind Int (node.Call name (expression_of None (node.Text bytes) ∷ es)))
 IsCall name _ xs y = ⊥
 
+-- ---- commas (6.5.17)
+
+-- operands with commas between them: the value or the void of all that stands in front of the last is dropped
+pub data AreCommas : List Typed → Typed → Type 0 where
+  one : {x : Typed} → AreCommas (x ∷ []) x
+  more : {xs : List Typed} {x : Typed} (y : Typed) {e f : Expression} → AreCommas xs x → dropped x ≡ Some e → dropped y ≡ Some f → AreCommas (xs ++ y ∷ []) (with_left e y)
+
 -- ---- expressions
 
 abbrev mutual
@@ -104,15 +111,10 @@ abbrev mutual
   FormMeans env (Assign m t a) x =
       (y : Target) × (v : Valued) × IsTarget env t y × (y.constant ≡ false) × Means env a (Value v)
       × (x ≡ of_kind y.kind (stored (update_op (mark_of (env.word m))) y (expression v)))
-  FormMeans env (Commas a bs) x = (y : Typed) × Means env a y × AreCommas env y bs x
+  FormMeans env (Commas a bs) x = (y : Typed) × (ys : List Typed) × Means env a y × AreMeant env bs ys × AreCommas (y ∷ ys) x
   FormMeans env (Call at xs) x = (b : Binding) × (ys : List Typed) × IsBound env at b × AreMeant env xs ys × IsCall (env.word at) b ys x
   FormMeans env (Texts ats) x = x ≡ Text (joined_texts env.word ats)
   FormMeans env Unknown x = ⊥
-
-  -- behind `y` and a comma each (6.5.17): the value or the void of `y` is dropped
-  pub AreCommas : Env → Typed → Terms → Typed → Type 0
-  AreCommas env y NoTerm x = x ≡ y
-  AreCommas env y (Then b bs) x = (e f : Expression) × (z : Typed) × (dropped y ≡ Some e) × Means env b z × (dropped z ≡ Some f) × AreCommas env (with_left e z) bs x
 
   -- the variable or the cell that an operand is (6.3.2.1)
   pub IsTarget : Env → Term → Target → Type 0

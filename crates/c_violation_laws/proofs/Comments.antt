@@ -1,5 +1,5 @@
 -- The places of comments are those that the walk gives.
-use Rattle.std.proofs.Common.{◌≡◌, ℕ, Bool, true, false, cond, not, nat_le, nat_lt, List, [], ◌∷◌, map, Option, Some, None, refl, ap, sym, ◌∙◌, true≢false}
+use Rattle.std.proofs.Common.{◌≡◌, ℕ, Bool, true, false, cond, not, nat_le, nat_lt, ◌||◌, List, [], ◌∷◌, map, Option, Some, None, refl, ap, sym, ◌∙◌, true≢false}
 use Rattle.std.specs.Prelude.{filter, option_and_then}
 use Rattle.std.specs.Option.{option_or}
 use Rattle.c_lexer.specs.declared.token.Token.{Token}
@@ -11,12 +11,64 @@ use Rattle.c_statements.specs.declared.anchors.Anchor.{Anchor}
 use Rattle.c_statements.specs.declared.anchors.Anchor.TheVariants.{Before, AtEnd}
 use Rattle.c_statements.specs.Context.{same_place}
 use Rattle.c_statements.specs.Labels.{has_case}
-use Rattle.c_statements.specs.Statements.{is_null, begins}
+use Rattle.c_statements.specs.Statements.{is_null, is_element, begins}
 use Rattle.c_comments.specs.Notes.{label_after, item_after, labels_place, section_place, or_behind, top_after, next_token, comment_bytes}
 use Rattle.c_comments.specs.Notes as walked
-use Rattle.c_reading_defs.specs.Comments.{label_place, in_labels, item_place, plain_place, in_statement, in_body, in_items, in_switch, in_outside, if_element, in_form, top_place, place_in, notes_of}
+use Rattle.c_reading_defs.specs.Comments.{label_place, in_labels, item_place, plain_place, in_statement, in_body, in_items, in_switch, outside, stands_in_null, has_sections, section_end, in_form, top_place, place_in, notes_of}
+
+-- ---- the items of a switch, up to the first section or behind its beginning
+
+abbrev if_element : Item → Anchor → Option Anchor
+if_element x place = cond (is_element x) (Some place) None
+
+abbrev in_outside : ℕ → Items → ℕ → Option Anchor
+in_outside first NoItem t = None
+in_outside first (Then x xs) t =
+    cond (nat_lt t (item_after x)) (if_element x (item_place true x t)) (cond (begins x) (Some (or_behind (in_items true xs t) (AtEnd first))) (in_outside first xs t))
+
+labelled_element : (ls : List Label) (p : Plain) → has_case ls ≡ true → is_null ls p ≡ false
+labelled_element [] p e = absurd (true≢false (sym e))
+labelled_element (l ∷ ls) p e = refl
+
+begun_element : (x : Item) → begins x ≡ true → is_element x ≡ true
+begun_element (Declares first after d) e = refl
+begun_element (States ls p) e = ap not (labelled_element ls p e)
+
+or_end : (o : Option Anchor) (a : Anchor) → option_or o (Some a) ≡ Some (or_behind o a)
+or_end (Some x) a = refl
+or_end None a = refl
+
+element_or : (element : Bool) (place : Anchor) → cond (not element) None (Some place) ≡ cond element (Some place) None
+element_or true place = refl
+element_or false place = refl
+
+-- whether t stands in the first item, and whether that begins a section
+outside_by : (here begun element null sections : Bool) (place end : Anchor) (inside later : Option Anchor) → (begun ≡ true → element ≡ true)
+    → cond null None (option_or inside (cond sections (Some end) None)) ≡ later
+    → cond (cond begun false (cond here (not element) null)) None (option_or (cond here (Some place) inside) (cond (begun || sections) (Some end) None))
+    ≡ cond here (cond element (Some place) None) (cond begun (Some (or_behind inside end)) later)
+outside_by true true element null sections place end inside later h e = sym (ap (λ b. cond b (Some place) None) (h refl))
+outside_by false true element null sections place end inside later h e = or_end inside end
+outside_by true false element null sections place end inside later h e = element_or element place
+outside_by false false element null sections place end inside later h e = e
+
+null_by : (x : Item) (xs : Items) (t : ℕ) (begun : Bool)
+    → stands_in_null (cond begun NoItem (Then x xs)) t ≡ cond begun false (cond (nat_lt t (item_after x)) (not (is_element x)) (stands_in_null xs t))
+null_by x xs t true = refl
+null_by x xs t false = refl
+
+outside_is : (first t : ℕ) (xs : Items) → cond (stands_in_null (outside xs) t) None (option_or (in_items true xs t) (section_end first xs)) ≡ in_outside first xs t
+outside_is first t NoItem = refl
+outside_is first t (Then x xs) =
+    ap (λ b. cond b None (option_or (in_items true (Then x xs) t) (section_end first (Then x xs)))) (null_by x (outside xs) t (begins x))
+    ∙ outside_by (nat_lt t (item_after x)) (begins x) (is_element x) (stands_in_null (outside xs) t) (has_sections xs) (item_place true x t) (AtEnd first) (in_items true xs t) (in_outside first xs t)
+    (begun_element x) (outside_is first t xs)
 
 -- ---- tests
+
+none_or : (b c : Bool) (o : Option Anchor) → cond b None (cond c None o) ≡ cond (b || c) None o
+none_or true c o = refl
+none_or false c o = refl
 
 -- in front of a token, or behind it
 either : (b : Bool) (x y d : Anchor) (o p : Option Anchor) → x ≡ or_behind o d → y ≡ or_behind p d → elim b [ true ↦ x | false ↦ y ] ≡ or_behind (cond b o p) d
@@ -134,7 +186,10 @@ module _ (t : ℕ) where
     switch_same : (switch : ℕ) (b : Body) → walked.switch_place switch b t ≡ or_behind (in_switch b t) (Before switch)
     switch_same switch (Braces first after xs) =
         either (nat_le t first) (Before switch) (walked.members_place false switch first xs t) (Before switch) None (in_outside first xs t) refl (outside_same switch first xs)
-    switch_same switch (Lone first after x) = either (nat_lt t first) (Before switch) (walked.member_place false switch x t) (Before switch) None (if_element x (item_place true x t)) refl (element_same switch x)
+        ∙ ap (λ o. or_behind o (Before switch)) (ap (cond (nat_le t first) None) (sym (outside_is first t xs)) ∙ none_or (nat_le t first) (stands_in_null (outside xs) t) (option_or (in_items true xs t) (section_end first xs)))
+    switch_same switch (Lone first after x) =
+        either (nat_lt t first) (Before switch) (walked.member_place false switch x t) (Before switch) None (if_element x (item_place true x t)) refl (element_same switch x)
+        ∙ ap (λ o. or_behind o (Before switch)) (ap (cond (nat_lt t first) None) (sym (element_or (is_element x) (item_place true x t))) ∙ none_or (nat_lt t first) (not (is_element x)) (Some (item_place true x t)))
 
     outside_same : (switch first : ℕ) (xs : Items) → walked.members_place false switch first xs t ≡ or_behind (in_outside first xs t) (Before switch)
     outside_same switch first NoItem = refl

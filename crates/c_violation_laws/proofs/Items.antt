@@ -30,12 +30,13 @@ use Rattle.c_reading_defs.specs.Written as written
 use Rattle.c_reading_defs.specs.Variables.{name_tokens, start_variables, item_variables, plain_variables, statement_variables, body_variables, list_variables}
 use Rattle.c_reading_defs.specs.Scopes.{scopes_at}
 use Rattle.c_reading_defs.specs.Places.{Place, names, variable, declared as declares, item_identifiers, list_identifiers, start_identifiers, within, within_for}
-use Rattle.c_reading_defs.specs.Items.{local, declares_items, start_items, Parted, preceded, headed, item_items, plain_items, statement_items, body_items, list_items, switch_sections, outside_items, outside_item, parts, part}
+use Rattle.c_reading_defs.specs.Items.{local, declares_items, start_items, item_items, plain_items, statement_items, body_items, list_items, switch_sections, outside_items, outside_item}
 use Rattle.c_violation_laws.proofs.AlikeTerms.{typed_alike}
 use Rattle.c_violation_laws.proofs.Rising.{Rising, rising_ends, Apart}
 use Rattle.c_violation_laws.proofs.Marks.{each_marks, term_marks, option_marks, value_marks, declarator_marks, declaration_marks, label_marks, start_marks, item_marks, plain_marks, statement_marks, body_marks, list_marks}
 use Rattle.c_violation_laws.proofs.Standing.{AreMaps, Stands, StandsIn, in_function, numbered_grouped, number_here, stands_at, stands_first, stands_behind, stands_before, stands_stated, LabelSees, LabelsSee, labels_see, OptionSees, option_sees, stands_braces, stands_lone, stands_for, stands_values, stands_name, stands_body, stands_start, stands_item, stands_rest}
 use Rattle.c_violation_laws.proofs.Sections.{sections_passed}
+use Rattle.c_violation_laws.proofs.Parted.{Parted, preceded, headed, part, parts, parts_sections, part_alone}
 
 -- ---- expressions
 
@@ -272,11 +273,15 @@ module _ (c : Context) (labels : List (List ℕ)) (numbers : (name : List ℕ) �
     switch_same (Braces first after xs) w p rest h =
         let g = stands_braces numbered vs w p first after xs (list_variables xs ++ rest) h in
         let q = within numbered (Braces first after xs) p in
-        λ i. front (outside_same xs (enter w) q rest g i) ++ sections_same None xs (notes_at numbered (AtEnd first)) (enter w) q rest g i
+        let notes = notes_at numbered (AtEnd first) in
+        (λ i. front (outside_same xs (enter w) q rest g i) ++ sections_same None xs notes (enter w) q rest g i)
+        ∙ ap (λ l. front (outside_items typed numbered xs q) ++ map ended l) (parts_sections typed numbered q xs notes)
     switch_same (Lone first after x) w p rest h =
         let g = stands_lone numbered vs w p first after x (item_variables x ++ rest) h in
         let q = within numbered (Lone first after x) p in
-        λ i. front (outside_item_same x (enter w) q rest g i) ++ alone_same x (notes_at numbered (AtEnd first)) (enter w) q rest g i
+        let notes = notes_at numbered (AtEnd first) in
+        (λ i. front (outside_item_same x (enter w) q rest g i) ++ alone_same x notes (enter w) q rest g i)
+        ∙ ap (λ l. front (outside_item typed numbered x q) ++ map ended l) (part_alone typed numbered q x notes)
 
     outside_same : (xs : Items) (w : Walk) (p : Place) (rest : List ℕ) → StandsIn vs w p (list_identifiers numbered xs) (list_marks xs) (list_variables xs ++ rest) → walked.outside_items c xs w ≡ outside_items typed numbered xs p
     outside_same NoItem w p rest h = refl

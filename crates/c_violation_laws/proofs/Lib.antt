@@ -15,6 +15,7 @@ pub mod Numbered
 pub mod Standing
 pub mod FileStanding
 pub mod Sections
+pub mod Parted
 pub mod Items
 pub mod Slots
 pub mod WrittenLabels

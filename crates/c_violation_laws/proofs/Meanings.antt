@@ -1,5 +1,5 @@
 -- What an expression means is what the walk finds it to be.
-use Rattle.std.proofs.Common.{◌≡◌, ◌≢◌, inl, inr, ℕ, Bool, true, false, cond, List, [], ◌∷◌, Option, Some, None, refl, ap, sym, subst, ◌∙◌}
+use Rattle.std.proofs.Common.{◌≡◌, ◌≢◌, inl, inr, ℕ, Bool, true, false, cond, List, [], ◌∷◌, Option, Some, None, refl, ap, sym, subst, ◌∙◌, ◌++◌, append_assoc, append-nil}
 use Rattle.c_types.specs.declared.kinds.IntKind.{IntKind}
 use Rattle.c_types.specs.declared.kinds.IntKind.TheVariants.{Int}
 use Rattle.c_types.specs.declared.kinds.ArithOp.{ArithOp}
@@ -29,7 +29,7 @@ use Rattle.c_kinds.specs.Values.{number, character_constant, of_result, value_of
 use Rattle.c_kinds.specs.Names.{variable_of, named}
 use Rattle.c_kinds.specs.Calls.{called}
 use Rattle.c_kinds.specs.Typing.{typed, form_typed, commas, target_of, form_target, given}
-use Rattle.c_reading_defs.specs.Meanings.{IsVariable, IsNumber, IsCell, IsCall, Means, FormMeans, AreCommas, IsTarget, FormIsTarget, AreMeant}
+use Rattle.c_reading_defs.specs.Meanings.{IsVariable, IsNumber, IsCell, IsCall, Means, FormMeans, AreCommas, one, more, IsTarget, FormIsTarget, AreMeant}
 use Rattle.c_violation_laws.proofs.Lookups.{bound_is, is_bound}
 use Rattle.c_violation_laws.proofs.CallMeanings.{types, AllRight, call_right, called_is, is_called}
 
@@ -204,6 +204,34 @@ comma_is (Some a) (Array n) r = absurd (r refl)
 comma_is (Some a) Wrong r = absurd (r refl)
 comma_is None b r = absurd (r refl)
 
+-- ---- commas
+
+-- operands from the left, behind what is joined so far
+abbrev Joined : Typed → List Typed → Typed → Type 0
+Joined y [] x = x ≡ y
+Joined y (z ∷ zs) x = (e f : Expression) × (dropped y ≡ Some e) × (dropped z ≡ Some f) × Joined (with_left e z) zs x
+
+abbrev AllJoined : List Typed → Typed → Type 0
+AllJoined [] x = ⊥
+AllJoined (y ∷ ys) x = Joined y ys x
+
+joined_last : (y : Typed) (ys : List Typed) (x z : Typed) (e f : Expression) → Joined y ys x → dropped x ≡ Some e → dropped z ≡ Some f → Joined y (ys ++ z ∷ []) (with_left e z)
+joined_last y [] x z e f h d g = (e, f, ap dropped (sym h) ∙ d, g, refl)
+joined_last y (w ∷ ws) x z e f h d g = (h.0, h.1, h.2, h.3, joined_last (with_left h.0 w) ws x z e f h.4 d g)
+
+all_last : (ys : List Typed) (x z : Typed) (e f : Expression) → AllJoined ys x → dropped x ≡ Some e → dropped z ≡ Some f → AllJoined (ys ++ z ∷ []) (with_left e z)
+all_last [] x z e f h d g = absurd h
+all_last (y ∷ ys) x z e f h d g = joined_last y ys x z e f h d g
+
+commas_joined : {ys : List Typed} {x : Typed} → AreCommas ys x → AllJoined ys x
+commas_joined one = refl
+commas_joined (more {xs} {x} y {e} {f} h d g) = all_last xs x y e f (commas_joined h) d g
+
+joined_commas : (front : List Typed) (y : Typed) (ys : List Typed) (x : Typed) → AreCommas front y → Joined y ys x → AreCommas (front ++ ys) x
+joined_commas front y [] x a h = subst (AreCommas (front ++ [])) (sym h) (subst (λ l. AreCommas l y) (sym (append-nil front)) a)
+joined_commas front y (z ∷ zs) x a h =
+    subst (λ l. AreCommas l x) (append_assoc front (z ∷ []) zs) (joined_commas (front ++ z ∷ []) (with_left h.0 z) zs x (more z a h.2 h.3) h.4)
+
 -- ---- from the meaning
 
 mutual
@@ -234,17 +262,18 @@ mutual
       ∙ ap (λ o. assignment op o (value_of (typed env a))) (is_writable h.0 h.0.constant refl h.3)
       ∙ ap (λ z. assignment op (Some h.0) (value_of z)) (is_typed env a (Value h.1) h.4)
       ∙ sym h.5
-  is_form env (Commas a bs) x h = ap (λ y. commas env y bs) (is_typed env a h.0 h.1) ∙ are_commas env h.0 bs x h.2
+  is_form env (Commas a bs) x h = ap (λ y. commas env y bs) (is_typed env a h.0 h.2) ∙ are_commas env h.0 bs h.1 x h.3 (commas_joined h.4)
   is_form env (Call at xs) x h =
       ap (λ o. called (env.word at) o (given env xs)) (is_bound (env.word at) env.scopes h.0 h.2)
       ∙ is_called (env.word at) h.0 (given env xs) h.1 x (are_given env xs h.1 h.3) h.4
   is_form env (Texts ats) x h = sym h
   is_form env Unknown x h = absurd h
 
-  are_commas : (env : Env) (y : Typed) (bs : Terms) (x : Typed) → AreCommas env y bs x → commas env y bs ≡ x
-  are_commas env y NoTerm x h = sym h
-  are_commas env y (Then b bs) x h =
-      ap (λ z. commas env (comma (dropped y) z) bs) (is_typed env b h.2 h.4) ∙ ap (λ o. commas env (comma o h.2) bs) h.3 ∙ are_commas env (with_left h.0 h.2) bs x h.6
+  are_commas : (env : Env) (y : Typed) (bs : Terms) (ys : List Typed) (x : Typed) → AreMeant env bs ys → Joined y ys x → commas env y bs ≡ x
+  are_commas env y NoTerm ys x m h = sym (subst (λ l. Joined y l x) m h)
+  are_commas env y (Then b bs) ys x m h =
+      let j = subst (λ l. Joined y l x) m.4 h in
+      ap (λ z. commas env (comma (dropped y) z) bs) (is_typed env b m.0 m.2) ∙ ap (λ o. commas env (comma o m.0) bs) j.2 ∙ are_commas env (with_left j.0 m.0) bs m.1 x m.3 j.4
 
   pub is_target : (env : Env) (t : Term) (y : Target) → IsTarget env t y → target_of env t ≡ Some y
   is_target env (At first form) y h = is_form_target env form y h
@@ -335,25 +364,21 @@ mutual
       (n.it, o.it, target_is env t n.it n.it_is, n.holds.0, typed_is env a (Value o.it) (value_is (typed env a) o.it o.it_is) (value_right o.it), o.holds)
   form_is env (Commas a bs) x e r =
       let right : typed env a ≢ Wrong = λ w. r (sym e ∙ ap (λ y. commas env y bs) w ∙ wrong_commas env bs) in
-      (typed env a, typed_is env a (typed env a) refl right, commas_are env (typed env a) bs x e r)
+      let c = commas_are env (typed env a) bs x e r in
+      (typed env a, c.0, typed_is env a (typed env a) refl right, c.1, joined_commas (typed env a ∷ []) (typed env a) c.0 x one c.2)
   form_is env (Call at xs) x e r =
       call_by env at xs x (meaning env at) refl (λ rs. given_are env xs rs) e r
   form_is env (Texts ats) x e r = sym e
   form_is env Unknown x e r = absurd (r (sym e))
 
-  commas_are : (env : Env) (y : Typed) (bs : Terms) (x : Typed) → commas env y bs ≡ x → x ≢ Wrong → AreCommas env y bs x
-  commas_are env y NoTerm x e r = sym e
+  commas_are : (env : Env) (y : Typed) (bs : Terms) (x : Typed) → commas env y bs ≡ x → x ≢ Wrong → (ys : List Typed) × AreMeant env bs ys × Joined y ys x
+  commas_are env y NoTerm x e r = ([], refl, sym e)
   commas_are env y (Then b bs) x e r =
       let right : comma (dropped y) (typed env b) ≢ Wrong = λ w. r (sym e ∙ ap (λ z. commas env z bs) w ∙ wrong_commas env bs) in
-      let n = comma_is (dropped y) (typed env b) right in (
-        n.it,
-        n.holds.it,
-        typed env b,
-        n.it_is,
-        typed_is env b (typed env b) refl (dropped_right (typed env b) n.holds.it n.holds.it_is),
-        n.holds.it_is,
-        commas_are env (with_left n.it (typed env b)) bs x (ap (λ z. commas env z bs) (sym n.holds.holds) ∙ e) r,
-      )
+      let n = comma_is (dropped y) (typed env b) right in
+      let c = commas_are env (with_left n.it (typed env b)) bs x (ap (λ z. commas env z bs) (sym n.holds.holds) ∙ e) r in
+      let means = typed_is env b (typed env b) refl (dropped_right (typed env b) n.holds.it n.holds.it_is) in
+      (typed env b ∷ c.0, (typed env b, c.0, means, c.1, refl), (n.it, n.holds.it, n.it_is, n.holds.it_is, c.2))
 
   pub target_is : (env : Env) (t : Term) (y : Target) → target_of env t ≡ Some y → IsTarget env t y
   target_is env (At first form) y e = form_target_is env form y e
@@ -419,9 +444,9 @@ left_right e f (Text v) d w = cc
 left_right e f (Array v) d w = cc
 left_right e f Wrong d w = cc
 
-wrong_commas_not : (env : Env) (y : Typed) (bs : Terms) → y ≢ Wrong → AreCommas env y bs Wrong → ⊥
-wrong_commas_not env y NoTerm r h = r (sym h)
-wrong_commas_not env y (Then b bs) r h = wrong_commas_not env (with_left h.0 h.2) bs (left_right h.0 h.1 h.2 h.5) h.6
+wrong_joined : (y : Typed) (ys : List Typed) → y ≢ Wrong → Joined y ys Wrong → ⊥
+wrong_joined y [] r h = r (sym h)
+wrong_joined y (z ∷ zs) r h = wrong_joined (with_left h.0 z) zs (left_right h.0 h.1 z h.3) h.4
 
 mutual
   pub wrong_not : (env : Env) (t : Term) → Means env t Wrong → ⊥
@@ -440,7 +465,7 @@ mutual
   wrong_form env (Binary m a b) h = wrong_value _ _ h.4
   wrong_form env (Choice a b c) h = wrong_value _ _ h.6
   wrong_form env (Assign m t a) h = wrong_value h.0.kind _ h.5
-  wrong_form env (Commas a bs) h = wrong_commas_not env h.0 bs (λ e. wrong_not env a (subst (Means env a) e h.1)) h.2
+  wrong_form env (Commas a bs) h = wrong_joined h.0 h.1 (λ e. wrong_not env a (subst (Means env a) e h.2)) (commas_joined h.4)
   wrong_form env (Call at xs) h = wrong_call (env.word at) h.0 h.1 h.4
   wrong_form env (Texts ats) h = cc
   wrong_form env Unknown h = absurd h
