@@ -1,5 +1,5 @@
 -- The flat form of a body has no more gotos and labels than its items give at most.
-use Rattle.std.proofs.Common.{◌≡◌, ◌≤◌, ℕ, zero, suc, ◌+◌, ℤ, Bool, true, false, cond, ◌||◌, ◌==◌, List, [], ◌∷◌, length, Option, Some, None, refl}
+use Rattle.std.proofs.Common.{◌≡◌, ◌≤◌, ℕ, zero, suc, ◌+◌, ℤ, Bool, true, false, cond, List, [], ◌∷◌, length, Option, Some, None, refl}
 use Rattle.std.proofs.Common.{sym, ap, subst, ◌∙◌, arith}
 use Rattle.std.specs.Option.{option_map_or, IsSomeAnd}
 use Rattle.c_types.specs.declared.kinds.IntKind.{IntKind}
@@ -19,16 +19,18 @@ use Rattle.jump_meaning.specs.Step.{switch_kind}
 use Rattle.flat_looser_laws.specs.Pieces.{Aim, Stays, Becomes, Absent, mark_of, third_items, assigned_cells, Names, is_number, test_for, tests_for}
 use Rattle.flat_looser_laws.specs.Pieces.{tests, tests_in, tests_among, case_marks}
 use Rattle.flat_looser_laws.specs.Loose.{Arrivals, NoArrival, Arrives}
-use Rattle.flat_laws.specs.Parts.{is_scattered, holds_jump, kept_breaks, has_jumps, Here, past, past_item, inside, Ending, Gone, Breaks, Jumps}
+use Rattle.flat_laws.specs.Parts.{is_named, is_scattered, holds_jump, kept_breaks, has_jumps, Here, past, past_item, inside, Ending, Gone, Breaks, Jumps}
 use Rattle.flat_laws.specs.Parts.{Otherwise, ending, is_gone}
 use Rattle.flat_laws.specs.FlatForm.{Plan, names_of, scatter_aim, otherwise_label, end_goto, aim, exit, is_jumpy_switch, assigned, mark_if, arrival}
 use Rattle.flat_laws.specs.FlatForm.{dissolved, if_breaks, flat_for, flat, flat_item, flat_last, flat_last_item, flat_sections, spread, coded}
-use Rattle.flat_laws.specs.FlatForm.{numbered, first_here, marks, place_in}
+use Rattle.flat_laws.specs.FlatForm.{numbered, first_here, marks}
 use Rattle.flat_laws.proofs.SameCounts.{weight, marks_counted}
-use Rattle.c_resolved_laws.specs.Bounds.{entries, section_ends, most_gotos, most_labels}
-use Rattle.c_resolved_laws.specs.Counts.{goto_of, measured_form, without_strays, without_stray, codes_of, is_case_code, labels_from, named_labels}
+use Rattle.c_resolved_laws.specs.Bounds.{entries, most_gotos, most_labels}
+use Rattle.c_resolved_laws.specs.Counts.{measured_form, section_ends, without_strays, without_stray, gotos_of, labels_of}
 use Rattle.c_resolved_laws.specs.Counts.{flat_counts}
-use Rattle.c_resolved_laws.proofs.Counted.{jumps_stay}
+use Rattle.c_resolved_laws.proofs.Counted.{jumps_stay, labels_stand}
+use Rattle.c_resolved_laws.proofs.GotosCounted.{gotos_are}
+use Rattle.c_resolved_laws.proofs.LabelsCounted.{all_fewer, marks_named, named_small}
 use Rattle.c_resolved_laws.proofs.Measures.{goto_weights}
 
 -- a goto counts so much, and a label so much
@@ -346,44 +348,42 @@ by_labels : (x : Tree) → most 0 1 x ≡ most_labels x
 by_labels (Switch s c) = let h = sections_by_labels c in omega (arith, h)
 by_labels _ = refl
 
-labels_small : (n : ℕ) (all : List ℕ) (i : ℕ) (cs : List ℕ) → labels_from n all i cs ≤ length cs
-labels_small n all i [] = omega arith
-labels_small n all i (c ∷ cs) = let h = labels_small n all (i + 1) cs in by (is_case_code n c || (place_in all c == i)) h
-  where
-    by : (b : Bool) → labels_from n all (i + 1) cs ≤ length cs → cond b 1 0 + labels_from n all (i + 1) cs ≤ length (c ∷ cs)
-    by true h = omega (arith, h)
-    by false h = omega (arith, h)
-
 -- ---- the counts
 
-few_gotos : (body : Forest) → total goto_of (measured_form (without_strays body)) ≤ total most_gotos body
+few_gotos : (body : Forest) → gotos_of (without_strays body) ≤ total most_gotos body
 few_gotos body =
     let bound = without_strays body in
     let p = coded constant [] (length (marks bound)) bound in
     let q = numbered (marks (flat p (first_here 0) Stays Stays NoArrival bound)) p in
+    let d = gotos_are [] (length (marks bound)) bound in
     let e = goto_weights (measured_form bound) in
     let f = flat_small 1 0 q (first_here 0) Stays Stays NoArrival bound in
     let g = strays_small 1 0 body in
     let h : total (most 1 0) body ≡ total most_gotos body = ap (λ (f : Tree → ℕ). total f body) (λ i x. by_gotos x i) in
-    omega (arith, e, f, g, h)
+    omega (arith, d, e, f, g, h)
 
-few_labels : (body : Forest) → named_labels (without_strays body) ≤ total most_labels body
+few_labels : (body : Forest) → labels_of (without_strays body) ≤ total most_labels body
 few_labels body =
     let bound = without_strays body in
+    let named = is_named bound in
     let p = coded constant [] (length (marks bound)) bound in
-    let d = labels_small (length (marks bound)) (codes_of bound) 0 (codes_of bound) in
-    let e = marks_counted (flat p (first_here 0) Stays Stays NoArrival bound) in
-    let f = flat_small 0 1 p (first_here 0) Stays Stays NoArrival bound in
+    let q = numbered (marks (flat p (first_here 0) Stays Stays NoArrival bound)) p in
+    let c = all_fewer named false bound in
+    let d = named_small named (marks bound) 0 (marks bound) in
+    let e = marks_named named bound in
+    let f = labels_stand bound in
+    let i = marks_counted (measured_form bound) in
+    let j = flat_small 0 1 q (first_here 0) Stays Stays NoArrival bound in
     let g = strays_small 0 1 body in
     let h : total (most 0 1) body ≡ total most_labels body = ap (λ (f : Tree → ℕ). total f body) (λ i x. by_labels x i) in
-    omega (arith, d, e, f, g, h)
+    omega (arith, c, d, e, f, g, h, i, j)
 
 -- neither number is below that of the flat form
 abbrev pub IsMost : Forest → ℕ × ℕ → Type 0
 IsMost body n = n.0 ≤ total most_gotos body × n.1 ≤ total most_labels body
 
 abbrev counted_if : Forest → Bool → Option (ℕ × ℕ)
-counted_if body b = cond b (Some (total goto_of (measured_form (without_strays body)), named_labels (without_strays body))) None
+counted_if body b = cond b (Some (gotos_of (without_strays body), labels_of (without_strays body))) None
 
 pub counted_within : (body : Forest) → has_jumps body ≡ true → IsSomeAnd (flat_counts body) (IsMost body)
 counted_within body jumps = subst (λ b. IsSomeAnd (counted_if body b) (IsMost body)) (sym (jumps_stay body ∙ jumps)) (few_gotos body, few_labels body)

@@ -9,7 +9,10 @@ pub mod OneScope
 pub mod Scoped
 pub mod GoodSource
 pub mod Measures
-pub mod Bounds
+mod Endings
+pub mod GotosCounted
+pub mod LabelsCounted
 pub mod Counted
+pub mod Bounds
 mod Tried
 pub mod TheLaws

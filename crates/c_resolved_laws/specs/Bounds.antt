@@ -1,16 +1,12 @@
 -- How many gotos and labels a body's flat form has at most, told without making it.
 use Rattle.std.specs.Prelude.{ℕ, ◌+◌, cond, length}
 use Rattle.c_tree.specs.Trees.{Tree, Sections, NoSection, Section, While, Do, For, Switch, Break, Continue, Goto, Mark, Arrival}
+use Rattle.c_resolved_laws.specs.Counts.{section_ends}
 
 -- the labels of sections themselves: of their cases and their defaults
 abbrev pub entries : Sections → ℕ
 entries NoSection = 0
 entries (Section cases default a ends c) = length cases + cond default 1 0 + entries c
-
--- their ends by a `break`
-abbrev pub section_ends : Sections → ℕ
-section_ends NoSection = 0
-section_ends (Section cases default a ends c) = cond ends 1 0 + section_ends c
 
 -- the gotos that an item may become, apart from those of the items in it: an exit becomes one, a nested case label a
 -- test, and a switch one for each case label and each end, and one for where no case is selected

@@ -8,8 +8,8 @@ use Rattle.c_tree.specs.ExpressionTrees.{expression_tree}
 use Rattle.c_tree.specs.Trees.{Forest, sections_of}
 use Rattle.c_tree.proofs.Views.{sections-at, sections-end}
 use Rattle.flat_laws.specs.Parts.{has_jumps}
-use Rattle.c_resolved_laws.specs.Bounds.{entries, section_ends, most_gotos, most_labels}
-use Rattle.c_resolved_laws.specs.Counts.{flat_counts}
+use Rattle.c_resolved_laws.specs.Bounds.{entries, most_gotos, most_labels}
+use Rattle.c_resolved_laws.specs.Counts.{section_ends, flat_counts}
 use Rattle.c_resolved_laws.proofs.Bounds.{counted_within}
 
 pub entries_more : (cs : List Section) (i : ℕ) (c : Section) → i < length cs → c ≡ get_or cs i c

@@ -3,15 +3,16 @@
 ghost use Rattle.std.specs.Prelude.{◌≡◌, ◌+◌, [], length, IfOk, OnOk};
 ghost use Rattle.c_tree.specs.Everywhere.{total, total_of, total_in};
 ghost use Rattle.c_tree.specs.Trees.{trees_of, sections_of};
-ghost use Rattle.c_resolved_laws.specs.Counts.{goto_of, bound_counts as the_bound_counts, flat_counts as the_flat_counts};
+ghost use Rattle.c_resolved_laws.specs.Counts.{goto_of, gotos_of, labels_of, bound_counts as the_bound_counts, flat_counts as the_flat_counts};
 ghost use Rattle.c_tree.specs.Views.{tree_at};
 
 use crate::flat_counts_labels::label_count;
+use crate::made::made_labels;
 use crate::strays::without_strays;
 use crate::{flat_body, labels_in};
 use c_tree::{Function, Item, Section};
 use c_types::{List, Memory, Name};
-use flat_questions::{has_arrival, has_jumps};
+use flat_questions::{has_arrival, has_jumps, named_labels};
 use std::alloc::Global;
 
 fn add_one(count: &mut u64) -> Result<(), Memory>
@@ -84,32 +85,44 @@ pub fn gotos_in(list: &List<Item>) -> Result<u64, Memory>
     Ok(count)
 }
 
-/// So many labels without names.
-fn unnamed(alloc: Global, count: usize) -> Result<List<Name>, Memory>
-    ensures { IfOk result (λ it. length it ≡ count) }
+/// A function without variables and labels: neither counts.
+fn frame(alloc: Global) -> Function
+    ensures slots { result.slots ≡ [] }
 {
-    let mut out = List::new(alloc);
-    for _i in 0..count {
-        out.push(Name::from_string(String::new(alloc)))?;
-    }
-    Ok(out)
-}
-
-/// A function without variables, and with so many labels.
-fn frame(alloc: Global, labels: usize) -> Result<Function, Memory>
-    ensures slots { IfOk result (λ it. it.slots ≡ []) }
-    ensures labels { IfOk result (λ it. length it.labels ≡ labels) }
-{
-    Ok(Function {
+    Function {
         name: Name::from_string(String::new(alloc)),
         result: None,
         file_only: false,
         params: 0,
         slots: List::new(alloc),
-        labels: unnamed(alloc, labels)?,
+        labels: List::new(alloc),
         body: None,
         flat: false,
-    })
+    }
+}
+
+/// How many gotos the flat form of a body has. It is made to be counted.
+fn flat_gotos(alloc: Global, body: &List<Item>) -> Result<u64, Memory>
+    ensures { IfOk result (λ it. it ≡ gotos_of (trees_of body.now)) }
+{
+    let frame = frame(alloc);
+    let flat = flat_body(alloc, &frame, body)?;
+    let gotos = gotos_in(&flat.items)?;
+    Ok(gotos)
+}
+
+/// How many labels it has: those that are made, and those of the body that stay.
+fn flat_labels(alloc: Global, body: &List<Item>) -> Result<u64, Memory>
+    ensures { IfOk result (λ it. it ≡ labels_of (trees_of body.now)) }
+{
+    let named = named_labels(alloc, body)?;
+    let labels = labels_in(alloc, body)?;
+    let made = made_labels(alloc, named.as_slice(), body)?;
+    let stay = label_count(alloc, named.as_slice(), labels.as_slice())?;
+    match made.checked_add(stay) {
+        Some(sum) => Ok(sum),
+        None => Err(Memory),
+    }
 }
 
 /// How many gotos and labels the flat form of a body has that holds no stray case label.
@@ -117,11 +130,8 @@ fn bound_counts(alloc: Global, body: &List<Item>) -> Result<Option<(u64, u64)>, 
     ensures { IfOk result (λ it. it ≡ the_bound_counts (trees_of body.now)) }
 {
     if has_jumps(body) {
-        let sources = labels_in(alloc, body)?.len();
-        let frame = frame(alloc, sources)?;
-        let flat = flat_body(alloc, &frame, body)?;
-        let gotos = gotos_in(&flat.items)?;
-        let labels = label_count(alloc, sources, flat.codes.as_slice())?;
+        let gotos = flat_gotos(alloc, body)?;
+        let labels = flat_labels(alloc, body)?;
         Ok(Some((gotos, labels)))
     } else {
         Ok(None)
@@ -131,7 +141,7 @@ fn bound_counts(alloc: Global, body: &List<Item>) -> Result<Option<(u64, u64)>, 
 /// How many gotos and how many labels the flat form of a function with this body has, whatever its
 /// variables and labels are; `None` where it has no jumps. A label that stands twice counts once, and
 /// a case label outside of any switch for nothing. Want of memory is the only failure. The flat form
-/// is made to be counted, so it takes the time and the memory of that.
+/// is made to count the gotos, so it takes the time and the memory of that.
 pub fn flat_counts(alloc: Global, body: &List<Item>) -> Result<Option<(u64, u64)>, Memory>
     ensures { IfOk result (λ it. it ≡ the_flat_counts (trees_of body.now)) }
 {

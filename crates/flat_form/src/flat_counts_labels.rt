@@ -1,42 +1,38 @@
-//! Labels of a flat form by their codes.
+//! The labels of a body that stay.
 
-ghost use Rattle.std.specs.Prelude.{◌≡◌, ◌≤◌, ◌==◌, ◌||◌, length, IfOk};
+ghost use Rattle.std.specs.Prelude.{◌≡◌, ◌≤◌, ◌==◌, ◌&&◌, length, IfOk};
 ghost use Rattle.flat_items.specs.Plans.{number_at};
-ghost use Rattle.c_resolved_laws.specs.Counts.{is_case_code as the_case_code, labels_from};
+ghost use Rattle.flat_questions.specs.Reading.{is_flagged as the_is_flagged};
+ghost use Rattle.c_resolved_laws.specs.Counts.{labels_from};
 
 use crate::places_of;
 use c_types::Memory;
 use flat_items::{Places, label_of};
+use flat_questions::is_flagged;
 use std::alloc::Global;
 
-/// Whether a code is that of a case label, where the source has so many labels.
-fn is_case_code(sources: usize, code: usize) -> bool
-    ensures { result ≡ the_case_code sources code }
+/// Whether the label at this place counts.
+fn counts_here(places: &Places, named: &[bool], label: u32, place: usize) -> Result<bool, Memory>
+    ensures { IfOk result (λ it. it ≡ (the_is_flagged named.now label && (number_at places.now label == place))) }
 {
-    sources <= code && (code - sources) % 4 == 3
-}
-
-/// Whether the label with this code, at this place, counts.
-fn counts_here(places: &Places, sources: usize, code: u32, place: usize) -> Result<bool, Memory>
-    ensures { IfOk result (λ it. it ≡ (the_case_code sources code || (number_at places.now code == place))) }
-{
-    if is_case_code(sources, code as usize) {
-        return Ok(true);
+    if !is_flagged(named, label) {
+        return Ok(false);
     }
-    let first = label_of(places, code as usize)?;
+    let first = label_of(places, label as usize)?;
     Ok(first as usize == place)
 }
 
-/// How many labels these codes name, where the source has so many. Want of memory is the only failure.
+/// How many of these labels are named: one that stands twice counts once. The flags say which labels
+/// are named. Want of memory is the only failure.
 #[tactic(auto, using(crate::proofs::CountedPlaces::steps))]
-pub fn label_count(alloc: Global, sources: usize, codes: &[u32]) -> Result<u64, Memory>
-    requires { length codes.now ≤ 4294967295 }
-    ensures { IfOk result (λ it. it ≡ labels_from sources codes.now 0 codes.now) }
+pub fn label_count(alloc: Global, named: &[bool], labels: &[u32]) -> Result<u64, Memory>
+    requires { length labels.now ≤ 4294967295 }
+    ensures { IfOk result (λ it. it ≡ labels_from (the_is_flagged named.now) labels.now 0 labels.now) }
 {
-    let places = places_of(alloc, codes)?;
+    let places = places_of(alloc, labels)?;
     let mut count: u64 = 0;
-    for i in 0..codes.len() {
-        if counts_here(&places, sources, codes[i], i)? {
+    for i in 0..labels.len() {
+        if counts_here(&places, named, labels[i], i)? {
             count += 1;
         }
     }

@@ -7,6 +7,7 @@ mod counting;
 mod flat_bodies_labels;
 mod flat_counts_labels;
 mod forms;
+mod made;
 mod most;
 mod places;
 mod renumbering;

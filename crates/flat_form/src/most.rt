@@ -6,8 +6,8 @@ ghost use Rattle.c_tree.specs.declared.tree.Section.{out-Section};
 ghost use Rattle.c_tree.specs.Trees.{trees_of, sections_of};
 ghost use Rattle.c_tree.specs.Views.{tree_at};
 ghost use Rattle.flat_laws.specs.Parts.{has_jumps as jumps};
-ghost use Rattle.c_resolved_laws.specs.Bounds.{entries, section_ends, most_gotos, most_labels};
-ghost use Rattle.c_resolved_laws.specs.Counts.{flat_counts as the_flat_counts};
+ghost use Rattle.c_resolved_laws.specs.Bounds.{entries, most_gotos, most_labels};
+ghost use Rattle.c_resolved_laws.specs.Counts.{section_ends, flat_counts as the_flat_counts};
 
 use c_tree::{Item, Section};
 use c_types::{List, Memory};

@@ -1,7 +1,8 @@
 use Rattle.std.proofs.Common.{◌≡◌, drop, ◌+◌}
 use Rattle.c_tree.specs.Trees.{trees_of, sections_of}
 use Rattle.c_tree.specs.Everywhere.{total, total_in}
-use Rattle.c_resolved_laws.specs.Bounds.{entries, section_ends, most_gotos, most_labels}
+use Rattle.c_resolved_laws.specs.Bounds.{entries, most_gotos, most_labels}
+use Rattle.c_resolved_laws.specs.Counts.{section_ends}
 use Rattle.flat_form.proofs.most.+most.Given as goal
 
 -- both sums, over what is left
