@@ -21,12 +21,25 @@ pub fn put_newline<W: Output>(out: &mut W)
     out.put(b"\n");
 }
 
-/// The spaces before a line, four for each step of the depth.
-pub fn put_indentation<W: Output>(out: &mut W, depth: u32)
+/// The spaces before a line, step by step.
+fn put_steps<W: Output>(out: &mut W, depth: u32)
     ensures { Prints (W.progress out.old) (W.progress out.new) (indentation depth) }
 {
     for _ in 0..depth {
         out.put(b"    ");
+    }
+}
+
+/// The spaces before a line, four for each step of the depth. Most lines stand at the first steps, whose spaces go out at
+/// once.
+pub fn put_indentation<W: Output>(out: &mut W, depth: u32)
+    ensures { Prints (W.progress out.old) (W.progress out.new) (indentation depth) }
+{
+    match depth {
+        2 => out.put(b"        "),
+        3 => out.put(b"            "),
+        4 => out.put(b"                "),
+        _ => put_steps(out, depth),
     }
 }
 

@@ -1,6 +1,6 @@
 use Rattle.std.proofs.Common.{ℕ, ◌-◌, ◌*◌, List, ◌++◌, replicate}
 use Rattle.rg_ports.specs.Writing.{Start, Stands}
-use Rattle.c_printer.proofs.pieces.put_indentation.Given as goal
+use Rattle.c_printer.proofs.pieces.put_steps.Given as goal
 
 abbrev pub invariant-loop : goal.invariant-loop
 invariant-loop g l =

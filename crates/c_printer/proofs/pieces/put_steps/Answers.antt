@@ -1,6 +1,6 @@
 use Rattle.std.proofs.Common.{◌≡◌, ℕ, suc, ◌+◌, ◌-◌, ◌*◌, ◌<◌, List, ◌∷◌, ◌++◌, replicate, ap, subst, arith}
 use Rattle.rg_ports.specs.Writing.{Stands}
-use Rattle.c_printer.proofs.pieces.put_indentation.Goals as goal
+use Rattle.c_printer.proofs.pieces.put_steps.Goals as goal
 
 four_spaces : (depth i : ℕ) (rest : List ℕ) → i < depth → replicate (4 * (depth - i)) 32 ++ rest ≡ 32 ∷ 32 ∷ 32 ∷ 32 ∷ (replicate (4 * (depth - (i + 1))) 32 ++ rest)
 four_spaces depth i rest h =
