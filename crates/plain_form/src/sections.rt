@@ -21,6 +21,9 @@ fn with_front<T: Drop>(a: Vec<T>, b: Vec<T>) -> Result<List<T>, Memory>
     Ok(List::from_vec(b))
 }
 
+/// From so many entries on, a list that takes a shorter one in front is turned round where it stands; below, it is moved.
+const LONG: usize = 64;
+
 /// One list behind another. `Memory` also where there are too many entries for a list.
 pub fn joined<T: Drop>(a: List<T>, b: List<T>) -> Result<List<T>, Memory>
     ensures { IfOk result (λ it. it ≡ a ++ b) }
@@ -30,7 +33,7 @@ pub fn joined<T: Drop>(a: List<T>, b: List<T>) -> Result<List<T>, Memory>
     if a.len() > MOST - b.len() {
         return Err(Memory);
     }
-    if a.len() < b.len() {
+    if b.len() > LONG && a.len() < b.len() {
         return with_front(a, b);
     }
     a.append(&mut b)?;
