@@ -209,6 +209,14 @@ impl SyntaxNode {
         self.parts.as_slice()
     }
 
+    /// The parts of a node that isn't of an expression, for whoever needs the node no more.
+    pub fn into_parts(self) -> List<SyntaxNode>
+        ensures { keeps_parts (out-Syntax self).rule ≡ true → (out-Syntax self).parts ≡ result }
+    {
+        let SyntaxNode { parts, .. } = self;
+        parts
+    }
+
     /// The node as it is kept. Takes no memory.
     pub fn opened(&self) -> Opened<'_>
         ensures value { self.now ≡ shown result.top result.base result.is_name result.first result.after result.parts.now }

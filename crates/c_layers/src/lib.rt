@@ -23,7 +23,7 @@ pub use statements::{
 };
 pub use tops::{
     EnumeratorLayer, FunctionLayer, ParameterLayer, TopLayer, block_layer, enumerator_layer,
-    parameter_layer, top_layer, tops_of,
+    into_tops, parameter_layer, top_layer, tops_of,
 };
 pub use type_words::kind_of;
 pub use words::Words;

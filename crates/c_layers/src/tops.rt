@@ -13,6 +13,8 @@ use crate::layer::is_token;
 use crate::statements::BodyLayer;
 use crate::words::Words;
 use c_grammar::{Production, SyntaxNode};
+use c_types::List;
+use std::alloc::Global;
 
 /// An enum constant, by the token of its name, and the value that is written.
 #[derive(Clone, Copy)]
@@ -267,6 +269,20 @@ pub fn tops_of<'a>(words: &Words, x: &'a SyntaxNode) -> &'a [SyntaxNode]
     match x.rule() {
         Production::File => x.parts(),
         _ => &[],
+    }
+}
+
+/// The nodes of what stands at file scope, for whoever needs the file no more. They can be given back one by one.
+#[tactic(auto, using(crate::proofs::FileScope::opened_tops))]
+pub fn into_tops(alloc: Global, words: &Words, x: SyntaxNode) -> List<SyntaxNode>
+    ensures { spec.file_of (words_of words.now) x ≡ map (top_of (words_of words.now)) result }
+{
+    match x.rule() {
+        Production::File => x.into_parts(),
+        _ => {
+            drop(x);
+            List::new(alloc)
+        }
     }
 }
 

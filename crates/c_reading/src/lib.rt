@@ -36,7 +36,7 @@ fn read_scanned<C: FlatCounter>(
             text,
             scanned.tokens.as_slice(),
             scanned.comments.as_slice(),
-            &syntax,
+            syntax,
         ),
         Err(stop) => Err(stop),
     }

@@ -226,7 +226,21 @@ fn add_top<'n, 'a, C: FlatCounter>(
     add_form(alloc, counter, file, state, before, x.first(), top, out)
 }
 
-/// What the nodes of a file are, with the comments among them and behind them.
+/// The nodes, of which the first is taken first.
+#[tactic(auto, using(crate::proofs::Nodes::listed))]
+fn stacked(alloc: Global, nodes: List<SyntaxNode>) -> Result<Stack<SyntaxNode>, Memory>
+    ensures { IfOk result (λ it. it ≡ nodes) }
+{
+    let mut nodes = nodes;
+    let mut stack = Stack::new(alloc);
+    while let Some(x) = nodes.pop() {
+        stack.push(x)?;
+    }
+    Ok(stack)
+}
+
+/// What the nodes of a file are, with the comments among them and behind them. Each is given back when it is read, so that
+/// what is read of those behind it takes its room.
 #[tactic(auto, using(crate::proofs::Nodes::tops))]
 pub fn read_tops<'n, 'a, C: FlatCounter>(
     alloc: Global,
@@ -234,14 +248,15 @@ pub fn read_tops<'n, 'a, C: FlatCounter>(
     file: &FileContext<'n, 'a>,
     state: &mut State<'a>,
     before: &mut FunctionNames<'a>,
-    nodes: &[SyntaxNode],
+    nodes: List<SyntaxNode>,
 ) -> Result<List<Top>, Memory>
-    ensures tops { IfOk result (λ it. it ≡ spec.tops_of (file_of (C.flat counter.now) file.now) (tops_in (words_of file.now.outside.words) nodes.now) (state_of state.old before.old)) }
-    ensures faults { OnOk result (state.new.faults ≡ spec.file_faults (file_of (C.flat counter.now) file.now) (tops_in (words_of file.now.outside.words) nodes.now) (state_of state.old before.old) state.old.faults) }
+    ensures tops { IfOk result (λ it. it ≡ spec.tops_of (file_of (C.flat counter.now) file.now) (tops_in (words_of file.now.outside.words) nodes) (state_of state.old before.old)) }
+    ensures faults { OnOk result (state.new.faults ≡ spec.file_faults (file_of (C.flat counter.now) file.now) (tops_in (words_of file.now.outside.words) nodes) (state_of state.old before.old) state.old.faults) }
 {
+    let mut left = stacked(alloc, nodes)?;
     let mut out = List::new(alloc);
-    for x in nodes {
-        add_top(alloc, counter, file, state, before, x, &mut out)?;
+    while let Some(x) = left.pop() {
+        add_top(alloc, counter, file, state, before, &x, &mut out)?;
     }
     add_notes(alloc, file.outside.notes, Anchor::Last, &mut out)?;
     Ok(out)

@@ -20,7 +20,7 @@ use c_bodies::State;
 use c_comments::place_notes;
 use c_grammar::SyntaxNode;
 use c_kinds::{Fault, Known, Scopes};
-use c_layers::{Words, tops_of};
+use c_layers::{Words, into_tops};
 use c_lexer::{Span, Token, comments};
 use c_tree::{Program, Top};
 use c_types::{List, Memory, ReadStop, Stack};
@@ -47,10 +47,10 @@ fn read_nodes<'n, 'a, C: FlatCounter>(
     alloc: Global,
     counter: &C,
     file: &FileContext<'n, 'a>,
-    nodes: &[SyntaxNode],
+    nodes: List<SyntaxNode>,
 ) -> Result<Read, Memory>
-    ensures tops { IfOk result (λ it. it.tops ≡ the_tops (views.file_of (C.flat counter.now) file.now) (tops_in (words_of file.now.outside.words) nodes.now) start) }
-    ensures faults { IfOk result (λ it. it.faults ≡ file_faults (views.file_of (C.flat counter.now) file.now) (tops_in (words_of file.now.outside.words) nodes.now) start []) }
+    ensures tops { IfOk result (λ it. it.tops ≡ the_tops (views.file_of (C.flat counter.now) file.now) (tops_in (words_of file.now.outside.words) nodes) start) }
+    ensures faults { IfOk result (λ it. it.faults ≡ file_faults (views.file_of (C.flat counter.now) file.now) (tops_in (words_of file.now.outside.words) nodes) start []) }
 {
     let scopes = start_scopes(alloc)?;
     let mut state = State {
@@ -76,15 +76,16 @@ fn read_file<'a, C: FlatCounter>(
     counter: &C,
     words: &Words<'a>,
     comments: &[Span],
-    syntax: &SyntaxNode,
+    syntax: SyntaxNode,
 ) -> Result<Read, Memory>
     requires { All (λ comment. IsWithin words.now.text.now comment.start comment.end) comments.now }
-    ensures tops { IfOk result (λ it. it.tops ≡ (spec.program_of (spec.file_at (C.flat counter.now) words.now.text.now words.now.tokens.now comments.now (file_of (words_of words.now) syntax.now)) (file_of (words_of words.now) syntax.now)).tops) }
-    ensures faults { IfOk result (λ it. it.faults ≡ file_faults (spec.file_at (C.flat counter.now) words.now.text.now words.now.tokens.now comments.now (file_of (words_of words.now) syntax.now)) (file_of (words_of words.now) syntax.now) start []) }
+    ensures tops { IfOk result (λ it. it.tops ≡ (spec.program_of (spec.file_at (C.flat counter.now) words.now.text.now words.now.tokens.now comments.now (file_of (words_of words.now) syntax)) (file_of (words_of words.now) syntax)).tops) }
+    ensures faults { IfOk result (λ it. it.faults ≡ file_faults (spec.file_at (C.flat counter.now) words.now.text.now words.now.tokens.now comments.now (file_of (words_of words.now) syntax)) (file_of (words_of words.now) syntax) start []) }
 {
-    let nodes = tops_of(words, syntax);
-    let notes = place_notes(alloc, words, nodes, comments)?;
-    let bodies = bodies_of(alloc, words, nodes)?;
+    let nodes = into_tops(alloc, words, syntax);
+    let whole = nodes.as_slice();
+    let notes = place_notes(alloc, words, whole, comments)?;
+    let bodies = bodies_of(alloc, words, whole)?;
     let outside = Outside {
         words: *words,
         notes: &notes,
@@ -98,18 +99,18 @@ fn read_file<'a, C: FlatCounter>(
 }
 
 /// The program of a syntax of these tokens of a text, with these comments, or its first violation: the
-/// one with the least place, then the least reason (docs/SUBSET.md).
+/// one with the least place, then the least reason (docs/SUBSET.md). The syntax is given back on the way.
 pub fn resolve_with<C: FlatCounter>(
     alloc: Global,
     counter: &C,
     text: &[u8],
     tokens: &[Token],
     comments: &[Span],
-    syntax: &SyntaxNode,
+    syntax: SyntaxNode,
 ) -> Result<Program, ReadStop>
     requires tokens { All (λ token. IsWithin text.now token.start token.end) tokens.now }
     requires comments { All (λ comment. IsWithin text.now comment.start comment.end) comments.now }
-    ensures { Gives (λ program. program) result (spec.resolved (C.flat counter.now) text.now tokens.now comments.now syntax.now) }
+    ensures { Gives (λ program. program) result (spec.resolved (C.flat counter.now) text.now tokens.now comments.now syntax) }
 {
     let words = Words { text, tokens };
     let Read { tops, faults } = read_file(alloc, counter, &words, comments, syntax)?;
@@ -127,11 +128,11 @@ pub fn resolve<C: FlatCounter>(
     counter: &C,
     text: &[u8],
     tokens: &List<Token>,
-    syntax: &SyntaxNode,
+    syntax: SyntaxNode,
 ) -> Result<Program, ReadStop>
     requires read { read_tokens text.now ≡ Ok tokens.now }
     requires within { All (λ token. IsWithin text.now token.start token.end) tokens.now }
-    ensures { Gives (λ program. program) result (spec.resolved (C.flat counter.now) text.now tokens.now (spec.comments_of text.now) syntax.now) }
+    ensures { Gives (λ program. program) result (spec.resolved (C.flat counter.now) text.now tokens.now (spec.comments_of text.now) syntax) }
 {
     match comments(alloc, text) {
         Ok(comments) => resolve_with(

@@ -29,7 +29,7 @@ impl FlatCounter for NoJumps {
 fn program(alloc: Global, text: &[u8]) -> Result<Program, ReadStop> {
     let tokens = tokens(alloc, text)?;
     let syntax = parse(alloc, text, &tokens)?;
-    resolve(alloc, &NoJumps, text, &tokens, &syntax)
+    resolve(alloc, &NoJumps, text, &tokens, syntax)
 }
 
 #[test]

@@ -13,10 +13,11 @@ returns-clause-tops g c =
     let words = c.args.words.now in
     let word = words_of words in
     let flat = g.C.FlatCounter.flat c.args.counter.now in
-    let whole = file_of word c.args.syntax.now in
-    let nodes : tops_in word c.tops_of-nodes.result.now ≡ whole = sym c.tops_of-nodes.ensures in
-    let notes = c.in_ok-notes.ensures ∙ ap (notes_of words.text.now words.tokens.now c.args.comments.now) nodes in
-    let bodies = c.in_ok-bodies.ensures ∙ ap (bodies_of word) nodes in
+    let whole = file_of word c.args.syntax in
+    let nodes : tops_in word c.into_tops-nodes.result ≡ whole = sym c.into_tops-nodes.ensures in
+    let seen : tops_in word c.as_slice-whole.result.now ≡ whole = ap (tops_in word) c.as_slice-whole.ensures.value ∙ nodes in
+    let notes = c.in_ok-notes.ensures ∙ ap (notes_of words.text.now words.tokens.now c.args.comments.now) seen in
+    let bodies = c.in_ok-bodies.ensures ∙ ap (bodies_of word) seen in
     c.in_ok-read.ensures.tops ∙ (λ i. tops_of (record { word = word; notes = notes i; bodies = bodies i; flat = flat }) (nodes i) start)
 
 pub returns-clause-faults : goal.returns-clause-faults
@@ -24,8 +25,9 @@ returns-clause-faults g c =
     let words = c.args.words.now in
     let word = words_of words in
     let flat = g.C.FlatCounter.flat c.args.counter.now in
-    let whole = file_of word c.args.syntax.now in
-    let nodes : tops_in word c.tops_of-nodes.result.now ≡ whole = sym c.tops_of-nodes.ensures in
-    let notes = c.in_ok-notes.ensures ∙ ap (notes_of words.text.now words.tokens.now c.args.comments.now) nodes in
-    let bodies = c.in_ok-bodies.ensures ∙ ap (bodies_of word) nodes in
+    let whole = file_of word c.args.syntax in
+    let nodes : tops_in word c.into_tops-nodes.result ≡ whole = sym c.into_tops-nodes.ensures in
+    let seen : tops_in word c.as_slice-whole.result.now ≡ whole = ap (tops_in word) c.as_slice-whole.ensures.value ∙ nodes in
+    let notes = c.in_ok-notes.ensures ∙ ap (notes_of words.text.now words.tokens.now c.args.comments.now) seen in
+    let bodies = c.in_ok-bodies.ensures ∙ ap (bodies_of word) seen in
     c.in_ok-read.ensures.faults ∙ (λ i. file_faults (record { word = word; notes = notes i; bodies = bodies i; flat = flat }) (nodes i) start [])
