@@ -24,7 +24,7 @@ fault_if b at reason vs = cond b (fault at reason vs) vs
 
 -- ---- scopes
 
--- names and what each has; those that `with_entry` makes have each once and in byte order
+-- names and what each has; the first of a name counts. Those that `with_entry` makes have each once and in byte order
 abbrev pub Names : Type 0 → Type 0
 Names X = List (List ℕ × X)
 

@@ -17,8 +17,8 @@ pub enum Full {
     Conditional,
 }
 
-/// What is awaited. The first number of each is that of the node's first token, the other one that
-/// of the token where its next part begins.
+/// What is awaited, as contracts tell it; the stack keeps it as entries. The first number of each is
+/// that of the node's first token, the other one that of the token where its next part begins.
 #[derive(Drop)]
 pub enum Frame {
     WantUnary,

@@ -17,7 +17,7 @@ use Rattle.c_kinds.specs.Calls.{same_kind, same_truth}
 use Rattle.c_statements.specs.Functions.{signature, result_kind}
 use Rattle.c_scopes.specs.FileNames.{bound_in}
 
--- ---- names of functions, each once and in byte order
+-- ---- names of functions; those that `with_function` makes stand each once and in byte order
 
 abbrev pub has_function : List (List ℕ) → List ℕ → Bool
 has_function functions name = list_any (λ f. bytes_eq name f) functions

@@ -6,7 +6,7 @@ use Rattle.c_tree.specs.declared.tree.Item.TheOpen as Open
 use Rattle.c_tree.specs.declared.tree.Section.{Section, roll-Section, out-Section}
 use Rattle.c_statements.specs.Declarations.{placeholder}
 
--- a section that is being read
+-- a section as it is written, before it has its end
 pub record Reading : Type 0 where
   pub cases : List Expression
   pub default : Bool
