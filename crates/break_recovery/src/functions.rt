@@ -24,7 +24,7 @@ fn undeclare(slot: u32, list: &mut List<Item>) -> Option<usize>
     let mut i = 0;
     while i < list.len() {
         if is_declaration(slot, &list.as_slice()[i]) {
-            list.remove(i);
+            drop(list.remove(i));
             return Some(i);
         }
         i += 1;

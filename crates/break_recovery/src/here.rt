@@ -43,7 +43,7 @@ fn make_break(alloc: Global, slot: u32, list: &mut List<Item>, at: usize) -> Res
     let made = broken(alloc, slot, &list.as_slice()[at])?;
     list.set(at, made);
     if at + 1 < list.len() {
-        list.remove(at + 1);
+        drop(list.remove(at + 1));
     }
     Ok(())
 }

@@ -7,7 +7,7 @@ ghost use Rattle.c_tree.specs.declared.tree.Test as test;
 
 use crate::values::Selected;
 use c_tree::{Expression, Item, Section, Selector, Test};
-use c_types::{List, Memory};
+use c_types::{Boxed, List, Memory};
 
 /// Puts this behind other items: an `if` with both of its lists.
 pub fn push_if(
@@ -84,6 +84,6 @@ pub struct Lists {
 #[derive(Drop)]
 pub struct Heads {
     pub start: List<Item>,
-    pub test: Option<Expression>,
-    pub third: Option<Expression>,
+    pub test: Option<Boxed<Expression>>,
+    pub third: Option<Boxed<Expression>>,
 }

@@ -19,7 +19,7 @@ use c_kinds::{
 };
 use c_statements::{add_declaration, or_placeholder, value};
 use c_tree::{Expression, Item, Node};
-use c_types::{IntKind, List, Memory};
+use c_types::{Boxed, IntKind, List, Memory};
 use std::alloc::Global;
 
 /// An expression of which the value is used.
@@ -196,14 +196,14 @@ pub fn optional_used<'n, 'a>(
     ctx: &FunctionContext<'n, 'a>,
     state: &mut State<'a>,
     x: Option<&SyntaxNode>,
-) -> Result<Option<Expression>, Memory>
+) -> Result<Option<Boxed<Expression>>, Memory>
     ensures value { IfOk result (λ e. e ≡ option_map (declarations.value_at (views.env ctx.now state.old)) (option_map (λ y. term_of (words_of ctx.now.words) y.now) x.entry)) }
     ensures walk { OnOk result (views.walk_of state.new ≡ views.walk_of state.old) }
     ensures cases { OnOk result (state.new.cases ≡ state.old.cases) }
     ensures faults { OnOk result (state.new.faults ≡ violations.optional_faults (declarations.value_faults (views.env ctx.now state.old)) (option_map (λ y. term_of (words_of ctx.now.words) y.now) x.entry) state.old.faults) }
 {
     match x {
-        Some(x) => Ok(Some(used(alloc, ctx, state, x)?)),
+        Some(x) => Ok(Some(Boxed::new(alloc, used(alloc, ctx, state, x)?)?)),
         None => Ok(None),
     }
 }
@@ -214,14 +214,14 @@ pub fn optional_dropped<'n, 'a>(
     ctx: &FunctionContext<'n, 'a>,
     state: &mut State<'a>,
     x: Option<&SyntaxNode>,
-) -> Result<Option<Expression>, Memory>
+) -> Result<Option<Boxed<Expression>>, Memory>
     ensures value { IfOk result (λ e. e ≡ option_map (spec.dropped_at (views.env ctx.now state.old)) (option_map (λ y. term_of (words_of ctx.now.words) y.now) x.entry)) }
     ensures walk { OnOk result (views.walk_of state.new ≡ views.walk_of state.old) }
     ensures cases { OnOk result (state.new.cases ≡ state.old.cases) }
     ensures faults { OnOk result (state.new.faults ≡ violations.optional_faults (violations.dropped_faults (views.env ctx.now state.old)) (option_map (λ y. term_of (words_of ctx.now.words) y.now) x.entry) state.old.faults) }
 {
     match x {
-        Some(x) => Ok(Some(dropped(alloc, ctx, state, x)?)),
+        Some(x) => Ok(Some(Boxed::new(alloc, dropped(alloc, ctx, state, x)?)?)),
         None => Ok(None),
     }
 }

@@ -110,6 +110,19 @@ pub fn copy_option(alloc: Global, e: &Option<Expression>) -> Result<Option<Expre
     }
 }
 
+/// An equal part of a `for`, if there is one. Want of memory is the only failure.
+pub fn copy_part(
+    alloc: Global,
+    e: &Option<Boxed<Expression>>,
+) -> Result<Option<Boxed<Expression>>, Memory>
+    ensures { IfOk result (λ it. it ≡ e.now) }
+{
+    match e {
+        Some(e) => Ok(Some(copy_boxed(alloc, e)?)),
+        None => Ok(None),
+    }
+}
+
 /// An equal list of initialisers, if there is one. Want of memory is the only failure.
 pub fn copy_given(
     alloc: Global,

@@ -1,6 +1,6 @@
 ghost use Rattle.std.specs.Prelude.{◌≡◌, IfOk};
 
-use crate::expressions::{copy_expression, copy_expressions, copy_given, copy_option};
+use crate::expressions::{copy_expression, copy_expressions, copy_given, copy_option, copy_part};
 use c_tree::{Expression, Item, Section, Selector, Test};
 use c_types::{Boxed, List, Memory};
 use std::alloc::Global;
@@ -152,14 +152,14 @@ pub fn make_do(alloc: Global, a: List<Item>, test: &Test) -> Result<Item, Memory
 pub fn make_for(
     alloc: Global,
     first: List<Item>,
-    test: &Option<Expression>,
-    third: &Option<Expression>,
+    test: &Option<Boxed<Expression>>,
+    third: &Option<Boxed<Expression>>,
     a: List<Item>,
 ) -> Result<Item, Memory>
     ensures { IfOk result (λ it. it ≡ Item.For first test.now third.now a) }
 {
-    let test = copy_option(alloc, test)?;
-    match copy_option(alloc, third) {
+    let test = copy_part(alloc, test)?;
+    match copy_part(alloc, third) {
         Ok(third) => Ok(Item::For(first, test, third, a)),
         Err(e) => {
             drop(test);

@@ -10,7 +10,7 @@ use c_tree::{
     EnumItem, Expression, Function, GlobalVariable, Home, Item, Node, Place, Program, Section,
     Selector, Slot, Test, Top,
 };
-use c_types::{List, Memory, Name};
+use c_types::{Boxed, List, Memory, Name};
 use std::alloc::Global;
 
 fn add_name<'a>(set: &mut GatheredNames<'a>, name: &'a Name) -> Result<(), Memory>
@@ -128,6 +128,15 @@ fn add_option<'a>(set: &mut GatheredNames<'a>, e: &'a Option<Expression>) -> Res
     }
 }
 
+fn add_part<'a>(set: &mut GatheredNames<'a>, e: &'a Option<Boxed<Expression>>) -> Result<(), Memory>
+    ensures { OnOk result (set.new ≡ with_names set.old (option_names e.now)) }
+{
+    match e {
+        Some(e) => add_expression(set, e.get()),
+        None => Ok(()),
+    }
+}
+
 fn add_given<'a>(set: &mut GatheredNames<'a>, e: &'a Option<List<Expression>>) -> Result<(), Memory>
     ensures { OnOk result (set.new ≡ with_names set.old (given_names e.now)) }
 {
@@ -208,8 +217,8 @@ fn add_item<'a>(set: &mut GatheredNames<'a>, item: &'a Item) -> Result<(), Memor
         }
         Item::For(first, test, third, a) => {
             add_items(set, first.as_slice())?;
-            add_option(set, test)?;
-            add_option(set, third)?;
+            add_part(set, test)?;
+            add_part(set, third)?;
             add_items(set, a.as_slice())
         }
         Item::Switch(selector, sections) => {

@@ -11,7 +11,7 @@ use crate::pieces::{
     put_word,
 };
 use c_tree::{Expression, Function, Selector, Slot, Test};
-use c_types::{IntKind, List};
+use c_types::{Boxed, IntKind, List};
 use rg_ports::Output;
 
 /// A keyword and a space.
@@ -177,13 +177,23 @@ pub fn put_selector<W: Output>(out: &mut W, slots: &[Slot], selector: &Selector)
     put_punctuator(out, ")");
 }
 
-/// The second or third part of a `for`, or the value of a `return`, after a space.
-pub fn put_part<W: Output>(out: &mut W, slots: &[Slot], part: &Option<Expression>)
+/// The value of a `return`, after a space.
+pub fn put_value<W: Output>(out: &mut W, slots: &[Slot], value: &Option<Expression>)
+    ensures { Prints (W.progress out.old) (W.progress out.new) (part_text slots.now value.now) }
+{
+    if let Some(e) = value {
+        put_space(out);
+        put_expression(out, slots, e, 1);
+    }
+}
+
+/// The second or third part of a `for`, after a space.
+pub fn put_part<W: Output>(out: &mut W, slots: &[Slot], part: &Option<Boxed<Expression>>)
     ensures { Prints (W.progress out.old) (W.progress out.new) (part_text slots.now part.now) }
 {
     if let Some(e) = part {
         put_space(out);
-        put_expression(out, slots, e, 1);
+        put_expression(out, slots, e.get(), 1);
     }
 }
 

@@ -17,6 +17,7 @@ use crate::statements::{
     put_mark, put_repeat, put_return, put_switch, put_tested,
 };
 use c_tree::{Expression, Function, Item, Section, Slot};
+use c_types::Boxed;
 use rg_ports::Output;
 
 /// The depth of a list in one of this depth.
@@ -63,8 +64,8 @@ fn put_next<W: Output>(out: &mut W, function: &Function, item: &Item)
 fn put_parts<W: Output>(
     out: &mut W,
     slots: &[Slot],
-    test: &Option<Expression>,
-    step: &Option<Expression>,
+    test: &Option<Boxed<Expression>>,
+    step: &Option<Boxed<Expression>>,
 )
     ensures { Prints (W.progress out.old) (W.progress out.new) (punctuator (codes ";") ⨾ part_text slots.now test.now ⨾ punctuator (codes ";") ⨾ part_text slots.now step.now) }
 {
@@ -79,8 +80,8 @@ fn put_brackets<W: Output>(
     out: &mut W,
     function: &Function,
     first: &[Item],
-    test: &Option<Expression>,
-    step: &Option<Expression>,
+    test: &Option<Boxed<Expression>>,
+    step: &Option<Boxed<Expression>>,
 )
     ensures { Prints (W.progress out.old) (W.progress out.new) (punctuator (codes "(") ⨾ first_text (map (printed function.now) first.now) ⨾ punctuator (codes ";") ⨾ part_text function.now.slots test.now ⨾ punctuator (codes ";") ⨾ part_text function.now.slots step.now ⨾ punctuator (codes ")")) }
 {
@@ -95,8 +96,8 @@ fn put_for<W: Output>(
     out: &mut W,
     function: &Function,
     first: &[Item],
-    test: &Option<Expression>,
-    step: &Option<Expression>,
+    test: &Option<Boxed<Expression>>,
+    step: &Option<Boxed<Expression>>,
 )
     ensures { Prints (W.progress out.old) (W.progress out.new) (word (codes "for") ⨾ space ⨾ punctuator (codes "(") ⨾ first_text (map (printed function.now) first.now) ⨾ punctuator (codes ";") ⨾ part_text function.now.slots test.now ⨾ punctuator (codes ";") ⨾ part_text function.now.slots step.now ⨾ punctuator (codes ")") ⨾ space) }
 {

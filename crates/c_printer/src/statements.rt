@@ -7,7 +7,7 @@ ghost use Rattle.c_tree.specs.TextItems.{test_text, selector_text, part_text, la
 ghost use Rattle.c_printer.specs.Writing.{Prints};
 
 use crate::declarations::{
-    label_name, put_condition, put_end, put_keyword, put_local, put_part, put_selector,
+    label_name, put_condition, put_end, put_keyword, put_local, put_selector, put_value,
 };
 use crate::expressions::put_expression;
 use crate::pieces::{put_indentation, put_newline, put_punctuator, put_space, put_word};
@@ -28,7 +28,7 @@ pub fn put_return<W: Output>(out: &mut W, function: &Function, value: &Option<Ex
     ensures { Prints (W.progress out.old) (W.progress out.new) (word (codes "return") ⨾ part_text function.now.slots value.now ⨾ punctuator (codes ";") ⨾ newline) }
 {
     put_word(out, "return");
-    put_part(out, function.slots.as_slice(), value);
+    put_value(out, function.slots.as_slice(), value);
     put_end(out);
 }
 

@@ -227,7 +227,7 @@ pub enum Item {
     /// `do` (6.8.5.2).
     Do(List<Item>, Test),
     /// `for` (6.8.5.3): the first part, the test, the third part and the body.
-    For(List<Item>, Option<Expression>, Option<Expression>, List<Item>),
+    For(List<Item>, Option<Boxed<Expression>>, Option<Boxed<Expression>>, List<Item>),
     /// `switch`, with its sections in order (6.8.4.2).
     Switch(Selector, List<Section>),
     /// A compound statement (6.8.2).

@@ -13,7 +13,7 @@ use crate::plans::{Aim, Scope};
 use crate::values::{assignment, cell_assignment, cell_cleared, test_of};
 use c_copies::{copy_expression, copy_item, make_do, make_for, make_if, make_switch, make_while};
 use c_tree::{Expression, Item, Section, Selector, Slot, Test};
-use c_types::{IntKind, List, Memory};
+use c_types::{Boxed, IntKind, List, Memory};
 use std::alloc::Global;
 
 /// Puts an item behind the others.
@@ -146,14 +146,14 @@ pub fn add_do(
 fn with_third(
     alloc: Global,
     a: List<Item>,
-    third: &Option<Expression>,
+    third: &Option<Boxed<Expression>>,
 ) -> Result<List<Item>, Memory>
     ensures { IfOk result (λ it. trees_of it ≡ join (trees_of a) (third_items (option_map expression_tree third.now))) }
 {
     let mut a = a;
     match third {
         Some(e) => {
-            let e = copy_expression(alloc, e)?;
+            let e = copy_expression(alloc, e.get())?;
             add(&mut a, Item::Evaluate(e))?;
             Ok(a)
         }
@@ -161,7 +161,11 @@ fn with_third(
     }
 }
 
-fn made_while(alloc: Global, test: &Option<Expression>, a: List<Item>) -> Result<Item, Memory>
+fn made_while(
+    alloc: Global,
+    test: &Option<Boxed<Expression>>,
+    a: List<Item>,
+) -> Result<Item, Memory>
     ensures { IfOk result (λ it. tree_at it ≡ While (Source (test_or_one (option_map expression_tree test.now))) (trees_of a)) }
 {
     let test = test_of(alloc, test)?;
@@ -170,8 +174,8 @@ fn made_while(alloc: Global, test: &Option<Expression>, a: List<Item>) -> Result
 
 fn add_jumpy(
     alloc: Global,
-    test: &Option<Expression>,
-    third: &Option<Expression>,
+    test: &Option<Boxed<Expression>>,
+    third: &Option<Boxed<Expression>>,
     a: List<Item>,
     out: &mut List<Item>,
 ) -> Result<(), Memory>
@@ -184,8 +188,8 @@ fn add_jumpy(
 
 fn add_calm(
     alloc: Global,
-    test: &Option<Expression>,
-    third: &Option<Expression>,
+    test: &Option<Boxed<Expression>>,
+    third: &Option<Boxed<Expression>>,
     a: List<Item>,
     out: &mut List<Item>,
 ) -> Result<(), Memory>
@@ -198,8 +202,8 @@ fn add_calm(
 fn add_loop(
     alloc: Global,
     jumpy: bool,
-    test: &Option<Expression>,
-    third: &Option<Expression>,
+    test: &Option<Boxed<Expression>>,
+    third: &Option<Boxed<Expression>>,
     a: List<Item>,
     out: &mut List<Item>,
 ) -> Result<(), Memory>
@@ -216,8 +220,8 @@ fn add_loop(
 pub fn add_for(
     alloc: Global,
     jumpy: bool,
-    test: &Option<Expression>,
-    third: &Option<Expression>,
+    test: &Option<Boxed<Expression>>,
+    third: &Option<Boxed<Expression>>,
     a: List<Item>,
     scope: Scope,
     out: &mut List<Item>,

@@ -168,11 +168,11 @@ pub fn case_test(
 }
 
 /// The test of a `for`, 1 where it has none.
-pub fn test_of(alloc: Global, test: &Option<Expression>) -> Result<Test, Memory>
+pub fn test_of(alloc: Global, test: &Option<Boxed<Expression>>) -> Result<Test, Memory>
     ensures { IfOk result (λ it. test_tree it ≡ Source (test_or_one (option_map expression_tree test.now))) }
 {
     match test {
-        Some(e) => Ok(Test::Source(copy_expression(alloc, e)?)),
+        Some(e) => Ok(Test::Source(copy_expression(alloc, e.get())?)),
         None => Ok(Test::Source(Expression {
             kind: Some(IntKind::Int),
             node: Node::Number(1),

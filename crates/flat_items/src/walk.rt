@@ -23,7 +23,7 @@ use crate::pieces::{
 use crate::plans::{Aim, Cases, Here, Plan, Scope, entered, source_label};
 use c_copies::copy_expressions;
 use c_tree::{Expression, Item, Section, Selector, Test};
-use c_types::{List, Memory};
+use c_types::{Boxed, List, Memory};
 use flat_questions::{Ending, ends_by, is_flagged, is_scattered};
 use std::alloc::Global;
 
@@ -156,8 +156,8 @@ fn write_for(
     plan: &Plan,
     cases: &Cases,
     construct: u32,
-    test: &Option<Expression>,
-    third: &Option<Expression>,
+    test: &Option<Boxed<Expression>>,
+    third: &Option<Boxed<Expression>>,
     a: &List<Item>,
     here: Here,
     out: &mut List<Item>,
@@ -256,7 +256,7 @@ fn without_last(alloc: Global, list: List<Item>) -> List<Item>
     ensures { trees_of result ≡ but_last (trees_of list) }
 {
     let mut list = list;
-    list.pop();
+    drop(list.pop());
     if list.is_empty() {
         List::new(alloc)
     } else {

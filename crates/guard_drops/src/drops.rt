@@ -1,4 +1,4 @@
-ghost use Rattle.std.specs.Prelude.{◌≡◌, eqb, false, Some, None};
+ghost use Rattle.std.specs.Prelude.{◌≡◌, ◌<◌, eqb, false, length, remove, Some, None};
 ghost use Rattle.c_tree.specs.declared.tree.Item.{Arm};
 ghost use Rattle.c_tree.specs.Changed.{one};
 ghost use Rattle.c_tree.specs.Trees.{tree_of, trees_of, sections_of};
@@ -46,6 +46,14 @@ fn disarmed(at: u32, e: Option<Expression>, label: u32) -> Item
     }
 }
 
+/// Lets the item at a place go.
+fn take_away(list: &mut List<Item>, at: usize)
+    requires { at < length list.old }
+    ensures { list.new ≡ remove list.old at }
+{
+    drop(list.remove(at));
+}
+
 #[cycle(drops)]
 fn drop_inside(item: &mut Item, label: u32)
     requires { the_goes label item.old ≡ false }
@@ -90,7 +98,7 @@ fn drop_in(list: &mut List<Item>, label: u32)
     let mut i = 0;
     while i < list.len() {
         if goes(&list.as_slice()[i], label) {
-            list.remove(i);
+            take_away(list, i);
         } else {
             drop_inside(list.at_mut(i), label);
             i += 1;

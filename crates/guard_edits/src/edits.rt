@@ -7,7 +7,7 @@ ghost use Rattle.guard_simplify.specs.Application.{shortened, edited};
 ghost use Rattle.guard_simplify.specs.Views.{repeat_in};
 ghost use Rattle.guard_edits.specs.Built.{ArePair, IsNest, IsUnnested};
 
-use crate::joining::{join_next, room_for};
+use crate::joining::{if_parts, join_next, room_for};
 use crate::wrappers::{unwrap_selector, unwrap_test, wrap};
 use c_tree::{Item, Test};
 use c_types::{Boxed, List, Memory};
@@ -36,7 +36,7 @@ pub fn remove_item(list: &mut List<Item>, at: usize)
     requires { at < length list.old }
     ensures { trees_of list.new ≡ edited Z1 at (trees_of list.old) }
 {
-    list.remove(at);
+    drop(list.remove(at));
 }
 
 /// Z2: the first wrapper that repeats another goes from the test or selector of the item.
@@ -72,15 +72,15 @@ fn unnest(item: &mut Item, spare: Boxed<Test>)
     requires { IsNest item.old }
     ensures { IsUnnested item.old item.new }
 {
-    match mem::replace(item, Item::Break) {
-        Item::If(test, mut list, c) => match list.pop() {
-            Some(last) => match last {
-                Item::If(inner, a, _) => *item = Item::If(wrap(test, inner, spare), a, c),
-                _ => unreachable!(),
-            },
-            None => unreachable!(),
-        },
-        _ => unreachable!(),
+    let (test, mut list, c) = if_parts(mem::replace(item, Item::Break));
+    match list.pop() {
+        Some(last) => {
+            let (inner, a, b) = if_parts(last);
+            drop(list);
+            drop(b);
+            drop(mem::replace(item, Item::If(wrap(test, inner, spare), a, c)));
+        }
+        None => unreachable!(),
     }
 }
 

@@ -1,9 +1,10 @@
 //! Two neighbours become one.
 
 ghost use Rattle.std.specs.Prelude.{◌≡◌, ◌≤◌, ◌+◌, ◌++◌, [], IfOk, length, vec_capacity};
+ghost use Rattle.c_tree.specs.declared.tree.Item.{If};
 ghost use Rattle.guard_edits.specs.Built.{IsIf, IsJoined, first_length as the_first_length};
 
-use c_tree::Item;
+use c_tree::{Item, Test};
 use c_types::{List, Memory};
 use std::alloc::Global;
 use std::mem;
@@ -54,6 +55,17 @@ pub fn room_for(alloc: Global, first: &Item, next: &Item) -> Result<Vec<Item>, M
     Ok(room)
 }
 
+/// The test of an `if`, its then-list and its else-list.
+pub(crate) fn if_parts(item: Item) -> (Test, List<Item>, List<Item>)
+    requires { IsIf item }
+    ensures { item ≡ If result.0 result.1 result.2 }
+{
+    match item {
+        Item::If(test, a, b) => (test, a, b),
+        _ => unreachable!(),
+    }
+}
+
 /// Puts the first list of an `if` behind that of its neighbour. It takes no memory.
 pub fn join_next(item: &mut Item, next: Item, room: Vec<Item>)
     requires first { IsIf item.old }
@@ -63,15 +75,9 @@ pub fn join_next(item: &mut Item, next: Item, room: Vec<Item>)
     requires bound { the_first_length item.old + the_first_length next ≤ 4294967295 }
     ensures { IsJoined item.old next item.new }
 {
-    match mem::replace(item, Item::Break) {
-        Item::If(test, a, b) => match next {
-            Item::If(other, c, d) => {
-                drop(other);
-                drop(d);
-                *item = Item::If(test, both(a, c, room), b);
-            }
-            _ => unreachable!(),
-        },
-        _ => unreachable!(),
-    }
+    let (test, a, b) = if_parts(mem::replace(item, Item::Break));
+    let (other, c, d) = if_parts(next);
+    drop(other);
+    drop(d);
+    drop(mem::replace(item, Item::If(test, both(a, c, room), b)));
 }

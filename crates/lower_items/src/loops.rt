@@ -14,7 +14,7 @@ ghost use Rattle.c_tree.specs.Views.{tree_at};
 
 use crate::plans::{Inside, Labels, entered};
 use c_tree::{Expression, Item, Test};
-use c_types::{List, Memory};
+use c_types::{Boxed, List, Memory};
 use flat_items::{Aim, Here, Scope, add, add_goto, add_label, jump};
 use flat_questions::{has_break, has_continue};
 use std::alloc::Global;
@@ -90,11 +90,18 @@ fn tested(alloc: Global, test: Test, labels: Labels) -> Result<List<Item>, Memor
     ensures { IfOk result (λ it. trees_of it ≡ Then (Mark labels.head) (Then (jump_if (test_tree test) labels.list) (Then (Goto labels.behind) (one (Mark labels.list))))) }
 {
     let jump = jump(alloc, test, labels.list)?;
-    let mut out = alone(alloc, Item::Mark(labels.head))?;
-    add(&mut out, jump)?;
-    add_goto(labels.behind, &mut out)?;
-    add_label(labels.list, &mut out)?;
-    Ok(out)
+    match alone(alloc, Item::Mark(labels.head)) {
+        Ok(mut out) => {
+            add(&mut out, jump)?;
+            add_goto(labels.behind, &mut out)?;
+            add_label(labels.list, &mut out)?;
+            Ok(out)
+        }
+        Err(e) => {
+            drop(jump);
+            Err(e)
+        }
+    }
 }
 
 /// The start of a loop, which its list comes behind.
@@ -143,14 +150,14 @@ fn endless_head(alloc: Global, here: Here) -> Result<Head, Memory>
     })
 }
 
-fn for_head(alloc: Global, test: Option<Expression>, here: Here) -> Result<Head, Memory>
+fn for_head(alloc: Global, test: Option<Boxed<Expression>>, here: Here) -> Result<Head, Memory>
     ensures items { IfOk result (λ it. trees_of it.items ≡ for_start here.construct (option_map expression_tree test)) }
     ensures tests { IfOk result (λ it. it.tests ≡ is_some test) }
     ensures labels { IfOk result (λ it. it.entered.labels ≡ labels_at here.construct) }
     ensures start { IfOk result (λ it. here_of it.entered.start ≡ entered_at (here_of here) 0 0) }
 {
     match test {
-        Some(e) => tested_head(alloc, Test::Source(e), here),
+        Some(e) => tested_head(alloc, Test::Source(e.into_inner()), here),
         None => endless_head(alloc, here),
     }
 }
@@ -204,11 +211,11 @@ pub fn do_loop(alloc: Global, a: &List<Item>, test: Test, here: Here) -> Result<
     }
 }
 
-fn third_items(alloc: Global, third: Option<Expression>) -> Result<List<Item>, Memory>
+fn third_items(alloc: Global, third: Option<Boxed<Expression>>) -> Result<List<Item>, Memory>
     ensures { IfOk result (λ it. trees_of it ≡ the_third_items (option_map expression_tree third)) }
 {
     match third {
-        Some(e) => alone(alloc, Item::Evaluate(e)),
+        Some(e) => alone(alloc, Item::Evaluate(e.into_inner())),
         None => Ok(List::new(alloc)),
     }
 }
@@ -227,8 +234,8 @@ fn for_aim(tests: bool, labels: Labels, a: &List<Item>) -> Aim
 /// A `for` with this list, behind its first part: its `continue` leads to its third part.
 pub fn for_loop(
     alloc: Global,
-    test: Option<Expression>,
-    third: Option<Expression>,
+    test: Option<Boxed<Expression>>,
+    third: Option<Boxed<Expression>>,
     a: &List<Item>,
     here: Here,
 ) -> Result<Loop, Memory>

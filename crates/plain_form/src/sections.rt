@@ -68,7 +68,7 @@ pub fn end(section: &mut Section)
     ensures { section.new ≡ the_ended (out-Section section.old) }
 {
     if takes_end(section) {
-        section.list.pop();
+        drop(section.list.pop());
         section.ends = true;
     }
 }

@@ -10,7 +10,9 @@ ghost use Rattle.c_resolved_defs.specs.PrintableStatements.{most};
 ghost use Rattle.c_tree.specs.Views.{tree_at};
 ghost use Rattle.print_limits.specs.Limits.{section_most};
 
-use crate::expressions::{are_short, are_short_values, is_short, is_short_constant, is_short_part};
+use crate::expressions::{
+    are_short, are_short_values, is_short, is_short_constant, is_short_part, is_short_value,
+};
 use c_tree::{Item, Section, Selector, Test};
 use c_types::List;
 
@@ -61,7 +63,7 @@ fn is_short_item(item: &Item) -> bool
 {
     match item {
         Item::Evaluate(e) => is_short(e),
-        Item::Return(e) => is_short_part(e),
+        Item::Return(e) => is_short_value(e),
         Item::If(test, a, b) => is_short_test(test) && is_short_list(a) && is_short_list(b),
         Item::While(test, a) => is_short_test(test) && is_short_list(a),
         Item::Do(a, test) => is_short_list(a) && is_short_test(test),

@@ -10,7 +10,7 @@ ghost use Rattle.print_limits.specs.Views.{node_at, place_at, Spends};
 
 use crate::levels::{binary_level, level};
 use c_tree::{Expression, Node, Place};
-use c_types::List;
+use c_types::{Boxed, List};
 
 fn spend(room: u64, much: u64) -> Option<u64>
     ensures { Spends much room result }
@@ -133,12 +133,22 @@ fn is_short_at(e: &Expression, need: u32) -> bool
     spend_at(e, need, 400).is_some()
 }
 
-/// The same of one that may be left out.
-pub fn is_short_part(e: &Option<Expression>) -> bool
+/// The same of the value of a `return`, which may be left out.
+pub fn is_short_value(e: &Option<Expression>) -> bool
     ensures { IsTrue result ↔ most_if (option_map expression_tree e.now) ≤ most }
 {
     match e {
         Some(e) => is_short(e),
+        None => true,
+    }
+}
+
+/// The same of a part of a `for`, which may be left out.
+pub fn is_short_part(e: &Option<Boxed<Expression>>) -> bool
+    ensures { IsTrue result ↔ most_if (option_map expression_tree e.now) ≤ most }
+{
+    match e {
+        Some(e) => is_short(e.get()),
         None => true,
     }
 }

@@ -1,7 +1,7 @@
 ghost use Rattle.std.specs.Prelude.{◌≡◌};
 ghost use Rattle.step_open_calls.specs.Calls.{is_open, test_calls, selector_calls, option_calls, item_calls, section_calls, items_call, sections_call, body_calls, top_calls, has_open_call as the_has_open_call};
 
-use crate::expressions::{in_expression, in_expressions, in_given, in_option};
+use crate::expressions::{in_expression, in_expressions, in_given, in_option, in_part};
 use c_tree::{Expression, Item, Program, Section, Selector, Test, Top};
 use c_types::List;
 
@@ -75,8 +75,8 @@ fn in_item(program: &Program, item: &Item) -> bool
         Item::Do(a, test) => { in_test(program, test) || in_items(program, a.as_slice()) }
         Item::For(first, test, third, a) => {
             in_items(program, first.as_slice())
-                || in_option(program, test)
-                || in_option(program, third)
+                || in_part(program, test)
+                || in_part(program, third)
                 || in_items(program, a.as_slice())
         }
         Item::Switch(selector, sections) => {

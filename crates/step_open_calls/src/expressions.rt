@@ -2,7 +2,7 @@ ghost use Rattle.std.specs.Prelude.{◌≡◌};
 ghost use Rattle.step_open_calls.specs.Calls.{is_open as the_is_open, expression_calls, node_calls, place_calls, expressions_call, option_calls, given_call};
 
 use c_tree::{Expression, Node, Place, Program};
-use c_types::{List, Name, is_known};
+use c_types::{Boxed, List, Name, is_known};
 use step_calls::definition;
 
 /// Whether no function of the name has a body, and it is none of the library's.
@@ -85,6 +85,15 @@ pub fn in_option(program: &Program, e: &Option<Expression>) -> bool
 {
     match e {
         Some(e) => in_expression(program, e),
+        None => false,
+    }
+}
+
+pub fn in_part(program: &Program, e: &Option<Boxed<Expression>>) -> bool
+    ensures { result ≡ option_calls (the_is_open program.now) e.now }
+{
+    match e {
+        Some(e) => in_expression(program, e.get()),
         None => false,
     }
 }

@@ -14,7 +14,7 @@ use crate::pending::take_truth;
 use crate::stored::initialise;
 use crate::work::{Stage, Task, Tasks, Use};
 use c_tree::{Expression, Item};
-use c_types::{List, Memory};
+use c_types::{Boxed, List, Memory};
 use step_memory::Store;
 
 /// `return`, with its value, if it has one.
@@ -214,11 +214,11 @@ pub fn loop_end<'a>(tasks: &mut Tasks<'a>, item: &'a Item) -> Result<(), Memory>
 }
 
 /// The third part of a `for`, whose value is dropped, where there is one.
-fn add_step<'a>(tasks: &mut Tasks<'a>, step: &'a Option<Expression>) -> Result<(), Memory>
+fn add_step<'a>(tasks: &mut Tasks<'a>, step: &'a Option<Boxed<Expression>>) -> Result<(), Memory>
     ensures ok { OnOk result (tasks_of tasks.new ≡ dropped (option_map expression_tree step.now) (tasks_of tasks.old)) }
 {
     match step {
-        Some(e) => add_two(tasks, Task::With(Use::Compute, e), Task::DropValue),
+        Some(e) => add_two(tasks, Task::With(Use::Compute, e.get()), Task::DropValue),
         None => Ok(()),
     }
 }
@@ -231,7 +231,7 @@ pub fn head<'a>(tasks: &mut Tasks<'a>, item: &'a Item) -> Result<(), Memory>
         Item::For(_, test, _, a) => match test {
             Some(e) => add_two(
                 tasks,
-                Task::With(Use::Compute, e),
+                Task::With(Use::Compute, e.get()),
                 Task::Of(Stage::Turn, item),
             ),
             None => add_body(tasks, true, item, a.as_slice()),

@@ -215,6 +215,17 @@ impl Builder {
         }
     }
 
+    /// The part of a `for` before, where it is given.
+    fn part(&mut self, is_given: bool) -> Result<Option<Boxed<Expression>>, Memory> {
+        if !is_given {
+            return Ok(None);
+        }
+        match self.operand() {
+            Ok(part) => Ok(Some(part)),
+            Err(e) => Err(e),
+        }
+    }
+
     /// The last so many expressions, where their number is given.
     fn values(&mut self, count: &str) -> Result<Option<List<Expression>>, Memory> {
         if count == "" {
@@ -440,8 +451,8 @@ impl Builder {
     fn for_loop(&mut self, word: Word<'_>) -> Result<(), Memory> {
         let body = self.list()?;
         let first = self.list()?;
-        let step = self.given(word.second == "step")?;
-        match self.given(word.first == "test") {
+        let step = self.part(word.second == "step")?;
+        match self.part(word.first == "test") {
             Ok(test) => self.item(Item::For(first, test, step, body)),
             Err(e) => {
                 drop(step);

@@ -21,9 +21,16 @@ fn one(alloc: Global, item: Item) -> Result<List<Item>, Memory> {
 }
 
 fn two(alloc: Global, first: Item, second: Item) -> Result<List<Item>, Memory> {
-    let mut list = one(alloc, first)?;
-    list.push(second)?;
-    Ok(list)
+    match one(alloc, first) {
+        Ok(mut list) => {
+            list.push(second)?;
+            Ok(list)
+        }
+        Err(e) => {
+            drop(second);
+            Err(e)
+        }
+    }
 }
 
 fn section(list: List<Item>, alloc: Global, ends: bool) -> Result<Section, Memory> {

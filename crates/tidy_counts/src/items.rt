@@ -8,7 +8,7 @@ ghost use Rattle.tidy_counts.specs.Added.{Adds};
 
 use crate::expressions::{count_expression, count_slot};
 use c_tree::{Expression, Item, Section, Selector, Test};
-use c_types::{List, Memory};
+use c_types::{Boxed, List, Memory};
 
 fn count_test(counts: &mut List<u64>, test: &Test) -> Result<(), Memory>
     ensures { OnOk result (Adds counts.old (λ g. test_count g (test_tree test.now)) counts.new) }
@@ -36,6 +36,15 @@ fn count_option(counts: &mut List<u64>, e: &Option<Expression>) -> Result<(), Me
 {
     match e {
         Some(e) => count_expression(counts, e),
+        None => Ok(()),
+    }
+}
+
+fn count_part(counts: &mut List<u64>, e: &Option<Boxed<Expression>>) -> Result<(), Memory>
+    ensures { OnOk result (Adds counts.old (λ g. option_count g (option_map expression_tree e.now)) counts.new) }
+{
+    match e {
+        Some(e) => count_expression(counts, e.get()),
         None => Ok(()),
     }
 }
@@ -106,8 +115,8 @@ fn count_item(counts: &mut List<u64>, item: &Item) -> Result<(), Memory>
         }
         Item::For(first, test, third, a) => {
             count_list(counts, first)?;
-            count_option(counts, test)?;
-            count_option(counts, third)?;
+            count_part(counts, test)?;
+            count_part(counts, third)?;
             count_list(counts, a)
         }
         Item::Switch(selector, sections) => {

@@ -7,7 +7,7 @@ ghost use Rattle.c_tree.specs.Views.{tree_at};
 
 use crate::expressions::names;
 use c_tree::{Expression, Item, Section, Selector, Test};
-use c_types::List;
+use c_types::{Boxed, List};
 
 /// Whether a test names the slot.
 pub fn test_names(slot: u32, test: &Test) -> bool
@@ -37,6 +37,15 @@ fn option_names(slot: u32, e: &Option<Expression>) -> bool
     match e {
         None => false,
         Some(e) => names(slot, e),
+    }
+}
+
+fn part_names(slot: u32, e: &Option<Boxed<Expression>>) -> bool
+    ensures { result ≡ not (option_lacks slot (option_map expression_tree e.now)) }
+{
+    match e {
+        None => false,
+        Some(e) => names(slot, e.get()),
     }
 }
 
@@ -107,8 +116,8 @@ pub fn item_names(slot: u32, item: &Item) -> bool
         }
         Item::For(first, test, third, a) => {
             let first = list_names(slot, first);
-            let test = option_names(slot, test);
-            let third = option_names(slot, third);
+            let test = part_names(slot, test);
+            let third = part_names(slot, third);
             let a = list_names(slot, a);
             first | (test | (third | a))
         }

@@ -6,7 +6,7 @@ ghost use Rattle.tidy_renumber.specs.Numbers.{number};
 
 use crate::numbers::{Numbers, new_number};
 use c_tree::{Expression, Home, Node, Place};
-use c_types::List;
+use c_types::{Boxed, List};
 use std::mem;
 
 fn renumbered_home(numbers: &Numbers, home: Home) -> Home
@@ -111,6 +111,19 @@ pub fn renumbered_option(numbers: &Numbers, e: Option<Expression>) -> Option<Exp
     match e {
         Some(mut e) => {
             renumber_expression(numbers, &mut e);
+            Some(e)
+        }
+        None => None,
+    }
+}
+
+/// A part of a `for` with the new numbers, if there is one.
+pub fn renumbered_part(numbers: &Numbers, e: Option<Boxed<Expression>>) -> Option<Boxed<Expression>>
+    ensures { option_map expression_tree result ≡ renamed_option (number numbers.now) (option_map expression_tree e) }
+{
+    match e {
+        Some(mut e) => {
+            renumber_expression(numbers, e.get_mut());
             Some(e)
         }
         None => None,

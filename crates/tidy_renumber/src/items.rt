@@ -6,7 +6,9 @@ ghost use Rattle.tidy_laws.specs.Renamed.{renamed_test, renamed_selector, rename
 ghost use Rattle.tidy_renumber.specs.Numbers.{number};
 ghost use Rattle.c_tree.specs.Views.{tree_at};
 
-use crate::expressions::{renumber_expression, renumbered_option, renumbered_values};
+use crate::expressions::{
+    renumber_expression, renumbered_option, renumbered_part, renumbered_values,
+};
 use crate::numbers::{Numbers, new_number};
 use c_tree::{Expression, Item, Node, Section, Selector, Test};
 use c_types::List;
@@ -122,8 +124,8 @@ fn renumber_item(numbers: &Numbers, item: &mut Item)
         Item::For(mut first, test, third, mut a) => {
             renumber_list(numbers, &mut first);
             renumber_list(numbers, &mut a);
-            let test = renumbered_option(numbers, test);
-            let third = renumbered_option(numbers, third);
+            let test = renumbered_part(numbers, test);
+            let third = renumbered_part(numbers, third);
             *item = Item::For(first, test, third, a);
         }
         Item::Switch(selector, mut sections) => {

@@ -7,5 +7,5 @@ pub returns : goal.returns
 returns g c =
     then _ _ _ _ _ c.put_word.ensures
     (then _ _ _ _ _
-    (reads _ _ _ _ (ap (λ s. part_text s c.args.value.now) c.as_slice.ensures.value) c.put_part.ensures)
+    (reads _ _ _ _ (ap (λ s. part_text s c.args.value.now) c.as_slice.ensures.value) c.put_value.ensures)
     c.put_end.ensures)

@@ -8,7 +8,7 @@ pub drop_in-loop-i-preserved-then-goes : goal.drop_in-loop-i-preserved-then-goes
 drop_in-loop-i-preserved-then-goes t c =
     let x = c.index-as_slice-i.result in
     let e : slice_get c.loop-i.list c.loop-i.i ≡ Some x = ap (λ z. slice_get z c.loop-i.i) (sym c.as_slice.ensures.value) ∙ slice_get_read c.as_slice.result.now _ c.loop-i.i x refl (omega (arith, c.loop-i-test.true, c.len.ensures.value, ap length c.as_slice.ensures.value)) c.index-as_slice-i.is in
-    item_gone c.args.label c.loop-i.i c.args.list.now c.loop-i.list c.remove.new.self x e (sym c.goes.ensures ∙ c.if-goes.true) c.remove.ensures.rest c.loop-i.invariant
+    item_gone c.args.label c.loop-i.i c.args.list.now c.loop-i.list c.take_away.new.list x e (sym c.goes.ensures ∙ c.if-goes.true) c.take_away.ensures c.loop-i.invariant
 
 pub drop_in-drop_inside-requires : goal.drop_in-drop_inside-requires
 drop_in-drop_inside-requires t c =

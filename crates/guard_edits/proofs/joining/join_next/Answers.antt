@@ -1,8 +1,11 @@
-use Rattle.std.proofs.Common.{sym, ◌∙◌}
+use Rattle.std.proofs.Common.{sym, subst, ◌∙◌}
+use Rattle.guard_edits.specs.Built.{IsJoined}
 use Rattle.guard_edits.proofs.Pairs.{join_is}
 use Rattle.guard_edits.proofs.joining.join_next.Goals as goal
 
 pub returns : goal.returns
 returns c =
-    join_is c.args.item.now c.args.next c.in-If.test c.in-If-next.other c.in-If.a c.in-If.b c.in-If-next.c c.in-If-next.d c.both.result
-    (sym c.replace.ensures.value ∙ c.in-If.is) c.in-If-next.is c.both.ensures
+    let p = c.if_parts-test.result in
+    let q = c.if_parts-other.result in
+    subst (λ z. IsJoined c.args.item.now c.args.next z) (sym c.replace-2.ensures.after)
+    (join_is c.args.item.now c.args.next p.0 q.0 p.1 p.2 q.1 q.2 c.both.result (sym c.replace.ensures.value ∙ c.if_parts-test.ensures) c.if_parts-other.ensures c.both.ensures)

@@ -45,10 +45,10 @@ count_item-returns-in_ok-count_list-in-Do t c =
     by_item c.count_test-in-Do.result c.args.counts.now c.count_test-in-Do.new.counts c.args.item.now (Do c.in-Do.a c.in-Do.test) _ c.in-Do.is (at-Do c.in-Do.a c.in-Do.test)
     (then_added _ _ c.count_test-in-Do.result c.in_ok-count_list-in-Do.ensures c.count_test-in-Do.ensures)
 
-pub count_item-returns-in_ok-count_option-in-For-2 : goal.count_item-returns-in_ok-count_option-in-For-2
-count_item-returns-in_ok-count_option-in-For-2 t c =
+pub count_item-returns-in_ok-count_part-in-For-2 : goal.count_item-returns-in_ok-count_part-in-For-2
+count_item-returns-in_ok-count_part-in-For-2 t c =
     by_item c.count_list-in-For-2.result c.args.counts.now c.count_list-in-For-2.new.counts c.args.item.now (For c.in-For.first c.in-For.test c.in-For.third c.in-For.a) _ c.in-For.is (at-For c.in-For.first c.in-For.test c.in-For.third c.in-For.a)
-    (then_added _ _ c.count_list-in-For-2.result c.in_ok-count_list-in-For.ensures (then_added _ _ c.count_list-in-For-2.result c.in_ok-count_option-in-For.ensures (then_added _ _ c.count_list-in-For-2.result c.in_ok-count_option-in-For-2.ensures c.count_list-in-For-2.ensures)))
+    (then_added _ _ c.count_list-in-For-2.result c.in_ok-count_list-in-For.ensures (then_added _ _ c.count_list-in-For-2.result c.in_ok-count_part-in-For.ensures (then_added _ _ c.count_list-in-For-2.result c.in_ok-count_part-in-For-2.ensures c.count_list-in-For-2.ensures)))
 
 pub count_item-returns-in_ok-count_selector-in-Switch : goal.count_item-returns-in_ok-count_selector-in-Switch
 count_item-returns-in_ok-count_selector-in-Switch t c =
@@ -67,8 +67,8 @@ count_item-returns-in-Evaluate t c =
 
 pub count_item-returns-in-Return : goal.count_item-returns-in-Return
 count_item-returns-in-Return t c =
-    by_item c.count_option-in-Return.result c.args.counts.now c.count_option-in-Return.new.counts c.args.item.now (Return c.in-Return.e) _ c.in-Return.is (at-Return c.in-Return.e)
-    (c.count_option-in-Return.ensures)
+    by_item c.count_option.result c.args.counts.now c.count_option.new.counts c.args.item.now (Return c.in-Return.e) _ c.in-Return.is (at-Return c.in-Return.e)
+    (c.count_option.ensures)
 
 pub count_item-returns-in_ok-count_slot-in-Local : goal.count_item-returns-in_ok-count_slot-in-Local
 count_item-returns-in_ok-count_slot-in-Local t c =

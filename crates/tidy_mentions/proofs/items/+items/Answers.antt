@@ -43,5 +43,5 @@ item_names-returns-in-For t c =
     let i = option_lacks g (option_map expression_tree c.in-For.test) in
     let u = option_lacks g (option_map expression_tree c.in-For.third) in
     let a = list_lacks g (trees_of c.in-For.a) in
-    either_named c.list_names-first.result _ f (i && (u && a)) (search rules) (either_named c.option_names-test.result _ i (u && a) (search rules) (either_named c.option_names-third.result c.list_names-a-in-For.result u a (search rules) (search rules)))
+    either_named c.list_names-first.result _ f (i && (u && a)) (search rules) (either_named c.part_names-test.result _ i (u && a) (search rules) (either_named c.part_names-third.result c.list_names-a-in-For.result u a (search rules) (search rules)))
     ∙ sym (ap (λ y. not (item_lacks g (tree_at y))) c.in-For.is ∙ ap (λ y. not (item_lacks g y)) (at-For c.in-For.first c.in-For.test c.in-For.third c.in-For.a))
