@@ -17,7 +17,8 @@ use Rattle.c_lexer.specs.Bytes.{is_octal_digit, is_hexadecimal_digit, is_simple_
 use Rattle.c_lexer.specs.NumberSteps.{continues_from, power_from, value_from}
 use Rattle.c_lexer.specs.Characters.{Character, Simple, OneDigit, TwoDigits, ThreeDigits, Hexadecimal, written, written_all, three_digits, IsCharacter, TakesDigits, AreCharacters}
 use Rattle.c_lexer.specs.Marks.{mark_text}
-use Rattle.c_lexer.specs.Pieces.{Piece, spelled, text, Fits, Longest}
+use Rattle.c_lexer.specs.Pieces.{Piece, spelled, text, own_line, Fits, Longest}
+use Rattle.c_lexer.specs.IncludeSteps.{is_directive}
 use Rattle.c_lexer.specs.PieceSteps.{closes, first_behind, first_behind_all, Good}
 use Rattle.c_lexer.specs.Faults.{reason_of, reach_of, HasNoPiece}
 use Rattle.c_lexer.specs.Machine.{escape_step}
@@ -175,6 +176,13 @@ Ready (InDirective s end) at P = (ps : List Piece) × (w : List ℕ) × Part s a
 Ready (InComment s c) at P = (ps : List Piece) × (w : List ℕ) × Part s at ps (47 ∷ 42 ∷ w) P × ((v : List ℕ) → closes (w ++ v) ≡ closes_from c v)
 Ready (InLine s end) at P = (ps : List Piece) × (w : List ℕ) × Part s at ps (47 ∷ 47 ∷ w) P × (has_no_newline w ≡ true)
 
+-- why no piece begins with this byte in front of these, and how far behind it the fault lies, as the code finds it
+abbrev pub reason_at : Bool → ℕ → List ℕ → ℕ
+reason_at first b r = reason_of first (is_directive (own_line r)) b r
+
+abbrev pub reach_at : Bool → ℕ → List ℕ → ℕ
+reach_at first b r = reach_of first (is_directive (own_line r)) b r
+
 -- pieces reach up to a byte at this place, for which this is the reason
 pub record StuckAt (base : ℕ) (first : Bool) (reason place : ℕ) (t : List ℕ) : Type 0 where
   pub pieces : List Piece
@@ -182,13 +190,13 @@ pub record StuckAt (base : ℕ) (first : Bool) (reason place : ℕ) (t : List �
   pub rest : List ℕ
   pub spells : t ≡ text pieces (byte ∷ rest)
   pub good : Good first pieces (byte ∷ rest)
-  pub place_is : ends_all pieces base + reach_of (first_behind_all first pieces) byte rest ≡ place
-  pub reason_is : reason_of (first_behind_all first pieces) byte rest ≡ reason
-  pub none : (reach_of (first_behind_all first pieces) byte rest ≡ 0) ⊎ HasNoPiece (first_behind_all first pieces) (byte ∷ rest)
+  pub place_is : ends_all pieces base + reach_at (first_behind_all first pieces) byte rest ≡ place
+  pub reason_is : reason_at (first_behind_all first pieces) byte rest ≡ reason
+  pub none : (reach_at (first_behind_all first pieces) byte rest ≡ 0) ⊎ HasNoPiece (first_behind_all first pieces) (byte ∷ rest)
 
 -- at this byte, in front of these, stands a fault for this reason
 abbrev pub IsFaulty : Bool → ℕ → List ℕ → ℕ → Type 0
-IsFaulty first b r reason = (reason_of first b r ≡ reason) × (reach_of first b r ≡ 0)
+IsFaulty first b r reason = (reason_at first b r ≡ reason) × (reach_at first b r ≡ 0)
 
 abbrev pub Goes : Taken → ℕ → Front → Type 0
 Goes (Go s ended) at P = Ready s at P

@@ -22,9 +22,11 @@ use Rattle.c_lexer.specs.NumberSteps.{continues_from, power_from}
 use Rattle.c_lexer.specs.Characters.{Character, Plain, written, written_all, IsCharacter, AreCharacters}
 use Rattle.c_lexer.specs.Marks.{mark_text}
 use Rattle.c_lexer.specs.MarkSteps.{mark_at, longer, is_slash, is_dot}
-use Rattle.c_lexer.specs.Pieces.{Piece, Space, Word, Number, Char, Text, Sign, Directive, Line, Block, spelled, text, own_line, NewlineNext, is_directive, Fits, IsLine, Longest}
+use Rattle.c_lexer.specs.Pieces.{Piece, Space, Word, Number, Char, Text, Sign, Directive, Line, Block, spelled, text, own_line, NewlineNext, Fits, IsLine, Longest}
+use Rattle.c_lexer.specs.IncludeSteps.{is_directive}
 use Rattle.c_lexer.specs.PieceSteps.{closes, first_behind, first_behind_all, Good}
 use Rattle.c_lexer.specs.Machine.{begin, of_mark, after_mark, escape_step, char_held, char_escape, in_text, text_escape, broken_at, end_directive, end_line, closing_step, in_comment, step}
+use Rattle.c_lexer.proofs.IncludeLemmas.{directive_decided}
 use Rattle.c_lexer.proofs.MarkLemmas.{longer_text, mark_first, longest_mark, no_dots}
 use Rattle.c_lexer.proofs.PieceLemmas.{Stands, past, character_ends, characters_end, ends, ends_all}
 use Rattle.c_lexer.proofs.NumberLemmas.{run_continues, run_power}
@@ -327,7 +329,7 @@ line_goes s end b at P ps w i none h (Some n) k = λ r. line_stuck s at P ps w n
 directive_goes : (s end b at : ℕ) (P : Front) (ps : List Piece) (w : List ℕ) → Part s at ps (35 ∷ w) P → first_behind_all P.first ps ≡ true → has_no_newline w ≡ true → (b == 10) ≡ true → (o : Option ℕ) → broken_at w ≡ o
     → Goes (end_directive s end w o) (at + 1) (onward P b)
 directive_goes s end b at P ps w i first none h None k =
-    branch (is_directive w) _ _ _ _ (λ g. line_ended (Directive w) s b at P ps (35 ∷ w) i (λ r. refl) refl (first, g) (λ r. line_is w (b ∷ r) h none k) h) (λ g r. whole_refused s at P ps w i first none k g (b ∷ r) h)
+    branch (is_directive w) _ _ _ _ (λ g. line_ended (Directive w) s b at P ps (35 ∷ w) i (λ r. refl) refl (first, (directive_decided w).0 g) (λ r. line_is w (b ∷ r) h none k) h) (λ g r. whole_refused s at P ps w i first none k g (b ∷ r) h)
 directive_goes s end b at P ps w i first none h (Some n) k =
     branch (is_directive (take n w)) _ _ _ _ (λ g r. directive_stuck s at P ps w n i first none k g (b ∷ r) h) (λ g r. broken_refused s at P ps w n i first none k g (b ∷ r) h)
 

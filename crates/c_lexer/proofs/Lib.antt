@@ -3,6 +3,7 @@ pub mod Closings
 pub mod CommentEnds
 pub mod Fronts
 pub mod Growth
+pub mod IncludeLemmas
 pub mod KeywordLemmas
 pub mod Later
 pub mod Lines

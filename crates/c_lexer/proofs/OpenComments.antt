@@ -4,8 +4,8 @@ use Rattle.std.specs.Prelude.{is_some, codes}
 use Rattle.std.specs.Option.{option_map_or}
 use Rattle.std.proofs.lemmas.Bool.{eqb-true, eqb-false, ne_eqb}
 use Rattle.c_lexer.specs.declared.directive.Before.TheVariants.{Outside, Name, Comment, Line, Doubt}
-use Rattle.c_lexer.specs.Includes.{begins_with, behind_comment, has_open, is_quote, from_quote, past_comment, behind_name, behind_header, leaves_open}
-use Rattle.c_lexer.specs.IncludeSteps.{past, open_behind}
+use Rattle.c_lexer.specs.Includes.{begins_with, behind_comment, has_open, is_quote, behind_name, behind_header}
+use Rattle.c_lexer.specs.IncludeSteps.{past, open_behind, leaves_open}
 use Rattle.c_lexer.proofs.Truths.{and_false, or_true}
 
 -- ---- the bytes that matter, and others
@@ -241,8 +241,25 @@ mutual
 
 -- ---- lines
 
+abbrev mutual
+  -- what whole comments and other bytes leave: from the first quote on, or from a comment without end on; nothing, where
+  -- a `//` stands before those, or none of them
+  pub from_quote : List ℕ → List ℕ
+  from_quote [] = []
+  from_quote (b ∷ []) = cond (is_quote b) (b ∷ []) []
+  from_quote (b ∷ c ∷ w) =
+      cond (begins_with (codes "//") (b ∷ c ∷ w)) []
+      (cond (begins_with (codes "/*") (b ∷ c ∷ w)) (cond (is_some (behind_comment w)) (past_comment w) (b ∷ c ∷ w))
+      (cond (is_quote b) (b ∷ c ∷ w) (from_quote (c ∷ w))))
+
+  -- the same of what stands behind the first `*/`
+  pub past_comment : List ℕ → List ℕ
+  past_comment [] = []
+  past_comment (b ∷ []) = []
+  past_comment (b ∷ c ∷ w) = cond (begins_with (codes "*/") (b ∷ c ∷ w)) (from_quote w) (past_comment (c ∷ w))
+
 -- behind a comment there are fewer bytes
-shorter : (w r : List ℕ) → behind_comment w ≡ Some r → length r ≤ length w
+pub shorter : (w r : List ℕ) → behind_comment w ≡ Some r → length r ≤ length w
 shorter [] r h = absurd cc
 shorter (b ∷ w) r h = go (begins_with (codes "*/") (b ∷ w)) (λ e. shorter w r e) h
   where
@@ -259,7 +276,7 @@ shorter (b ∷ w) r h = go (begins_with (codes "*/") (b ∷ w)) (λ e. shorter w
     go false f e = let k = f e in omega arith
 
 -- what is open behind a line, by what is left of it behind comments; a name may stand before
-abbrev rest : Bool → List ℕ → Bool
+abbrev pub rest : Bool → List ℕ → Bool
 rest true v = has_open v
 rest false v = has_open (option_map_or from_quote (behind_header v) v)
 
@@ -268,7 +285,7 @@ rest_none true = refl
 rest_none false = refl
 
 -- a quote stops it, and other bytes don't
-quote_here : (b : ℕ) (w : List ℕ) → (47 == b) ≡ false → is_quote b ≡ true → from_quote (b ∷ w) ≡ b ∷ w
+pub quote_here : (b : ℕ) (w : List ℕ) → (47 == b) ≡ false → is_quote b ≡ true → from_quote (b ∷ w) ≡ b ∷ w
 quote_here b [] s q = ap (λ c. cond c (b ∷ []) []) q
 quote_here b (c ∷ w) s q =
     ap (λ x. cond (x && (47 == c && true)) [] (cond (x && (42 == c && true)) (cond (is_some (behind_comment w)) (past_comment w) (b ∷ c ∷ w)) (cond (is_quote b) (b ∷ c ∷ w) (from_quote (c ∷ w))))) s
@@ -281,7 +298,7 @@ passed b (c ∷ w) s q =
     ∙ ap (λ x. cond x (b ∷ c ∷ w) (from_quote (c ∷ w))) q
 
 -- what is left behind a comment
-past_it : (u r : List ℕ) → behind_comment u ≡ Some r → past_comment u ≡ from_quote r
+pub past_it : (u r : List ℕ) → behind_comment u ≡ Some r → past_comment u ≡ from_quote r
 past_it [] r h = absurd cc
 past_it (b ∷ []) r h = absurd (let y : None ≡ Some r = sym (ap (λ x. cond x (Some []) None) (and_false (42 == b))) ∙ h in cc)
 past_it (b ∷ c ∷ w) r h = go (begins_with (codes "*/") (b ∷ c ∷ w)) (λ e. past_it (c ∷ w) r e) h
@@ -360,8 +377,8 @@ header : (w v : List ℕ) (o : Option (List ℕ)) → has_open w ≡ has_open v
 header w v None h = h
 header w v (Some r) h = behind_names r
 
-pub leaves_by_steps : (w : List ℕ) → leaves_open w ≡ open_behind (Outside false false) w
-leaves_by_steps w = sym (along false at_quotes (length w) w (omega arith))
+pub leaves_rest : (w : List ℕ) → leaves_open w ≡ rest false (from_quote w)
+leaves_rest w = along false at_quotes (length w) w (omega arith)
   where
     at_quotes : AtQuotes false
     at_quotes = record {

@@ -3,10 +3,8 @@ use Rattle.std.proofs.Common.{◌≡◌, ℕ, Bool, true, false, ◌&&◌, ◌==
 use Rattle.std.proofs.lemmas.Bool.{eqb-true}
 use Rattle.c_lexer.specs.declared.directive.Before.{Before}
 use Rattle.c_lexer.specs.declared.directive.Before.TheVariants as b
-use Rattle.c_lexer.specs.Includes.{leaves_open}
-use Rattle.c_lexer.specs.IncludeSteps.{past, is_open, open_behind}
+use Rattle.c_lexer.specs.IncludeSteps.{past, is_open, open_behind, leaves_open}
 use Rattle.c_lexer.specs.Pieces.{bare, onto_bare}
-use Rattle.c_lexer.proofs.OpenComments.{leaves_by_steps}
 
 name_on : (c slashed : Bool) (end : ℕ) → false ≡ is_open (cond c (b.Outside true false) (cond (slashed && false) (b.Doubt true false false) (b.Name end false)))
 name_on true slashed end = refl
@@ -40,4 +38,4 @@ open_bare (a ∷ w) x = by_rest (bare w) ∙ open_bare w (past x a)
     by_rest (d ∷ v) = refl
 
 pub leaves_bare : (w : List ℕ) → leaves_open (bare w) ≡ leaves_open w
-leaves_bare w = leaves_by_steps (bare w) ∙ open_bare w (b.Outside false false) ∙ sym (leaves_by_steps w)
+leaves_bare w = open_bare w (b.Outside false false)

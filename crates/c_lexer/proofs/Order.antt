@@ -16,7 +16,7 @@ use Rattle.c_types.specs.Words.{is_letter, is_digit, is_word_byte}
 use Rattle.c_lexer.specs.Bytes.{is_space, is_run_byte, is_character_byte}
 use Rattle.c_lexer.specs.Numbers.{integer_of}
 use Rattle.c_lexer.specs.MarkSteps.{mark_at, longer, is_slash, is_dot}
-use Rattle.c_lexer.specs.Pieces.{is_directive}
+use Rattle.c_lexer.specs.IncludeSteps.{is_directive}
 use Rattle.c_lexer.proofs.Lines.{broken_within}
 use Rattle.c_lexer.specs.Machine.{of_mark, begin, after_mark, in_mark, escape_step, char_held, char_escape, in_text, text_escape, broken_at, end_directive, end_line, in_comment, step, least, KeepsOrder}
 

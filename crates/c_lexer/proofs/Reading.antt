@@ -27,9 +27,11 @@ use Rattle.c_lexer.specs.NumberSteps.{continues_from, power_from, value_from}
 use Rattle.c_lexer.specs.Characters.{Character, Plain, Simple, OneDigit, TwoDigits, ThreeDigits, Hexadecimal, written, written_all, IsCharacter, TakesDigits, AreCharacters}
 use Rattle.c_lexer.specs.Marks.{mark_text}
 use Rattle.c_lexer.specs.MarkSteps.{mark_at, is_slash, is_dot}
-use Rattle.c_lexer.specs.Pieces.{Piece, Space, Word, Number, Char, Text, Sign, Directive, Line, Block, spelled, text, NewlineNext, runs_on, is_directive, Fits, Begins, Longest, word_kind, span}
+use Rattle.c_lexer.specs.Pieces.{Piece, Space, Word, Number, Char, Text, Sign, Directive, Line, Block, spelled, text, NewlineNext, runs_on, Fits, Begins, Longest, word_kind, span}
+use Rattle.c_lexer.specs.IncludeSteps.{is_directive}
 use Rattle.c_lexer.specs.PieceSteps.{first_behind, first_behind_all, Good}
 use Rattle.c_lexer.specs.Machine.{begin, of_mark, found, mark, word, escape_step, char_escape, text_escape, line_end, broken_at, end_directive, end_line, closing_step, step, finish, Lexed, Read, go_on, run}
+use Rattle.c_lexer.proofs.IncludeLemmas.{directive_decided}
 use Rattle.c_lexer.proofs.MarkLemmas.{none_longer, longer_newline}
 use Rattle.c_lexer.proofs.NumberLemmas.{value_up, value_is, run_continues, run_power}
 use Rattle.c_lexer.proofs.Truths.{both_true, all_of_more, or_first, or_second, not_true}
@@ -499,7 +501,7 @@ read t first (Number w) h r l at out g = read_number t first w h.0 h.1 at out r 
 read t first (Char c) h r l at out g = character_run false t c at (at + 1) out (39 ∷ r) h (any_quote c r)
 read t first (Text cs) h r l at out g = text_run t cs at (at + 1) out r (text_quote cs r h)
 read t first (Sign m) h r l at out g = mark_run t first m at out r ∙ mark_ends t m at out r l
-read t first (Directive w) h r l at out g = let x = h.0 in rw x (directive_reads t w at out r h.1 l.0 l.1 (stands_past t at (35 ∷ []) (w ++ r) g))
+read t first (Directive w) h r l at out g = let x = h.0 in rw x (directive_reads t w at out r ((directive_decided w).1 h.1) l.0 l.1 (stands_past t at (35 ∷ []) (w ++ r) g))
 read t first (Line w) h r l at out g = line_reads t w at out r l.0 l.1 g
 read t first (Block w) h r l at out g = block_run t w Open (closes_so w h) at (at + 1 + 1) out r
 

@@ -1,5 +1,6 @@
 -- What reading a text gives is what its pieces are, or its first fault.
 use Rattle.std.proofs.Common.{◌⊎◌, inl, inr, arith, Bool, Result, Err, ◌≡◌, ◌+◌, ℕ, true, List, [], ◌∷◌, ◌++◌, length, Ok, refl, ap, sym, ◌∙◌, subst, append_assoc}
+use Rattle.std.proofs.lemmas.Bool.Decides.{same_from_decides}
 use Rattle.std.proofs.lemmas.List.{append-nil}
 use Rattle.c_types.specs.declared.refusal.Refusal.{Refusal}
 use Rattle.c_lexer.specs.declared.token.Token.{Token}
@@ -13,7 +14,8 @@ use Rattle.c_lexer.specs.declared.state.Ended.{Ended}
 use Rattle.c_lexer.specs.declared.state.Ended.TheVariants as ended
 use Rattle.c_lexer.specs.declared.state.Taken.{Taken}
 use Rattle.c_lexer.specs.declared.state.Taken.TheVariants.{Go, Fault}
-use Rattle.c_lexer.specs.Pieces.{Piece, Space, Word, Number, Char, Text, Sign, Directive, Line, Block, spelled, text, Spells, word_kind, token, span, token_of, comment_of, scanned_of}
+use Rattle.c_lexer.specs.Pieces.{Piece, Space, Word, Number, Char, Text, Sign, Directive, Line, Block, spelled, text, Spells, word_kind, token, span, token_of, comment_of, scanned_of, own_line, stands_first}
+use Rattle.c_lexer.specs.IncludeSteps.{is_directive}
 use Rattle.c_lexer.specs.PieceSteps.{Good, first_behind_all, all_of}
 use Rattle.c_lexer.specs.Faults.{refusal_of, reason_of, reach_of, HasNoPiece, IsFirstFault}
 use Rattle.c_lexer.specs.Machine.{Lexed, Read, Faulty, go_on, run, step, finish, add_token, add_comment, add_ended}
@@ -21,7 +23,8 @@ use Rattle.c_lexer.specs.Answers.{answer, nothing, scanning, part, read_tokens, 
 use Rattle.c_lexer.proofs.PieceLemmas.{ends, ends_is, ends_all, Stands, stands_text, end_is}
 use Rattle.c_lexer.proofs.PieceWalks.{first_is, good_walked, walked_good, spells_walked, length_on, all_is}
 use Rattle.c_lexer.proofs.Reading.{add_all, scan, kept, gather, reads, lexes}
-use Rattle.c_lexer.proofs.Fronts.{StuckAt}
+use Rattle.c_lexer.proofs.Fronts.{StuckAt, reason_at, reach_at}
+use Rattle.c_lexer.proofs.IncludeLemmas.{directive_decided}
 use Rattle.c_lexer.proofs.Later.{no_fault}
 use Rattle.c_lexer.proofs.Whole.{Outcome, whole}
 
@@ -175,9 +178,11 @@ first_fault t reason place s h =
       spells = s.spells;
       good = walked_good s.pieces (s.byte ∷ s.rest) s.good;
       stuck = subst (λ c. HasNoPiece c (s.byte ∷ s.rest)) (first_is s.pieces) (none s.none);
+      include = is_directive (own_line s.rest);
+      include_is = directive_decided (own_line s.rest);
       refusal =
-          ap (λ (n : ℕ). refusal_of n t place) (sym s.reason_is) ∙ ap (refusal_of (reason_of first s.byte s.rest) t) (sym s.place_is ∙ ap (λ (n : ℕ). n + reach_of first s.byte s.rest) (ends_at s.pieces))
-          ∙ ap (λ c. refusal_of (reason_of c s.byte s.rest) t (length (text s.pieces []) + reach_of c s.byte s.rest)) (first_is s.pieces);
+          ap (λ (n : ℕ). refusal_of n t place) (sym s.reason_is) ∙ ap (refusal_of (reason_at first s.byte s.rest) t) (sym s.place_is ∙ ap (λ (n : ℕ). n + reach_at first s.byte s.rest) (ends_at s.pieces))
+          ∙ ap (λ c. refusal_of (reason_at c s.byte s.rest) t (length (text s.pieces []) + reach_at c s.byte s.rest)) (first_is s.pieces);
     }
   where
     first : Bool
@@ -195,28 +200,28 @@ first_fault t reason place s h =
     same : (n m : ℕ) → n ≡ 0 → m + n ≡ place → place ≡ m
     same n m h k = omega arith
 
-    none : (reach_of first s.byte s.rest ≡ 0) ⊎ HasNoPiece first (s.byte ∷ s.rest) → HasNoPiece first (s.byte ∷ s.rest)
+    none : (reach_at first s.byte s.rest ≡ 0) ⊎ HasNoPiece first (s.byte ∷ s.rest) → HasNoPiece first (s.byte ∷ s.rest)
     none (inr f) = f
     none (inl z) = λ p r e f l.
         no_fault t first p r f l at (gather s.pieces 0 []) (stands_text t s.pieces 0 (spelled p r) (same_bytes t s.pieces (spelled p r) (s.spells ∙ ap (text s.pieces) e))) reason
         (ap (scan t (Between first) at (gather s.pieces 0 [])) (sym e) ∙ there ∙ ap (faulty reason) (same _ at z s.place_is))
 
 -- a byte at which no piece begins is where reading stops
-stops_there : (first : Bool) (byte place : ℕ) (rest : List ℕ) → HasNoPiece first (byte ∷ rest) → (n : Lexed (List Ended)) → Outcome place first n (byte ∷ rest) → n ≡ Faulty (reason_of first byte rest) (place + reach_of first byte rest)
+stops_there : (first : Bool) (byte place : ℕ) (rest : List ℕ) → HasNoPiece first (byte ∷ rest) → (n : Lexed (List Ended)) → Outcome place first n (byte ∷ rest) → n ≡ Faulty (reason_at first byte rest) (place + reach_at first byte rest)
 stops_there first byte place rest none (Read z) ([], e, g) = absurd cc
 stops_there first byte place rest none (Read z) (p ∷ ps, e, g) = absurd (none p (text ps []) e g.0 g.1)
 stops_there first byte place rest none (Faulty reason at) s = go s.pieces s.spells s.good s.place_is s.reason_is
   where
-    go : (ps : List Piece) → byte ∷ rest ≡ text ps (s.byte ∷ s.rest) → Good first ps (s.byte ∷ s.rest) → ends_all ps place + reach_of (first_behind_all first ps) s.byte s.rest ≡ at → reason_of (first_behind_all first ps) s.byte s.rest ≡ reason
-        → faulty reason at ≡ faulty (reason_of first byte rest) (place + reach_of first byte rest)
+    go : (ps : List Piece) → byte ∷ rest ≡ text ps (s.byte ∷ s.rest) → Good first ps (s.byte ∷ s.rest) → ends_all ps place + reach_at (first_behind_all first ps) s.byte s.rest ≡ at → reason_at (first_behind_all first ps) s.byte s.rest ≡ reason
+        → faulty reason at ≡ faulty (reason_at first byte rest) (place + reach_at first byte rest)
     go [] e g p r =
         let x : byte ≡ s.byte = cc in
         let y : rest ≡ s.rest = cc in
-        ap (λ (i : ℕ). faulty i at) (sym r) ∙ ap (faulty (reason_of first s.byte s.rest)) (sym p)
-        ∙ ap (λ (i : ℕ). faulty (reason_of first i s.rest) (place + reach_of first i s.rest)) (sym x) ∙ ap (λ (v : List ℕ). faulty (reason_of first byte v) (place + reach_of first byte v)) (sym y)
+        ap (λ (i : ℕ). faulty i at) (sym r) ∙ ap (faulty (reason_at first s.byte s.rest)) (sym p)
+        ∙ ap (λ (i : ℕ). faulty (reason_at first i s.rest) (place + reach_at first i s.rest)) (sym x) ∙ ap (λ (v : List ℕ). faulty (reason_at first byte v) (place + reach_at first byte v)) (sym y)
     go (p ∷ ps) e g a r = absurd (none p (text ps (s.byte ∷ s.rest)) e g.0 g.1)
 
-fault_stops : (t : List ℕ) (fault : Refusal) (f : IsFirstFault t fault) → scan t (Between true) 0 [] t ≡ Faulty (reason_of (first_behind_all true f.pieces) f.byte f.rest) (ends_all f.pieces 0 + reach_of (first_behind_all true f.pieces) f.byte f.rest)
+fault_stops : (t : List ℕ) (fault : Refusal) (f : IsFirstFault t fault) → scan t (Between true) 0 [] t ≡ Faulty (reason_at (first_behind_all true f.pieces) f.byte f.rest) (ends_all f.pieces 0 + reach_at (first_behind_all true f.pieces) f.byte f.rest)
 fault_stops t fault f =
     let stands = same_bytes t f.pieces (f.byte ∷ f.rest) f.spells in
     ap (λ (x : List ℕ). scan t (Between true) 0 [] x) f.spells ∙ reads t true f.pieces (f.byte ∷ f.rest) (good_walked f.pieces (f.byte ∷ f.rest) f.good) 0 [] stands
@@ -227,8 +232,10 @@ fault_stops t fault f =
 pub scan_fault_back : (t : List ℕ) (fault : Refusal) → IsFirstFault t fault → scanning t ≡ Err fault
 scan_fault_back t fault f =
     ap (answer t) (scan_run t ∙ ap selected (fault_stops t fault f))
-    ∙ ap (λ (n : ℕ). refused (refusal_of (reason_of (first_behind_all true f.pieces) f.byte f.rest) t (n + reach_of (first_behind_all true f.pieces) f.byte f.rest))) (ends_at f.pieces)
-    ∙ ap (λ c. refused (refusal_of (reason_of c f.byte f.rest) t (length (text f.pieces []) + reach_of c f.byte f.rest))) (first_is f.pieces) ∙ ap refused (sym f.refusal)
+    ∙ ap (λ (n : ℕ). refused (refusal_of (reason_at (first_behind_all true f.pieces) f.byte f.rest) t (n + reach_at (first_behind_all true f.pieces) f.byte f.rest))) (ends_at f.pieces)
+    ∙ ap (λ c. refused (refusal_of (reason_at c f.byte f.rest) t (length (text f.pieces []) + reach_at c f.byte f.rest))) (first_is f.pieces)
+    ∙ ap (λ x. refused (refusal_of (reason_of (stands_first f.pieces) x f.byte f.rest) t (length (text f.pieces []) + reach_of (stands_first f.pieces) x f.byte f.rest)))
+    (same_from_decides (is_directive (own_line f.rest)) f.include (directive_decided (own_line f.rest)) f.include_is) ∙ ap refused (sym f.refusal)
 
 -- ---- what reading gives
 

@@ -4,9 +4,10 @@ use Rattle.c_lexer.specs.declared.mark.Mark.TheVariants.{ShiftLeftEquals, Comma}
 use Rattle.c_lexer.specs.declared.token.TokenKind.TheVariants as k
 use Rattle.c_lexer.specs.Marks.{mark_of}
 use Rattle.c_lexer.specs.Numbers.{is_run, ends_with_power, value_of}
-use Rattle.c_lexer.specs.Includes.{from_quote, leaves_open}
+use Rattle.c_lexer.specs.Includes.{Leaves, ClosesComments}
 use Rattle.c_lexer.specs.Pieces.{Space, Word, Sign, Line, Block, SlashFollows, slash_next, line_end_next, Closes, stands_first, token, tokens_of}
 use Rattle.c_lexer.proofs.CommentEnds.{closed, closes_so}
+use Rattle.c_lexer.proofs.IncludeLemmas.{leaves, closed_rest, rest_closed}
 
 -- ---- marks and numbers
 
@@ -36,20 +37,20 @@ hexadecimal = refl
 
 -- ---- `#include` lines
 
-past_a_comment : from_quote (codes "a /* \" */ \"b\"") ≡ codes "\"b\""
-past_a_comment = refl
+past_a_comment : Leaves (codes "a /* \" */ \"b\"") (codes "\"b\"")
+past_a_comment = leaves (codes "a /* \" */ \"b\"")
 
-line_comment : from_quote (codes "a // \"b\"") ≡ []
-line_comment = refl
+line_comment : Leaves (codes "a // \"b\"") []
+line_comment = leaves (codes "a // \"b\"")
 
-unended : from_quote (codes "a /*/ \"b\"") ≡ codes "/*/ \"b\""
-unended = refl
+unended : Leaves (codes "a /*/ \"b\"") (codes "/*/ \"b\"")
+unended = leaves (codes "a /*/ \"b\"")
 
-left_open : leaves_open (codes "include <a.h> /* b") ≡ true
-left_open = refl
+left_open : ClosesComments (codes "include <a.h> /* b") → ⊥
+left_open h = true≢false (closed_rest h)
 
-none_open : leaves_open (codes "include <a/*.h> /* b */") ≡ false
-none_open = refl
+none_open : ClosesComments (codes "include <a/*.h> /* b */")
+none_open = rest_closed (codes "include <a/*.h> /* b */") refl
 
 -- ---- comments
 

@@ -16,9 +16,11 @@ use Rattle.c_lexer.specs.Bytes.{is_run_byte}
 use Rattle.c_lexer.specs.Numbers.{continues, integer_of}
 use Rattle.c_lexer.specs.Marks.{mark_text}
 use Rattle.c_lexer.specs.MarkSteps.{longer, is_slash, is_dot}
-use Rattle.c_lexer.specs.Pieces.{Piece, Word, Number, Sign, Directive, Line, spelled, text, is_directive, Fits, Longest}
+use Rattle.c_lexer.specs.Pieces.{Piece, Word, Number, Sign, Directive, Line, spelled, text, Fits, Longest}
+use Rattle.c_lexer.specs.IncludeSteps.{is_directive}
 use Rattle.c_lexer.specs.PieceSteps.{first_behind_all, Good}
 use Rattle.c_lexer.specs.Machine.{after_mark, escape_step, char_escape, text_escape, broken_at, end_directive, end_line, step, finish}
+use Rattle.c_lexer.proofs.IncludeLemmas.{directive_decided}
 use Rattle.c_lexer.proofs.MarkLemmas.{mark_last}
 use Rattle.c_lexer.specs.Machine.{Lexed, Read, Faulty, go_on, run}
 use Rattle.c_lexer.proofs.NumberLemmas.{run_continues}
@@ -74,7 +76,7 @@ line_closes s end at P ps w i none (Some n) k = line_stuck s at P ps w n i none 
 
 directive_closes : (s end at : ℕ) (P : Front) (ps : List Piece) (w : List ℕ) → Part s at ps (35 ∷ w) P → first_behind_all P.first ps ≡ true → has_no_newline w ≡ true → (o : Option ℕ) → broken_at w ≡ o → Closes (end_directive s end w o) P
 directive_closes s end at P ps w i first none None k =
-    closing (is_directive w) _ _ _ (λ g. closed (Directive w) s at P ps (35 ∷ w) i refl (first, g) (line_is w [] tt none k)) (λ g. whole_refused s at P ps w i first none k g [] tt)
+    closing (is_directive w) _ _ _ (λ g. closed (Directive w) s at P ps (35 ∷ w) i refl (first, (directive_decided w).0 g) (line_is w [] tt none k)) (λ g. whole_refused s at P ps w i first none k g [] tt)
 directive_closes s end at P ps w i first none (Some n) k =
     closing (is_directive (take n w)) _ _ _ (λ g. directive_stuck s at P ps w n i first none k g [] tt) (λ g. broken_refused s at P ps w n i first none k g [] tt)
 

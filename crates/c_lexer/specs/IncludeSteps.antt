@@ -1,7 +1,8 @@
--- How the code finds the `#include` lines of Includes: what stands before each byte.
-use Rattle.std.specs.Prelude.{ℕ, Bool, true, false, cond, ◌&&◌, ◌||◌, ◌==◌, List, [], ◌∷◌}
+-- How the code finds the `#include` lines of Pieces: what stands before each byte.
+use Rattle.std.specs.Prelude.{ℕ, Bool, true, false, cond, not, ◌&&◌, ◌||◌, ◌==◌, List, [], ◌∷◌}
 use Rattle.c_lexer.specs.declared.directive.Before.{Before}
 use Rattle.c_lexer.specs.declared.directive.Before.TheVariants.{Outside, Name, Comment, Line, Doubt}
+use Rattle.c_lexer.specs.Pieces.{is_include}
 
 -- a quote behind the name, or a `'` or `<` there, is read in more than one way
 abbrev pub outside : Bool → Bool → ℕ → Before
@@ -46,3 +47,11 @@ is_open _ = false
 abbrev pub open_behind : Before → List ℕ → Bool
 open_behind before [] = is_open before
 open_behind before (b ∷ w) = open_behind (past before b) w
+
+-- a comment `/*` that begins on the line, behind its `#`, may go on over the next
+abbrev pub leaves_open : List ℕ → Bool
+leaves_open w = open_behind (Outside false false) w
+
+-- an `#include` line, behind its `#`, behind which no comment is open
+abbrev pub is_directive : List ℕ → Bool
+is_directive w = is_include w && not (leaves_open w)

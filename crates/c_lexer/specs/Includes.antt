@@ -1,6 +1,5 @@
--- Which `#include` lines leave a comment open behind them.
-use Rattle.std.specs.Prelude.{ℕ, Bool, false, cond, not, ◌&&◌, ◌||◌, ◌==◌, List, [], ◌∷◌, drop, codes, nat_eq, Option, Some, None, is_some}
-use Rattle.std.specs.Option.{option_map_or}
+-- Which `#include` lines leave no comment open behind them.
+use Rattle.std.specs.Prelude.{◌≡◌, ℕ, Bool, true, false, cond, not, ◌&&◌, ◌||◌, ◌==◌, List, [], ◌∷◌, drop, codes, nat_eq, Option, Some, None, is_some}
 use Rattle.std.specs.List.{starts_with}
 
 abbrev pub begins_with : List ℕ → List ℕ → Bool
@@ -20,22 +19,20 @@ has_open (b ∷ w) = (begins_with (codes "/*") (b ∷ w) && not (is_some (behind
 abbrev pub is_quote : ℕ → Bool
 is_quote b = b == 39 || b == 34 || b == 60
 
-abbrev mutual
-  -- past whole comments and other bytes: from the first quote on, or from a comment without end on; nothing, where a
-  -- `//` stands before those, or none of them
-  pub from_quote : List ℕ → List ℕ
-  from_quote [] = []
-  from_quote (b ∷ []) = cond (is_quote b) (b ∷ []) []
-  from_quote (b ∷ c ∷ w) =
-      cond (begins_with (codes "//") (b ∷ c ∷ w)) []
-      (cond (begins_with (codes "/*") (b ∷ c ∷ w)) (cond (is_some (behind_comment w)) (past_comment w) (b ∷ c ∷ w))
-      (cond (is_quote b) (b ∷ c ∷ w) (from_quote (c ∷ w))))
+-- a comment begins with these bytes
+abbrev pub begins_comment : List ℕ → Bool
+begins_comment w = begins_with (codes "//") w || begins_with (codes "/*") w
 
-  -- the same of what stands behind the first `*/`
-  pub past_comment : List ℕ → List ℕ
-  past_comment [] = []
-  past_comment (b ∷ []) = []
-  past_comment (b ∷ c ∷ w) = cond (begins_with (codes "*/") (b ∷ c ∷ w)) (from_quote w) (past_comment (c ∷ w))
+-- whole comments and other bytes stand in front, and then this is left
+pub data Leaves : List ℕ → List ℕ → Type 0 where
+  nothing : Leaves [] []
+  -- a comment `//` takes all the rest of the line
+  line : (w : List ℕ) → Leaves (47 ∷ 47 ∷ w) []
+  -- a quote is left, and so is a comment without end, each with what stands behind it
+  quote : (b : ℕ) (w : List ℕ) → is_quote b ≡ true → Leaves (b ∷ w) (b ∷ w)
+  unended : (w : List ℕ) → behind_comment w ≡ None → Leaves (47 ∷ 42 ∷ w) (47 ∷ 42 ∷ w)
+  comment : (w behind left : List ℕ) → behind_comment w ≡ Some behind → Leaves behind left → Leaves (47 ∷ 42 ∷ w) left
+  other : (b : ℕ) (w left : List ℕ) → begins_comment (b ∷ w) ≡ false → is_quote b ≡ false → Leaves w left → Leaves (b ∷ w) left
 
 -- what a header name with a quote, a `\` or `/*` in it means is undefined
 abbrev pub is_undefined : List ℕ → Bool
@@ -52,9 +49,9 @@ abbrev pub behind_header : List ℕ → Option (List ℕ)
 behind_header [] = None
 behind_header (b ∷ w) = cond (b == 60) (behind_name 62 w) (cond (b == 34) (behind_name 34 w) None)
 
--- a comment `/*` that begins on the line, behind its `#`, may go on over the next: of what is left behind whole
--- comments, a header name and whole comments again, some `/*` has no `*/` behind it
-abbrev pub leaves_open : List ℕ → Bool
-leaves_open w =
-    let v = from_quote w in
-    has_open (option_map_or from_quote (behind_header v) v)
+-- behind its `#`, the line leaves no comment open: behind comments, a header name and comments again, each `/*` that is
+-- left has a `*/` behind it
+pub data ClosesComments : List ℕ → Type 0 where
+  named : (w name behind left : List ℕ) → Leaves w name → behind_header name ≡ Some behind → Leaves behind left → has_open left ≡ false → ClosesComments w
+  -- no header name with a meaning stands there
+  nameless : (w left : List ℕ) → Leaves w left → behind_header left ≡ None → has_open left ≡ false → ClosesComments w

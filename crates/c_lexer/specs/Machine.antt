@@ -27,7 +27,8 @@ use Rattle.c_lexer.specs.Bytes.{is_space, is_newline, is_return, is_octal_digit,
 use Rattle.c_lexer.specs.Numbers.{integer_of}
 use Rattle.c_lexer.specs.Characters.{three_digits}
 use Rattle.c_lexer.specs.MarkSteps.{mark_at, longer, is_slash, is_dot, is_whole_mark}
-use Rattle.c_lexer.specs.Pieces.{token, span, word_kind, is_directive}
+use Rattle.c_lexer.specs.Pieces.{token, span, word_kind}
+use Rattle.c_lexer.specs.IncludeSteps.{is_directive}
 
 abbrev pub of_mark : Option Mark → Ended → ℕ → Taken
 of_mark (Some m) ended at = Go (InMark at m) ended

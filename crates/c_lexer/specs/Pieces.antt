@@ -13,7 +13,7 @@ use Rattle.c_lexer.specs.Bytes.{is_space, is_white, is_blank, is_newline, is_ret
 use Rattle.c_lexer.specs.Numbers.{is_run, ends_with_power, integer_of}
 use Rattle.c_lexer.specs.Characters.{Character, written, written_all, IsCharacter, AreCharacters}
 use Rattle.c_lexer.specs.Marks.{mark_text}
-use Rattle.c_lexer.specs.Includes.{leaves_open}
+use Rattle.c_lexer.specs.Includes.{ClosesComments}
 use Rattle.c_lexer.specs.Behind.{each_behind}
 
 pub data Piece : Type 0 where
@@ -104,8 +104,8 @@ abbrev pub is_include : List ℕ → Bool
 is_include w = begins_with_include (drop (prefix_len is_blank w) w)
 
 -- an `#include` line, behind its `#`, behind which no comment is open
-abbrev pub is_directive : List ℕ → Bool
-is_directive w = is_include w && not (leaves_open w)
+abbrev pub IsDirective : List ℕ → Type 0
+IsDirective w = (is_include w ≡ true) × ClosesComments w
 
 -- what a piece is; `first` says that nothing but white space stands before it on its line
 abbrev pub Fits : Bool → Piece → Type 0
@@ -115,7 +115,7 @@ Fits first (Number w) = (is_run w ≡ true) × (is_some (integer_of w) ≡ true)
 Fits first (Char c) = IsCharacter is_character_byte c
 Fits first (Text cs) = AreCharacters is_text_byte cs (34 ∷ [])
 Fits first (Sign m) = Unit {0}
-Fits first (Directive w) = (first ≡ true) × (is_directive w ≡ true)
+Fits first (Directive w) = (first ≡ true) × IsDirective w
 Fits first (Line w) = Unit {0}
 Fits first (Block w) = Closes w
 

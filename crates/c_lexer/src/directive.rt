@@ -2,7 +2,6 @@ ghost use Rattle.std.specs.Prelude.{◌≡◌, ◌≤◌, length, slice_index};
 ghost use Rattle.std.specs.List.{prefix_len};
 ghost use Rattle.c_lexer.specs.Bytes.{is_blank};
 ghost use Rattle.c_types.specs.Words.{is_word_byte};
-ghost use Rattle.c_lexer.specs.Includes as includes;
 ghost use Rattle.c_lexer.specs.IncludeSteps as steps;
 ghost use Rattle.c_lexer.specs.Pieces as pieces;
 
@@ -29,13 +28,13 @@ pub(crate) enum Before {
 /// Whether the bytes behind a `#` make its line an `#include` (ISO/IEC 9899:2011, 6.10.2) that leaves no
 /// comment open.
 pub(crate) fn is_directive(line: &[u8]) -> bool
-    ensures { result ≡ pieces.is_directive line.now }
+    ensures { result ≡ steps.is_directive line.now }
 {
     is_include(line) && !leaves_open(line)
 }
 
 fn leaves_open(line: &[u8]) -> bool
-    ensures { result ≡ includes.leaves_open line.now }
+    ensures { result ≡ steps.leaves_open line.now }
 {
     let mut before = Before::Outside(false, false);
     for i in 0..line.len() {

@@ -12,9 +12,10 @@ use Rattle.c_lexer.specs.declared.mark.Mark.{Mark}
 use Rattle.c_lexer.specs.declared.mark.Mark.TheVariants as m
 use Rattle.c_lexer.specs.Marks.{mark_of}
 use Rattle.c_lexer.specs.Bytes.{is_blank}
-use Rattle.c_lexer.specs.Pieces.{Piece, text, bare, onto_bare, begins_with_include, is_include, is_directive, word_kind, tokens_of, Fits, Longest, Spells}
+use Rattle.c_lexer.specs.Pieces.{Piece, text, bare, onto_bare, begins_with_include, is_include, word_kind, tokens_of, Fits, Longest, Spells}
 use Rattle.c_lexer.specs.Pieces as l
-use Rattle.c_lexer.specs.Includes.{leaves_open}
+use Rattle.c_lexer.specs.IncludeSteps.{leaves_open}
+use Rattle.c_lexer.proofs.IncludeLemmas.{directive_decided}
 use Rattle.c_lexer.proofs.OpenLines.{leaves_bare}
 use Rattle.c_lexer.proofs.Truths.{both_true}
 use Rattle.c_grammar.specs.declared.class.Class.{Class}
@@ -83,14 +84,14 @@ include_bare (b ∷ w) h = by_blank (is_blank b) refl (λ g. include_bare w g)
 both : (x y : Bool) → x ≡ true → y ≡ true → (x && y) ≡ true
 both x y h k = rw (h, k) refl
 
-directive_bare : (w : List ℕ) → is_directive w ≡ true → is_directive (bare w) ≡ true
+directive_bare : (w : List ℕ) → l.IsDirective w → l.IsDirective (bare w)
 directive_bare w h =
-    let m = both_true (is_include w) (not (leaves_open w)) h in
-    both (is_include (bare w)) (not (leaves_open (bare w))) (include_bare w (m.0)) (ap not (leaves_bare w) ∙ m.1)
+    let m = both_true (is_include w) (not (leaves_open w)) ((directive_decided w).1 h) in
+    (directive_decided (bare w)).0 (both (is_include (bare w)) (not (leaves_open (bare w))) (include_bare w (m.0)) (ap not (leaves_bare w) ∙ m.1))
 
 -- ---- directives
 
-directive_is : (w : List ℕ) → IsOneLine w → is_directive w ≡ true → IsDirective (35 ∷ w)
+directive_is : (w : List ℕ) → IsOneLine w → l.IsDirective w → IsDirective (35 ∷ w)
 directive_is [] o h = absurd cc
 directive_is (b ∷ w) o h = (refl, o, h)
 

@@ -26,6 +26,7 @@ use Rattle.print_laws.proofs.ExpressionReads.{node_rolls, expression_rolls}
 use Rattle.c_tree.specs.TestTrees.{Source}
 use Rattle.c_tree.specs.Trees.{Forest, Nil, Then, Sections, NoSection, Section, Evaluate, If, Switch, Local, Break, Note}
 use Rattle.c_tree.specs.Text.{text_of}
+use Rattle.c_lexer.proofs.IncludeLemmas.{directive_decided}
 use Rattle.c_lexer.proofs.CommentEnds.{closed}
 use Rattle.c_grammar.specs.declared.class.Class.TheVariants as c
 use Rattle.c_grammar.specs.Expressions.{expression_tokens}
@@ -109,7 +110,9 @@ unfolding digits
 small_text = refl
 
 small_prints : IsPrintable small
-small_prints = record { tops = ((refl, record { whole = refl; ended = refl }, refl), ((refl, inr (refl, closed (codes " a */") refl)), (record { named = (refl, refl); length = omega arith; values = tt }, tt))) }
+small_prints = record {
+  tops = ((refl, record { whole = refl; ended = refl }, (directive_decided (codes "include <stdio.h>")).0 refl), ((refl, inr (refl, closed (codes " a */") refl)), (record { named = (refl, refl); length = omega arith; values = tt }, tt)));
+}
 
 small_notes : notes_of small ≡ (c.Static ∷ c.Const ∷ c.Int ∷ c.Name ∷ c.OpenIndex ∷ c.Number ∷ c.CloseIndex ∷ c.Semicolon ∷ c.End ∷ [], codes "/* a */") ∷ []
 small_notes = refl
