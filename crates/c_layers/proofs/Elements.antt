@@ -1,5 +1,5 @@
 -- A character constant or a text writes the values of the characters that the lexer sees in it.
-use Rattle.std.proofs.Common.{◌≡◌, ◌≤◌, ◌-◌, ◌==◌, ℕ, zero, suc, Bool, true, false, cond, ◌||◌, List, [], ◌∷◌, ◌++◌, length, take, drop, map, refl, ap, sym, ◌∙◌, subst, arith, length-append, append_assoc, get_or}
+use Rattle.std.proofs.Common.{◌≡◌, ◌-◌, ◌==◌, ℕ, zero, suc, Bool, true, false, cond, ◌||◌, List, [], ◌∷◌, ◌++◌, length, take, map, refl, ap, sym, ◌∙◌, subst, arith, length-append, append_assoc}
 use Rattle.std.specs.List.{take_while, list_all}
 use Rattle.std.proofs.lemmas.Bool.{eqb-true}
 use Rattle.c_lexer.specs.Bytes.{is_octal_digit, is_hexadecimal_digit, is_simple_escape, is_text_byte, is_character_byte, NotFirst}
@@ -7,8 +7,8 @@ use Rattle.c_lexer.specs.Characters.{Character, IsCharacter, TakesDigits, AreCha
 use Rattle.c_lexer.specs.Characters as ch
 use Rattle.c_lexer.specs.Pieces as l
 use Rattle.c_lexer.proofs.Truths.{both_true}
-use Rattle.c_layers.specs.Words.{Element, Itself, Simple, Octal, Hexadecimal, escape, first_element, written, value, elements, within_quotes, decoded, character}
-use Rattle.c_layers.proofs.DecodedSteps.{run_more, run_ends}
+use Rattle.c_layers.specs.Words.{Element, Itself, Simple, Octal, Hexadecimal, escape, first_element, written, value, Writes, nothing, element, within_quotes, character}
+use Rattle.c_layers.proofs.DecodedSteps.{run_more, run_ends, first_written}
 
 abbrev pub element_of : Character → Element
 element_of (ch.Plain b) = Itself b
@@ -27,10 +27,6 @@ take_all f [] (b ∷ r) h n = run_ends f b r n
 take_all f (a ∷ ds) r h n =
     let m = both_true (f a) (list_all f ds) h in
     run_more f a (ds ++ r) (m.0) ∙ ap (λ w. a ∷ w) (take_all f ds r (m.1) n)
-
-drop_front : (ds r : List ℕ) → drop (length ds) (ds ++ r) ≡ r
-drop_front [] r = refl
-drop_front (a ∷ ds) r = drop_front ds r
 
 -- ---- each character
 
@@ -82,40 +78,26 @@ octals_end (suc m) (b ∷ r) n = ap (take (suc m)) (run_ends is_octal_digit b r 
 octals_more : (m b : ℕ) (r : List ℕ) → is_octal_digit b ≡ true → octals (suc m) (b ∷ r) ≡ b ∷ octals m r
 octals_more m b r h = ap (take (suc m)) (run_more is_octal_digit b r h)
 
--- where this element begins with this byte and goes on over this front of the rest
-element_on : (b n : ℕ) (u r : List ℕ) (x : Element) → first_element b u ≡ x → drop (length (written x)) (b ∷ u) ≡ r
-    → elements (suc n) (b ∷ u) ≡ x ∷ elements n r
-element_on b n u r x e h = ap (λ y. y ∷ elements n (drop (length (written y)) (b ∷ u))) e ∙ ap (λ v. x ∷ elements n v) h
+-- where this element begins with this byte and stands in front of the rest
+element_on : (b : ℕ) (u r bs : List ℕ) (x : Element) → first_element b u ≡ x → b ∷ u ≡ written x ++ r → Writes r bs → Writes (b ∷ u) (value x ∷ bs)
+element_on b u r bs x e h k = subst (λ y. b ∷ u ≡ written y ++ r → Writes (b ∷ u) (value y ∷ bs)) e (λ g. element b u r bs g k) h
 
-first_is : (f : ℕ → Bool) → f 92 ≡ false → (c : Character) (r : List ℕ) (n : ℕ) → IsCharacter f c → TakesDigits c r
-    → elements (suc n) (ch.written c r) ≡ element_of c ∷ elements n r
-first_is f z (ch.Plain b) r n h t = element_on b n r r (Itself b) (itself f z b r h) refl
-first_is f z (ch.Simple b) r n h t = element_on 92 n (b ∷ r) r (Simple b) (plain_escape b r (simple_is b h)) refl
-first_is f z (ch.OneDigit a) r n h t =
-    element_on 92 n (a ∷ r) r (Octal (a ∷ [])) (octal_escape a r h ∙ ap (λ ds. Octal (a ∷ ds)) (octals_end 2 r t)) refl
-first_is f z (ch.TwoDigits a b) r n h t =
-    element_on 92 n (a ∷ b ∷ r) r (Octal (a ∷ b ∷ []))
-    (octal_escape a (b ∷ r) (h.0) ∙ ap (λ ds. Octal (a ∷ ds)) (octals_more 1 b r (h.1) ∙ ap (λ ds. b ∷ ds) (octals_end 1 r t))) refl
-first_is f z (ch.ThreeDigits a b c) r n h t =
-    element_on 92 n (a ∷ b ∷ c ∷ r) r (Octal (a ∷ b ∷ c ∷ []))
-    (octal_escape a (b ∷ c ∷ r) (h.0) ∙ ap (λ ds. Octal (a ∷ ds)) (octals_more 1 b (c ∷ r) (h.1) ∙ ap (λ ds. b ∷ ds) (octals_more 0 c r (h.2)))) refl
-first_is f z (ch.Hexadecimal a ds) r n h t =
-    element_on 92 n (120 ∷ a ∷ ds ++ r) r (Hexadecimal (a ∷ ds)) (ap Hexadecimal (take_all is_hexadecimal_digit (a ∷ ds) r (h.0) t)) (drop_front ds r)
+first_is : (f : ℕ → Bool) → f 92 ≡ false → (c : Character) (r bs : List ℕ) → IsCharacter f c → TakesDigits c r → Writes r bs
+    → Writes (ch.written c r) (value (element_of c) ∷ bs)
+first_is f z (ch.Plain b) r bs h t k = element_on b r r bs (Itself b) (itself f z b r h) refl k
+first_is f z (ch.Simple b) r bs h t k = element_on 92 (b ∷ r) r bs (Simple b) (plain_escape b r (simple_is b h)) refl k
+first_is f z (ch.OneDigit a) r bs h t k =
+    element_on 92 (a ∷ r) r bs (Octal (a ∷ [])) (octal_escape a r h ∙ ap (λ ds. Octal (a ∷ ds)) (octals_end 2 r t)) refl k
+first_is f z (ch.TwoDigits a b) r bs h t k =
+    element_on 92 (a ∷ b ∷ r) r bs (Octal (a ∷ b ∷ []))
+    (octal_escape a (b ∷ r) (h.0) ∙ ap (λ ds. Octal (a ∷ ds)) (octals_more 1 b r (h.1) ∙ ap (λ ds. b ∷ ds) (octals_end 1 r t))) refl k
+first_is f z (ch.ThreeDigits a b c) r bs h t k =
+    element_on 92 (a ∷ b ∷ c ∷ r) r bs (Octal (a ∷ b ∷ c ∷ []))
+    (octal_escape a (b ∷ c ∷ r) (h.0) ∙ ap (λ ds. Octal (a ∷ ds)) (octals_more 1 b (c ∷ r) (h.1) ∙ ap (λ ds. b ∷ ds) (octals_more 0 c r (h.2)))) refl k
+first_is f z (ch.Hexadecimal a ds) r bs h t k =
+    element_on 92 (120 ∷ a ∷ ds ++ r) r bs (Hexadecimal (a ∷ ds)) (ap Hexadecimal (take_all is_hexadecimal_digit (a ∷ ds) r (h.0) t)) refl k
 
 -- ---- characters
-
--- a character has a byte at least
-longer : (c : Character) (r : List ℕ) → suc (length r) ≤ length (ch.written c r)
-longer (ch.Plain b) r = omega arith
-longer (ch.Simple b) r = omega arith
-longer (ch.OneDigit a) r = omega arith
-longer (ch.TwoDigits a b) r = omega arith
-longer (ch.ThreeDigits a b c) r = omega arith
-longer (ch.Hexadecimal a ds) r = omega (arith, length-append ds r)
-
-nothing : (n : ℕ) → elements n [] ≡ []
-nothing zero = refl
-nothing (suc n) = refl
 
 written_front : (c : Character) (w r : List ℕ) → ch.written c (w ++ r) ≡ ch.written c w ++ r
 written_front (ch.Plain b) w r = refl
@@ -141,15 +123,12 @@ takes_front (ch.TwoDigits a b) w r t = not_first is_octal_digit w r t
 takes_front (ch.ThreeDigits a b c) w r t = tt
 takes_front (ch.Hexadecimal a ds) w r t = not_first is_hexadecimal_digit w r t
 
-all_are : (f : ℕ → Bool) → f 92 ≡ false → (cs : List Character) (n : ℕ) (r : List ℕ) → length (written_all cs []) ≤ n → AreCharacters f cs r
-    → elements n (written_all cs []) ≡ map element_of cs
-all_are f z [] n r h t = nothing n
-all_are f z (c ∷ cs) zero r h t = let k = longer c (written_all cs []) in absurd (omega arith)
-all_are f z (c ∷ cs) (suc n) r h t =
+all_are : (f : ℕ → Bool) → f 92 ≡ false → (cs : List Character) (r : List ℕ) → AreCharacters f cs r → Writes (written_all cs []) (map value (map element_of cs))
+all_are f z [] r h = nothing
+all_are f z (c ∷ cs) r h =
     let w = written_all cs [] in
-    let k = longer c w in
-    let d = takes_front c w r (subst (TakesDigits c) (all_front cs r) (t.1)) in
-    first_is f z c w n (t.0) d ∙ ap (λ l. element_of c ∷ l) (all_are f z cs n r (omega arith) (t.2))
+    let d = takes_front c w r (subst (TakesDigits c) (all_front cs r) (h.1)) in
+    first_is f z c w (map value (map element_of cs)) (h.0) d (all_are f z cs r (h.2))
 
 -- ---- in quotes
 
@@ -163,13 +142,14 @@ quoted q w =
     ap (λ n. take n (w ++ q ∷ [])) e ∙ take_front w (q ∷ [])
 
 writes : (f : ℕ → Bool) → f 92 ≡ false → (q : ℕ) (cs : List Character) → AreCharacters f cs (q ∷ [])
-    → decoded (q ∷ written_all cs (q ∷ [])) ≡ map value (map element_of cs)
+    → Writes (within_quotes (q ∷ written_all cs (q ∷ []))) (map value (map element_of cs))
 writes f z q cs t =
     let e = ap (λ w. within_quotes (q ∷ w)) (all_front cs (q ∷ [])) ∙ quoted q (written_all cs []) in
-    ap (λ v. map value (elements (length v) v)) e ∙ ap (map value) (all_are f z cs (length (written_all cs [])) (q ∷ []) (omega arith) t)
+    subst (λ v. Writes v (map value (map element_of cs))) (sym e) (all_are f z cs (q ∷ []) t)
 
 -- a text writes the values of its characters
-pub text_writes : (cs : List Character) → AreCharacters is_text_byte cs (34 ∷ []) → decoded (l.spelled (l.Text cs) []) ≡ map value (map element_of cs)
+pub text_writes : (cs : List Character) → AreCharacters is_text_byte cs (34 ∷ [])
+    → Writes (within_quotes (l.spelled (l.Text cs) [])) (map value (map element_of cs))
 text_writes cs t = writes is_text_byte refl 34 cs t
 
 quote_ends : (c : Character) → TakesDigits c (39 ∷ [])
@@ -182,4 +162,4 @@ quote_ends (ch.Hexadecimal a ds) = refl
 
 -- a character constant writes the value of its character
 pub character_writes : (c : Character) → IsCharacter is_character_byte c → character (l.spelled (l.Char c) []) ≡ value (element_of c)
-character_writes c h = ap (λ w. get_or w 0 0) (writes is_character_byte refl 39 (c ∷ []) (h, quote_ends c, tt))
+character_writes c h = sym (first_written (writes is_character_byte refl 39 (c ∷ []) (h, quote_ends c, tt)))

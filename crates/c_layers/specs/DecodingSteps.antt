@@ -3,7 +3,7 @@ use Rattle.std.specs.Prelude.{◌+◌, ◌*◌, ◌%◌, ◌==◌, ℕ, cond, �
 use Rattle.c_lexer.specs.Bytes.{is_octal_digit, is_hexadecimal_digit, digit_value}
 use Rattle.c_layers.specs.declared.decoding.Decoding.{Decoding}
 use Rattle.c_layers.specs.declared.decoding.Decoding.TheVariants.{Plain, Backslash, Octal, Hexadecimal}
-use Rattle.c_layers.specs.Words.{escape_value}
+use Rattle.c_layers.specs.Words.{escape_value, within_quotes}
 
 -- what is open behind a byte, and the bytes that are finished by then
 abbrev pub Taken : Type 0
@@ -33,3 +33,7 @@ left (Hexadecimal v) = v ∷ []
 abbrev pub decoded_from : Decoding → List ℕ → List ℕ
 decoded_from pending [] = left pending
 decoded_from pending (b ∷ bs) = let taken = decode pending b in taken.1 ++ decoded_from taken.0 bs
+
+-- the bytes that a character constant or a text writes
+abbrev pub decoded : List ℕ → List ℕ
+decoded w = decoded_from Plain (within_quotes w)

@@ -1,5 +1,5 @@
 -- The bytes of a token, by its number, and the constants that tokens write (ISO/IEC 9899:2011, 6.4.4 and 6.4.5).
-use Rattle.std.specs.Prelude.{◌-◌, ◌%◌, ◌==◌, ℕ, zero, suc, Bool, cond, ◌&&◌, nat_le, List, [], ◌∷◌, map, Option, Some, None, length, take, drop, get_or, slice_get, slice_range, codes}
+use Rattle.std.specs.Prelude.{◌≡◌, ◌-◌, ◌%◌, ◌==◌, ℕ, Bool, cond, ◌&&◌, nat_le, List, [], ◌∷◌, ◌++◌, Option, Some, None, length, take, drop, get_or, slice_get, slice_range, codes}
 use Rattle.std.specs.List.{list_any, take_while}
 use Rattle.std.specs.Str.{bytes_eq}
 use Rattle.c_types.specs.declared.kinds.IntKind.{IntKind}
@@ -74,23 +74,24 @@ abbrev pub first_element : ℕ → List ℕ → Element
 first_element b [] = Itself b
 first_element b (c ∷ w) = cond (b == 92) (escape c w) (Itself b)
 
--- what these bytes are in order, so many at most
-abbrev pub elements : ℕ → List ℕ → List Element
-elements zero w = []
-elements (suc n) [] = []
-elements (suc n) (b ∷ w) = let e = first_element b w in e ∷ elements n (drop (length (written e)) (b ∷ w))
+-- these bytes are elements, one behind the other, and those are what each writes
+pub data Writes : List ℕ → List ℕ → Type 0 where
+  nothing : Writes [] []
+  element : (b : ℕ) (w rest bytes : List ℕ) → b ∷ w ≡ written (first_element b w) ++ rest → Writes rest bytes
+      → Writes (b ∷ w) (value (first_element b w) ∷ bytes)
 
 -- the bytes between the quotes
 abbrev pub within_quotes : List ℕ → List ℕ
 within_quotes w = take (length w - 2) (drop 1 w)
 
--- the bytes that a character constant or a text writes
-abbrev pub decoded : List ℕ → List ℕ
-decoded w = let v = within_quotes w in map value (elements (length v) v)
+-- the byte that the first of these writes
+abbrev pub first_value : List ℕ → ℕ
+first_value [] = 0
+first_value (b ∷ w) = value (first_element b w)
 
 -- the byte of a character constant
 abbrev pub character : List ℕ → ℕ
-character w = get_or (decoded w) 0 0
+character w = first_value (within_quotes w)
 
 -- a character constant, and no number
 abbrev pub is_character : List ℕ → Bool

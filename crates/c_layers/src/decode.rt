@@ -108,7 +108,8 @@ fn add_elements(bytes: &[u8], out: &mut Bytes) -> Result<(), Memory>
 
 /// Puts the bytes that a character constant or a text writes behind others.
 pub fn add_decoded(word: &[u8], out: &mut Bytes) -> Result<(), Memory>
-    ensures { OnOk result (out.new ≡ out.old ++ spec.decoded word.now) }
+    ensures out { OnOk result (out.new ≡ out.old ++ steps.decoded word.now) }
+    ensures written { spec.Writes (spec.within_quotes word.now) (steps.decoded word.now) }
 {
     add_elements(within_quotes(word), out)
 }

@@ -67,14 +67,16 @@ no_second b = go (47 == b)
     go true = refl
     go false = refl
 
-two_leave : (n b c : ℕ) (u : List ℕ) → LeavesAny n → suc (length u) ≤ n → (x y q : Bool) → begins_with (codes "//") (b ∷ c ∷ u) ≡ x → begins_with (codes "/*") (b ∷ c ∷ u) ≡ y → is_quote b ≡ q
+two_leave : (n b c : ℕ) (u : List ℕ) → LeavesAny n → suc (length u) ≤ n → (x y q : Bool)
+    → begins_with (codes "//") (b ∷ c ∷ u) ≡ x → begins_with (codes "/*") (b ∷ c ∷ u) ≡ y → is_quote b ≡ q
     → Leaves (b ∷ c ∷ u) (chosen x y q b c u)
 two_leave n b c u f h true y q e g k =
     let s = both_bytes 47 47 b c e in
-    (subst (λ (i : ℕ). Leaves (i ∷ c ∷ u) []) (s.0) (subst (λ (i : ℕ). Leaves (47 ∷ i ∷ u) []) (s.1) (line u)))
+    subst (λ (i : ℕ). Leaves (i ∷ c ∷ u) []) (s.0) (subst (λ (i : ℕ). Leaves (47 ∷ i ∷ u) []) (s.1) (line u))
 two_leave n b c u f h false true q e g k =
     let s = both_bytes 47 42 b c g in
-    subst (λ (i : ℕ). Leaves (i ∷ c ∷ u) (chosen false true q i c u)) (s.0) (subst (λ (i : ℕ). Leaves (47 ∷ i ∷ u) (chosen false true q 47 i u)) (s.1) (block_leaves u (λ v i. f v (omega arith))))
+    subst (λ (i : ℕ). Leaves (i ∷ c ∷ u) (chosen false true q i c u)) (s.0)
+    (subst (λ (i : ℕ). Leaves (47 ∷ i ∷ u) (chosen false true q 47 i u)) (s.1) (block_leaves u (λ v i. f v (omega arith))))
 two_leave n b c u f h false false true e g k = quote b (c ∷ u) k
 two_leave n b c u f h false false false e g k = other b (c ∷ u) (from_quote (c ∷ u)) (λ i. e i || g i) k (f (c ∷ u) (omega arith))
 

@@ -51,4 +51,5 @@ pub record IsFirstFault (t : List ℕ) (fault : Refusal) : Type 0 where
   pub stuck : HasNoPiece (stands_first pieces) (byte ∷ rest)
   pub include : Bool
   pub include_is : Decides include (IsDirective (own_line rest))
-  pub refusal : fault ≡ refusal_of (reason_of (stands_first pieces) include byte rest) t (length (text pieces []) + reach_of (stands_first pieces) include byte rest)
+  pub refusal : fault
+      ≡ refusal_of (reason_of (stands_first pieces) include byte rest) t (length (text pieces []) + reach_of (stands_first pieces) include byte rest)

@@ -10,7 +10,7 @@ use Rattle.c_tree.specs.declared.tree.Place as place
 use Rattle.c_tree.specs.declared.tree.Node as node
 use Rattle.c_lexer.specs.Marks.{mark_of}
 use Rattle.c_layers.specs.Terms.{Term, Form, Terms, At, Constant, Variable, Cell, Prefix, Suffix, CastTo, CastVoid, Binary, Choice, Assign, Commas, Call, Texts, Unknown, NoTerm, Then}
-use Rattle.c_layers.specs.Words.{kind_of}
+use Rattle.c_layers.specs.Words.{kind_of, Writes, within_quotes}
 use Rattle.c_kinds.specs.declared.binding.Binding.{Binding}
 use Rattle.c_kinds.specs.declared.binding.Binding.TheVariants as binding
 use Rattle.c_kinds.specs.declared.binding.Want.{Want}
@@ -24,7 +24,7 @@ use Rattle.c_kinds.specs.declared.typed.Target.{Target}
 use Rattle.c_kinds.specs.Constants.{with_value}
 use Rattle.c_kinds.specs.Marks.{step_of, counts_up, unary_op, unary_kind, binary_op, binary_kind, update_op, is_wide}
 use Rattle.c_kinds.specs.Scopes.{Env}
-use Rattle.c_kinds.specs.Typing.{constant, joined_texts}
+use Rattle.c_kinds.specs.Typing.{constant}
 use Rattle.c_kinds.specs.Values.{expression, expression_of, of_kind, of_result, dropped, target, variable, stored, with_left}
 use Rattle.c_reading_defs.specs.Bindings.{IsBoundTo}
 use Rattle.c_reading_defs.specs.Formats.{IsFormat}
@@ -48,6 +48,13 @@ IsNumber env at y = (v : of.Variable) × IsVariable env at v × (v.shape.array �
 -- the cell of an array at an index (6.5.2.1)
 abbrev pub IsCell : Env → ℕ → Valued → Target → Type 0
 IsCell env at i y = (v : of.Variable) × IsVariable env at v × (v.shape.array ≡ true) × (y ≡ target (place.Cell v.home (expression i)) v.shape)
+
+-- ---- texts (6.4.5)
+
+-- the texts at these tokens, side by side, write those bytes
+abbrev pub TextsWrite : (ℕ → List ℕ) → List ℕ → List ℕ → Type 0
+TextsWrite word [] bytes = bytes ≡ []
+TextsWrite word (at ∷ ats) bytes = (first rest : List ℕ) × Writes (within_quotes (word at)) first × TextsWrite word ats rest × (bytes ≡ first ++ rest)
 
 -- ---- calls (6.5.2.2)
 
@@ -113,7 +120,7 @@ abbrev mutual
       × (x ≡ of_kind y.kind (stored (update_op (mark_of (env.word m))) y (expression v)))
   FormMeans env (Commas a bs) x = (y : Typed) × (ys : List Typed) × Means env a y × AreMeant env bs ys × AreCommas (y ∷ ys) x
   FormMeans env (Call at xs) x = (b : Binding) × (ys : List Typed) × IsBound env at b × AreMeant env xs ys × IsCall (env.word at) b ys x
-  FormMeans env (Texts ats) x = x ≡ Text (joined_texts env.word ats)
+  FormMeans env (Texts ats) x = (bytes : List ℕ) × TextsWrite env.word ats bytes × (x ≡ Text bytes)
   FormMeans env Unknown x = ⊥
 
   -- the variable or the cell that an operand is (6.3.2.1)

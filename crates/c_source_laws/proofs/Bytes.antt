@@ -1,5 +1,5 @@
 -- The bytes that the words of a text write are bytes.
-use Rattle.std.proofs.Common.{◌≡◌, ◌≤◌, ◌-◌, ◌%◌, ◌==◌, ℕ, zero, suc, Bool, true, false, cond, ◌&&◌, nat_le, List, [], ◌∷◌, ◌++◌, map, take, drop, length, get_or, Option, Some, None, slice_get, refl, arith}
+use Rattle.std.proofs.Common.{◌≡◌, ◌≤◌, ◌-◌, ◌%◌, ◌==◌, ℕ, zero, suc, Bool, true, false, cond, ◌&&◌, nat_le, List, [], ◌∷◌, ◌++◌, take, drop, length, Option, Some, None, slice_get, refl, ap, sym, ◌∙◌, arith}
 use Rattle.std.specs.Prelude.{slice_range}
 use Rattle.std.proofs.lemmas.Bool.{leb-true, le-leb}
 use Rattle.std.specs.List.{list_all, take_while}
@@ -7,7 +7,9 @@ use Rattle.c_lexer.specs.declared.token.Token.{Token}
 use Rattle.c_lexer.specs.Bytes.{is_octal_digit, is_hexadecimal_digit}
 use Rattle.c_lexer.specs.Numbers.{value_of}
 use Rattle.c_lexer.proofs.Truths.{both_true}
-use Rattle.c_layers.specs.Words.{Element, Itself, Simple, Octal, Hexadecimal, escape_value, written, value, escape, first_element, elements, within_quotes, decoded, character, bytes_of, word_of}
+use Rattle.c_layers.specs.Words.{Element, Itself, Simple, Octal, Hexadecimal, escape_value, written, value, escape, first_element, Writes, nothing, element, within_quotes, first_value, character, bytes_of, word_of}
+use Rattle.c_layers.specs.DecodingSteps.{decoded}
+use Rattle.c_layers.proofs.DecodedSteps.{decoded_writes}
 use Rattle.c_kinds.specs.Typing.{joined_texts}
 use Rattle.c_resolved_defs.specs.PrintableExpressions.{AreBytes}
 
@@ -63,25 +65,29 @@ element_byte : (b : ℕ) (w : List ℕ) → b ≤ 255 → AreBytes w → value (
 element_byte b [] h m = h
 element_byte b (c ∷ w) h m = either (b == 92) (escape c w) (Itself b) (escaped_byte c w (leb-true c 255 (both_true (is_byte c) (list_all is_byte w) m).0)) h
 
-elements_bytes : (n : ℕ) (w : List ℕ) → AreBytes w → AreBytes (map value (elements n w))
-elements_bytes zero w h = refl
-elements_bytes (suc n) [] h = refl
-elements_bytes (suc n) (b ∷ w) h =
+behind_bytes : (u r w : List ℕ) → w ≡ u ++ r → AreBytes w → AreBytes r
+behind_bytes [] r w e h = sym (ap (list_all is_byte) e) ∙ h
+behind_bytes (b ∷ u) r w e h = behind_bytes u r (u ++ r) refl (both_true (is_byte b) (list_all is_byte (u ++ r)) (sym (ap (list_all is_byte) e) ∙ h)).1
+
+elements_bytes : {w bs : List ℕ} → Writes w bs → AreBytes w → AreBytes bs
+elements_bytes nothing h = refl
+elements_bytes (element b w r bs e k) h =
     let m = both_true (is_byte b) (list_all is_byte w) h in
-    let e = first_element b w in
-    let r = drop (length (written e)) (b ∷ w) in
-    joined (value e ∷ []) (map value (elements n r)) (one (value e) (element_byte b w (leb-true b 255 (m.0)) (m.1)))
-    (elements_bytes n r (behind_all (length (written e)) (b ∷ w) h))
+    let x = first_element b w in
+    joined (value x ∷ []) bs (one (value x) (element_byte b w (leb-true b 255 (m.0)) (m.1))) (elements_bytes k (behind_bytes (written x) r (b ∷ w) e h))
+
+within_bytes : (w : List ℕ) → AreBytes w → AreBytes (within_quotes w)
+within_bytes w h = front_all (length w - 2) (drop 1 w) (behind_all 1 w h)
 
 pub decoded_all : (w : List ℕ) → AreBytes w → AreBytes (decoded w)
-decoded_all w h = elements_bytes (length (within_quotes w)) (within_quotes w) (front_all (length w - 2) (drop 1 w) (behind_all 1 w h))
+decoded_all w h = elements_bytes (decoded_writes w) (within_bytes w h)
 
-first_byte : (w : List ℕ) → AreBytes w → get_or w 0 0 ≤ 255
+first_byte : (w : List ℕ) → AreBytes w → first_value w ≤ 255
 first_byte [] h = omega arith
-first_byte (b ∷ w) h = leb-true b 255 (both_true (is_byte b) (list_all is_byte w) h).0
+first_byte (b ∷ w) h = let m = both_true (is_byte b) (list_all is_byte w) h in element_byte b w (leb-true b 255 (m.0)) (m.1)
 
 pub character_byte : (w : List ℕ) → AreBytes w → character w ≤ 255
-character_byte w h = first_byte (decoded w) (decoded_all w h)
+character_byte w h = first_byte (within_quotes w) (within_bytes w h)
 
 -- ---- the words of a text
 

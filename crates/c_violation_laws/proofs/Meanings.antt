@@ -15,6 +15,8 @@ use Rattle.c_lexer.specs.Marks.{mark_of}
 use Rattle.c_lexer.specs.Numbers.{integer_of}
 use Rattle.c_lexer.specs.declared.number.Integer.{Integer}
 use Rattle.c_layers.specs.Words.{is_character, character}
+use Rattle.c_layers.specs.DecodingSteps.{decoded}
+use Rattle.c_layers.proofs.DecodedSteps.{decoded_writes, written_decoded}
 use Rattle.c_layers.specs.Terms.{Term, Form, Terms, At, Constant, Variable, Cell, Prefix, Suffix, CastTo, CastVoid, Binary, Choice, Assign, Commas, Call, Texts, Unknown, NoTerm, Then}
 use Rattle.c_kinds.specs.declared.binding.Binding.{Binding}
 use Rattle.c_kinds.specs.declared.binding.Binding.TheVariants as binding
@@ -28,8 +30,8 @@ use Rattle.c_kinds.specs.Scopes.{Env, meaning}
 use Rattle.c_kinds.specs.Values.{number, character_constant, of_result, value_of, dropped, expression, of_kind, target, number_target, cell_target, writable, reading, variable, unary, counting, cast, cast_void, binary, choice, stored, assignment, with_left, comma}
 use Rattle.c_kinds.specs.Names.{variable_of, named}
 use Rattle.c_kinds.specs.Calls.{called}
-use Rattle.c_kinds.specs.Typing.{typed, form_typed, commas, target_of, form_target, given}
-use Rattle.c_reading_defs.specs.Meanings.{IsVariable, IsNumber, IsCell, IsCall, Means, FormMeans, AreCommas, one, more, IsTarget, FormIsTarget, AreMeant}
+use Rattle.c_kinds.specs.Typing.{joined_texts, typed, form_typed, commas, target_of, form_target, given}
+use Rattle.c_reading_defs.specs.Meanings.{IsVariable, IsNumber, IsCell, TextsWrite, IsCall, Means, FormMeans, AreCommas, one, more, IsTarget, FormIsTarget, AreMeant}
 use Rattle.c_violation_laws.proofs.Lookups.{bound_is, is_bound}
 use Rattle.c_violation_laws.proofs.CallMeanings.{types, AllRight, call_right, called_is, is_called}
 
@@ -232,6 +234,16 @@ joined_commas front y [] x a h = subst (AreCommas (front ++ [])) (sym h) (subst 
 joined_commas front y (z ∷ zs) x a h =
     subst (λ l. AreCommas l x) (append_assoc front (z ∷ []) zs) (joined_commas (front ++ z ∷ []) (with_left h.0 z) zs x (more z a h.2 h.3) h.4)
 
+-- ---- texts
+
+texts_are : (word : ℕ → List ℕ) (ats bytes : List ℕ) → TextsWrite word ats bytes → joined_texts word ats ≡ bytes
+texts_are word [] bytes h = sym h
+texts_are word (at ∷ ats) bytes h = (λ i. written_decoded h.2 i ++ texts_are word ats h.1 h.3 i) ∙ sym h.4
+
+texts_write : (word : ℕ → List ℕ) (ats : List ℕ) → TextsWrite word ats (joined_texts word ats)
+texts_write word [] = refl
+texts_write word (at ∷ ats) = (decoded (word at), joined_texts word ats, decoded_writes (word at), texts_write word ats, refl)
+
 -- ---- from the meaning
 
 mutual
@@ -266,7 +278,7 @@ mutual
   is_form env (Call at xs) x h =
       ap (λ o. called (env.word at) o (given env xs)) (is_bound (env.word at) env.scopes h.0 h.2)
       ∙ is_called (env.word at) h.0 (given env xs) h.1 x (are_given env xs h.1 h.3) h.4
-  is_form env (Texts ats) x h = sym h
+  is_form env (Texts ats) x h = ap Text (texts_are env.word ats h.0 h.1) ∙ sym h.2
   is_form env Unknown x h = absurd h
 
   are_commas : (env : Env) (y : Typed) (bs : Terms) (ys : List Typed) (x : Typed) → AreMeant env bs ys → Joined y ys x → commas env y bs ≡ x
@@ -368,7 +380,7 @@ mutual
       (typed env a, c.0, typed_is env a (typed env a) refl right, c.1, joined_commas (typed env a ∷ []) (typed env a) c.0 x one c.2)
   form_is env (Call at xs) x e r =
       call_by env at xs x (meaning env at) refl (λ rs. given_are env xs rs) e r
-  form_is env (Texts ats) x e r = sym e
+  form_is env (Texts ats) x e r = (joined_texts env.word ats, texts_write env.word ats, sym e)
   form_is env Unknown x e r = absurd (r (sym e))
 
   commas_are : (env : Env) (y : Typed) (bs : Terms) (x : Typed) → commas env y bs ≡ x → x ≢ Wrong → (ys : List Typed) × AreMeant env bs ys × Joined y ys x
@@ -467,5 +479,5 @@ mutual
   wrong_form env (Assign m t a) h = wrong_value h.0.kind _ h.5
   wrong_form env (Commas a bs) h = wrong_joined h.0 h.1 (λ e. wrong_not env a (subst (Means env a) e h.2)) (commas_joined h.4)
   wrong_form env (Call at xs) h = wrong_call (env.word at) h.0 h.1 h.4
-  wrong_form env (Texts ats) h = cc
+  wrong_form env (Texts ats) h = let k : Wrong ≡ Text h.0 = h.2 in cc
   wrong_form env Unknown h = absurd h

@@ -2,7 +2,9 @@
 use Rattle.std.proofs.Common.{◌≡◌, ◌≤◌, ◌==◌, ℕ, Bool, true, nat_le, List, [], ◌∷◌, map, refl, ap, ◌∙◌, arith}
 use Rattle.std.proofs.lemmas.Bool.{eqb-true, leb-true}
 use Rattle.std.specs.List.{list_all}
-use Rattle.c_layers.specs.Words.{value, decoded, character}
+use Rattle.c_layers.specs.Words.{value, character}
+use Rattle.c_layers.specs.DecodingSteps.{decoded}
+use Rattle.c_layers.proofs.DecodedSteps.{written_decoded}
 use Rattle.c_layers.proofs.Elements.{element_of, text_writes}
 use Rattle.c_lexer.specs.Pieces as l
 use Rattle.c_resolved_defs.specs.PrintableExpressions.{AreBytes}
@@ -39,4 +41,4 @@ values (b ∷ bs) h =
 
 -- a printed text is its bytes
 pub text_is : (bs : List ℕ) → AreBytes bs → decoded (l.spelled (l.Text (map (character_in 34) bs)) []) ≡ bs
-text_is bs h = text_writes (map (character_in 34) bs) (text_characters bs (34 ∷ []) h) ∙ values bs h
+text_is bs h = written_decoded (text_writes (map (character_in 34) bs) (text_characters bs (34 ∷ []) h)) ∙ values bs h

@@ -19,7 +19,8 @@ use Rattle.c_lexer.specs.Numbers.{is_run, integer_of}
 use Rattle.c_grammar.specs.ExpressionSyntax.{expression_end, target_end, type_end}
 use Rattle.c_layers.specs.Terms.{Form, At, Prefix, Suffix, Assign}
 use Rattle.c_layers.specs.Terms as source
-use Rattle.c_layers.specs.Words.{is_character, character, decoded}
+use Rattle.c_layers.specs.Words.{is_character, character}
+use Rattle.c_layers.specs.DecodingSteps.{decoded}
 use Rattle.c_kinds.specs.declared.typed.Typed.{Typed}
 use Rattle.c_kinds.specs.declared.typed.Typed.TheVariants.{Text, Array}
 use Rattle.c_kinds.specs.Marks.{step_of, counts_up, unary_op, binary_op, update_op, unary_kind, binary_kind}
