@@ -1,6 +1,8 @@
 -- The labels of a resolved function each stand once, so that all of its flat form's count.
 use mathlib.Core.Path.{ap₂}
-use Rattle.std.proofs.Common.{ℕ, suc, ◌+◌, ◌≤◌, Bool, true, false, cond, eqb, ◌&&◌, List, [], ◌∷◌, ◌++◌, length, Some, None, ◌≡◌, refl, sym, ap, ◌∙◌, arith, append_assoc, eqb-true, eq-eqb}
+use Rattle.std.proofs.Common.{ℕ, ◌+◌, ◌<◌, ◌≤◌, Bool, true, false, cond, not, ◌==◌, ◌&&◌, ◌||◌, List, [], ◌∷◌, ◌++◌, length, Some, None, ◌≡◌, refl, sym, ap, ◌∙◌, arith, eqb-true, eq-eqb}
+use Rattle.std.proofs.lemmas.Bool.{false≢true}
+use Rattle.std.specs.List.{list_any}
 use Rattle.c_tree.specs.declared.tree.Function.{Function}
 use Rattle.c_tree.specs.declared.tree.Top.{Top}
 use Rattle.c_tree.specs.Everywhere.{total, total_of}
@@ -14,11 +16,11 @@ use Rattle.c_resolved_defs.specs.Resolved.{IsResolvedFunction}
 use Rattle.flat_looser_laws.specs.Loose.{NoArrival}
 use Rattle.flat_looser_laws.specs.Pieces.{Stays}
 use Rattle.flat_laws.specs.Parts.{has_jumps, is_named, jumps_of, is_some_number}
-use Rattle.flat_laws.specs.FlatForm.{coded, numbered, first_here, flat, marks, marks_in, marks_among, place_in}
+use Rattle.flat_laws.specs.FlatForm.{coded, numbered, first_here, flat, marks, marks_in, marks_among}
 use Rattle.flat_laws.specs.Source.{HasOwnLabels}
 use Rattle.flat_laws.proofs.Counts.{one_if}
 use Rattle.flat_laws.proofs.SameCounts.{marks_counted}
-use Rattle.c_resolved_laws.specs.Counts.{counts_of, measured_form, without_strays, without_stray, summed, labels_from, labels_of, bound_counts, flat_counts}
+use Rattle.c_resolved_laws.specs.Counts.{counts_of, measured_form, without_strays, without_stray, summed, labels_named, labels_of, bound_counts, flat_counts}
 use Rattle.c_resolved_laws.proofs.LabelsGiven.{count_in, counted, function_labels}
 use Rattle.c_resolved_laws.proofs.GotosCounted.{gotos_are}
 use Rattle.c_resolved_laws.proofs.LabelsCounted.{named_bit, each_label, each_named, flat_labels, all_as_many, marks_named}
@@ -79,36 +81,30 @@ mutual
 
 -- ---- a label of a resolved function stands once, so each counts
 
-count_both : (c : ℕ) (xs ys : List ℕ) → count_in c (xs ++ ys) ≡ count_in c xs + count_in c ys
-count_both c [] ys = omega arith
-count_both c (x ∷ xs) ys = let e = count_both c xs ys in omega (arith, e)
-
-place_here : (before : List ℕ) (c : ℕ) (cs : List ℕ) → count_in c before ≡ 0 → place_in (before ++ c ∷ cs) c ≡ length before
-place_here [] c cs e = ap (λ b. cond b 0 (suc (place_in cs c))) (eq-eqb c c refl)
-place_here (x ∷ before) c cs e = by (eqb x c) refl (place_here before c cs)
+count_there : (l : ℕ) (ls : List ℕ) → list_any (λ m. m == l) ls ≡ true → 0 < count_in l ls
+count_there l [] e = absurd (false≢true e)
+count_there l (m ∷ ls) e = by (m == l) refl (count_there l ls) e
   where
-    by : (b : Bool) → eqb x c ≡ b → (count_in c before ≡ 0 → place_in (before ++ c ∷ cs) c ≡ length before) → cond b 0 (suc (place_in (before ++ c ∷ cs) c)) ≡ suc (length before)
-    by true q f = let k = ap one_if (eq-eqb c x (sym (eqb-true x c q))) in absurd (omega (arith, e, k))
-    by false q f = ap suc (f (omega (arith, e)))
+    by : (b : Bool) → (m == l) ≡ b → (list_any (λ m. m == l) ls ≡ true → 0 < count_in l ls) → (b || list_any (λ m. m == l) ls) ≡ true → 0 < count_in l (m ∷ ls)
+    by true q more f = let k = ap one_if (eq-eqb l m (sym (eqb-true m l q))) in omega (arith, k)
+    by false q more f = let h = more f in omega (arith, h)
 
-all_count : (named : ℕ → Bool) (i : ℕ) (before ls all : List ℕ) → all ≡ before ++ ls → i ≡ length before → ((l : ℕ) → count_in l all ≤ 1) → labels_from named all i ls ≡ each_named named ls
-all_count named i before [] all e q once = refl
-all_count named i before (l ∷ ls) all e q once =
+once_each : (named : ℕ → Bool) (ls : List ℕ) → ((l : ℕ) → count_in l ls ≤ 1) → labels_named named ls ≡ each_named named ls
+once_each named [] once = refl
+once_each named (l ∷ ls) once =
+    let rest = once_each named ls (λ m. let o = once m in omega (arith, o)) in
     let o = once l in
-    let k = ap (count_in l) e ∙ count_both l before (l ∷ ls) in
-    let same = ap one_if (eq-eqb l l refl) in
-    let place : place_in all l ≡ i = ap (λ ms. place_in ms l) e ∙ place_here before l ls (omega (arith, o, k, same)) ∙ sym q in
-    let first = ap (λ b. one_if (named l && b)) (eq-eqb (place_in all l) i place) ∙ both_hold (named l) in
-    let rest = all_count named (i + 1) (before ++ l ∷ []) ls all (e ∙ sym (append_assoc before (l ∷ []) ls)) (let m = length-both before l in omega (arith, q, m)) once in
-    omega (arith, first, rest)
+    let here = ap one_if (eq-eqb l l refl) in
+    let none : list_any (λ m. m == l) ls ≡ false = not_there (list_any (λ m. m == l) ls) refl (omega (arith, o, here)) in
+    (λ i. cond (named l && not (none i)) 1 0 + labels_named named ls) ∙ (λ i. cond (and-true (named l) i) 1 0 + rest i)
   where
-    both_hold : (b : Bool) → one_if (b && true) ≡ one_if b
-    both_hold true = refl
-    both_hold false = refl
+    not_there : (b : Bool) → list_any (λ m. m == l) ls ≡ b → count_in l ls ≡ 0 → b ≡ false
+    not_there true e n = let h = count_there l ls e in absurd (omega (arith, h, n))
+    not_there false e n = refl
 
-    length-both : (xs : List ℕ) (x : ℕ) → length (xs ++ x ∷ []) ≡ length xs + 1
-    length-both [] x = refl
-    length-both (y ∷ xs) x = let e = length-both xs x in omega (arith, e)
+    and-true : (b : Bool) → (b && true) ≡ b
+    and-true true = refl
+    and-true false = refl
 
 -- the labels of the flat form, where a label and a default count as often as they stand
 pub labels_stand : (body : Forest) → length (marks (measured_form body)) ≡ summed (each_label (is_named body)) (is_named body) false body + total (named_bit (is_named body)) body
@@ -123,7 +119,7 @@ labels_are : (n : ℕ) (body : Forest) → HasOwnLabels n body → labels_of bod
 labels_are n body own =
     let named = is_named body in
     let once : (l : ℕ) → count_in l (marks body) ≤ 1 = λ l. let e = ap (count_in l) (marks_gathered body) in let f = counted l body in let o = own.once l in omega (arith, e, f, o) in
-    let e = all_count named 0 [] (marks body) (marks body) refl refl once in
+    let e = once_each named (marks body) once in
     let f = marks_named named body in
     let g = all_as_many named false body own.cases in
     let h = labels_stand body in

@@ -1,5 +1,6 @@
 -- The labels of a flat form are those that its items give, and the named ones of the body.
 use Rattle.std.proofs.Common.{◌≡◌, ◌≤◌, ℕ, zero, suc, ◌+◌, ℤ, Bool, true, false, cond, not, ◌&&◌, ◌==◌, List, [], ◌∷◌, ◌++◌, map, length, Option, Some, None, refl, ap, ◌∙◌, arith, length-append}
+use Rattle.std.specs.List.{list_any}
 use Rattle.std.specs.Option.{option_map_or}
 use Rattle.c_types.specs.declared.kinds.IntKind.{IntKind}
 use Rattle.c_tree.specs.Cases.{case_number}
@@ -18,11 +19,11 @@ use Rattle.flat_looser_laws.specs.Loose.{Arrivals, NoArrival, Arrives}
 use Rattle.flat_laws.specs.Parts.{arrivals, arrivals_in, is_scattered, section_labels, switch_labels, cases_among, has_default, leaves, holds_jump, kept_breaks}
 use Rattle.flat_laws.specs.Parts.{Here, past, past_item, inside, Ending, Gone, Breaks, Jumps, Otherwise, ending, ending_of, last_ending, is_gone}
 use Rattle.flat_laws.specs.FlatForm.{Plan, names_of, scatter_aim, otherwise_label, end_goto, aim, exit, is_moved, is_jumpy_switch, assigned, mark_if, arrival, dissolved, if_breaks, flat_for, flat, flat_item, flat_last, flat_last_item}
-use Rattle.flat_laws.specs.FlatForm.{flat_sections, spread, marks, marks_in, marks_among, place_in}
+use Rattle.flat_laws.specs.FlatForm.{flat_sections, spread, marks, marks_in, marks_among}
 use Rattle.flat_laws.specs.Source.{nones, AreDifferent, HasOwnCases, IfTrue}
 use Rattle.flat_laws.proofs.Counts.{one_if}
 use Rattle.flat_laws.proofs.SameCounts.{weight}
-use Rattle.c_resolved_laws.specs.Counts.{one_for, is_jumpy, labels_in, summed, summed_of, summed_in, labels_from}
+use Rattle.c_resolved_laws.specs.Counts.{one_for, is_jumpy, labels_in, summed, summed_of, summed_in, labels_named}
 use Rattle.c_resolved_laws.proofs.Endings.{switch_stays, switch_no_break, gone_else, label_no_break, later_gone, later_else, later_last}
 use Rattle.c_resolved_laws.proofs.GotosCounted.{aim_moved}
 
@@ -457,11 +458,11 @@ module _ (named : ℕ → Bool) where
     marks_named_among NoSection = refl
     marks_named_among (Section cases default a ends d) = let e = named_both (marks a) (marks_among d) in let i = marks_named a in let j = marks_named_among d in omega (arith, e, i, j)
 
-  pub named_small : (all : List ℕ) (i : ℕ) (ls : List ℕ) → labels_from named all i ls ≤ each_named ls
-  named_small all i [] = omega arith
-  named_small all i (l ∷ ls) = let h = named_small all (i + 1) ls in by (named l) (place_in all l == i) h
+  pub named_small : (ls : List ℕ) → labels_named named ls ≤ each_named ls
+  named_small [] = omega arith
+  named_small (l ∷ ls) = let h = named_small ls in by (named l) (not (list_any (λ m. m == l) ls)) h
     where
-      by : (b q : Bool) → labels_from named all (i + 1) ls ≤ each_named ls → cond (b && q) 1 0 + labels_from named all (i + 1) ls ≤ cond b 1 0 + each_named ls
+      by : (b q : Bool) → labels_named named ls ≤ each_named ls → cond (b && q) 1 0 + labels_named named ls ≤ cond b 1 0 + each_named ls
       by true true h = omega (arith, h)
       by true false h = omega (arith, h)
       by false q h = omega (arith, h)

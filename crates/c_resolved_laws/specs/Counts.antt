@@ -1,6 +1,7 @@
 -- How many gotos and labels the flat form of a body has, told by its items (docs/REWRITING.md, "The flat form"); and a
 -- resolved program with these measures.
-use Rattle.std.specs.Prelude.{ℕ, ◌+◌, ◌==◌, ◌&&◌, ◌||◌, Bool, false, cond, List, [], ◌∷◌, length, Some, None, is_some}
+use Rattle.std.specs.Prelude.{ℕ, ◌+◌, ◌==◌, ◌&&◌, ◌||◌, Bool, false, cond, not, List, [], ◌∷◌, length, Some, None, is_some}
+use Rattle.std.specs.List.{list_any}
 use Rattle.c_types.specs.declared.kinds.IntKind.{IntKind}
 use Rattle.c_tree.specs.declared.tree.Program.{Program}
 use Rattle.c_tree.specs.Cases.{case_number}
@@ -12,7 +13,7 @@ use Rattle.c_tree.specs.Numerals.{constant}
 use Rattle.c_tree.specs.Trees.{Tree, Forest, Nil, Then, Sections, NoSection, Section, If, While, Do, For, Switch, Block, Goto, Arrival, join}
 use Rattle.jump_meaning.specs.Step.{switch_kind}
 use Rattle.flat_laws.specs.Parts.{is_some_number, is_scattered, switch_labels, cases_among, has_default, leaves, holds_jump, holds_jump_among, is_named, has_jumps, kept_breaks}
-use Rattle.flat_laws.specs.FlatForm.{flat_body, marks, place_in}
+use Rattle.flat_laws.specs.FlatForm.{flat_body, marks}
 use Rattle.c_resolved_defs.specs.Limits.{FlatCounts}
 use Rattle.c_resolved_defs.specs.Resolved.{IsResolvedWith}
 
@@ -86,10 +87,10 @@ abbrev mutual
   summed_in f named in_jumpy NoSection = 0
   summed_in f named in_jumpy (Section cases default a ends c) = summed f named in_jumpy a + summed_in f named in_jumpy c
 
--- how many of these labels are named, from place i on: each counts where it stands first
-abbrev pub labels_from : (ℕ → Bool) → List ℕ → ℕ → List ℕ → ℕ
-labels_from named all i [] = 0
-labels_from named all i (l ∷ ls) = cond (named l && (place_in all l == i)) 1 0 + labels_from named all (i + 1) ls
+-- how many of these labels are named, each once: a label counts where it stands last
+abbrev pub labels_named : (ℕ → Bool) → List ℕ → ℕ
+labels_named named [] = 0
+labels_named named (l ∷ ls) = cond (named l && not (list_any (λ m. m == l) ls)) 1 0 + labels_named named ls
 
 -- the gotos of the flat form of a body
 abbrev pub gotos_of : Forest → ℕ
@@ -97,7 +98,7 @@ gotos_of body = summed (gotos_in (is_named body)) (is_named body) false body
 
 -- its labels: those that are made, and those of the body that stay
 abbrev pub labels_of : Forest → ℕ
-labels_of body = summed (labels_in (is_named body)) (is_named body) false body + labels_from (is_named body) (marks body) 0 (marks body)
+labels_of body = summed (labels_in (is_named body)) (is_named body) false body + labels_named (is_named body) (marks body)
 
 -- ---- a body that breaks a rule is measured too: a case label that no switch is around counts for nothing
 

@@ -3,7 +3,7 @@
 ghost use Rattle.std.specs.Prelude.{◌≡◌, ◌≤◌, ◌==◌, ◌&&◌, length, IfOk};
 ghost use Rattle.flat_items.specs.Plans.{number_at};
 ghost use Rattle.flat_questions.specs.Reading.{is_flagged as the_is_flagged};
-ghost use Rattle.c_resolved_laws.specs.Counts.{labels_from};
+ghost use Rattle.c_resolved_laws.specs.Counts.{labels_named};
 
 use crate::places_of;
 use c_types::Memory;
@@ -27,7 +27,7 @@ fn counts_here(places: &Places, named: &[bool], label: u32, place: usize) -> Res
 #[tactic(auto, using(crate::proofs::CountedPlaces::steps))]
 pub fn label_count(alloc: Global, named: &[bool], labels: &[u32]) -> Result<u64, Memory>
     requires { length labels.now ≤ 4294967295 }
-    ensures { IfOk result (λ it. it ≡ labels_from (the_is_flagged named.now) labels.now 0 labels.now) }
+    ensures { IfOk result (λ it. it ≡ labels_named (the_is_flagged named.now) labels.now) }
 {
     let places = places_of(alloc, labels)?;
     let mut count: u64 = 0;
