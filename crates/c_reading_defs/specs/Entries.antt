@@ -1,5 +1,5 @@
 -- What a derivation spells: its tokens, and what the limits count of each.
-use Rattle.std.specs.Prelude.{◌≡◌, ◌<◌, ◌⊎◌, ℕ, zero, suc, ◌+◌, ◌-◌, max, List, [], ◌∷◌, length, reverse}
+use Rattle.std.specs.Prelude.{◌≡◌, ◌<◌, ◌⊎◌, ℕ, zero, suc, ◌+◌, ◌-◌, max, Bool, true, false, List, [], ◌∷◌, ◌++◌, length, reverse, count_by}
 use Rattle.c_grammar.specs.declared.class.Class.{Class}
 use Rattle.c_reading_defs.specs.Behind.{SomeBehind}
 
@@ -54,14 +54,19 @@ abbrev pub most_counted : List Entry → ℕ
 most_counted [] = 0
 most_counted (x ∷ xs) = max (counted (x ∷ xs)) (most_counted xs)
 
--- how many levels are open behind these, which stand with the last first
-abbrev pub levels : List Entry → ℕ
-levels [] = 0
-levels (Opens ∷ xs) = levels xs + 1
-levels (Closes ∷ xs) = levels xs - 1
-levels (_ ∷ xs) = levels xs
+abbrev pub opens_level : Entry → Bool
+opens_level Opens = true
+opens_level _ = false
 
--- token k is over a limit: behind an entry with k tokens in front of it more levels are open, or more tokens count in the full
--- expression that is open there
+abbrev pub ends_level : Entry → Bool
+ends_level Closes = true
+ends_level _ = false
+
+-- how many levels are open behind these: those that were opened but for those that have ended
+abbrev pub levels : List Entry → ℕ
+levels xs = count_by opens_level xs - count_by ends_level xs
+
+-- token k is over a limit: behind an entry with k tokens in front of it more tokens count in the full expression that is open
+-- there, or more levels are open
 abbrev pub IsOver : List Entry → ℕ → Type 0
-IsOver xs k = SomeBehind (λ front x. (length (classes_in front) ≡ k) × ((limit < counted (x ∷ reverse front)) ⊎ (limit < levels (x ∷ reverse front)))) xs
+IsOver xs k = SomeBehind (λ front x. (length (classes_in front) ≡ k) × ((limit < counted (x ∷ reverse front)) ⊎ (limit < levels (front ++ x ∷ [])))) xs

@@ -7,7 +7,7 @@ use Rattle.c_grammar.specs.Files.{Function, Top}
 use Rattle.c_grammar.specs.Derives as old
 use Rattle.c_reading_defs.specs.Entries.{Entry, Counted, Uncounted, Outside, Opens, Closes, most_counted, IsOver}
 use Rattle.c_source_laws.proofs.FileEntries.{function_entries, file_entries}
-use Rattle.c_source_laws.proofs.Spelt.{events}
+use Rattle.c_source_laws.proofs.Spelt.{events, AreNested}
 use Rattle.c_source_laws.proofs.StatementsSpelt.{function_spelt, file_spelt}
 use Rattle.c_source_laws.proofs.WalkedLimits.{walked_over, walked_most, walked_most_is, walked_first, IsFirst}
 
@@ -69,4 +69,4 @@ over_of level (Closes ∷ xs) q = over_of (level - 1) xs q
 pub file_first : (xs : List Top) → IsFirst (old.first_too_many xs) (IsOver (file_entries xs))
 file_first xs =
     let e : events 0 (file_entries xs) [] ≡ file_events xs [] = ap (λ l. events 0 l []) (sym (all_of (file_entries xs))) ∙ (file_spelt xs).counts [] [] in
-    subst (λ o. IsFirst o (IsOver (file_entries xs))) (sym (over_of 0 (file_entries xs) []) ∙ ap ev.first_over e) (walked_first (file_entries xs))
+    subst (λ o. IsFirst o (IsOver (file_entries xs))) (sym (over_of 0 (file_entries xs) []) ∙ ap ev.first_over e) (walked_first (file_entries xs) (subst (AreNested 0) (all_of (file_entries xs)) ((file_spelt xs).nests [] tt)))

@@ -1,5 +1,5 @@
 -- What a derivation spells are its tokens and their events.
-use Rattle.std.proofs.Common.{◌≡◌, ◌+◌, ◌-◌, ℕ, List, [], ◌∷◌, ◌++◌, map, refl, ap, sym, ◌∙◌, arith, append_assoc}
+use Rattle.std.proofs.Common.{◌≡◌, ◌<◌, ◌+◌, ◌-◌, ℕ, List, [], ◌∷◌, ◌++◌, map, refl, ap, sym, subst, ◌∙◌, arith, append_assoc}
 use Rattle.c_grammar.specs.declared.class.Class.{Class}
 use Rattle.c_grammar.specs.declared.class.Class.TheVariants as c
 use Rattle.c_grammar.specs.Events.{Event}
@@ -19,6 +19,15 @@ events level (Outside k ∷ xs) q = events level xs (e.Outside ∷ q)
 events level (Opens ∷ xs) q = events (level + 1) xs (e.Opened (level + 1) ∷ q)
 events level (Closes ∷ xs) q = events (level - 1) xs q
 
+-- no level ends in these but one that is open, where so many are open in front
+abbrev pub AreNested : ℕ → List Entry → Type 0
+AreNested level [] = Unit {0}
+AreNested level (Opens ∷ xs) = AreNested (level + 1) xs
+AreNested level (Closes ∷ xs) = (0 < level) × AreNested (level - 1) xs
+AreNested level (Counted k ∷ xs) = AreNested level xs
+AreNested level (Uncounted k ∷ xs) = AreNested level xs
+AreNested level (Outside k ∷ xs) = AreNested level xs
+
 pub classes_joined : (xs ys : List Entry) → classes_in (xs ++ ys) ≡ classes_in xs ++ classes_in ys
 classes_joined [] ys = refl
 classes_joined (Counted k ∷ xs) ys = ap (λ l. k ∷ l) (classes_joined xs ys)
@@ -31,23 +40,25 @@ classes_joined (Closes ∷ xs) ys = classes_joined xs ys
 pub record Spelt (level : ℕ) (f : List Class → List Class) (k : List Event → List Event) (xs : List Entry) : Type 0 where
   pub tokens : (r : List Class) → f r ≡ classes_in xs ++ r
   pub counts : (rest : List Entry) (q : List Event) → events level (xs ++ rest) q ≡ events level rest (k q)
+  pub nests : (rest : List Entry) → AreNested level rest → AreNested level (xs ++ rest)
 
 pub nothing : {level : ℕ} → Spelt level (λ r. r) (λ q. q) []
-nothing = record { tokens = λ r. refl; counts = λ rest q. refl }
+nothing = record { tokens = λ r. refl; counts = λ rest q. refl; nests = λ rest h. h }
 
 pub counted : {level : ℕ} (k : Class) → Spelt level (λ r. k ∷ r) (λ q. e.Counted ∷ q) (Counted k ∷ [])
-counted k = record { tokens = λ r. refl; counts = λ rest q. refl }
+counted k = record { tokens = λ r. refl; counts = λ rest q. refl; nests = λ rest h. h }
 
 pub uncounted : {level : ℕ} (k : Class) → Spelt level (λ r. k ∷ r) (λ q. e.Uncounted ∷ q) (Uncounted k ∷ [])
-uncounted k = record { tokens = λ r. refl; counts = λ rest q. refl }
+uncounted k = record { tokens = λ r. refl; counts = λ rest q. refl; nests = λ rest h. h }
 
 pub outside : {level : ℕ} (k : Class) → Spelt level (λ r. k ∷ r) (λ q. e.Outside ∷ q) (Outside k ∷ [])
-outside k = record { tokens = λ r. refl; counts = λ rest q. refl }
+outside k = record { tokens = λ r. refl; counts = λ rest q. refl; nests = λ rest h. h }
 
 pub join : {level : ℕ} {f g : List Class → List Class} {k l : List Event → List Event} {xs ys : List Entry} → Spelt level f k xs → Spelt level g l ys → Spelt level (λ r. f (g r)) (λ q. l (k q)) (xs ++ ys)
 join {level} {f} {g} {k} {l} {xs} {ys} a b = record {
   tokens = λ r. ap f (b.tokens r) ∙ a.tokens (classes_in ys ++ r) ∙ sym (append_assoc (classes_in xs) (classes_in ys) r) ∙ ap (λ z. z ++ r) (sym (classes_joined xs ys));
   counts = λ rest q. ap (λ z. events level z q) (append_assoc xs ys rest) ∙ a.counts (ys ++ rest) q ∙ b.counts rest (k q);
+  nests = λ rest h. subst (AreNested level) (sym (append_assoc xs ys rest)) (a.nests (ys ++ rest) (b.nests rest h));
 }
 
 pub in_level : {level : ℕ} {f : List Class → List Class} {k : List Event → List Event} {xs : List Entry} → Spelt (level + 1) f k xs → Spelt level f (λ q. k (e.Opened (level + 1) ∷ q)) (nested xs)
@@ -55,6 +66,8 @@ in_level {level} {f} {k} {xs} a = record {
   tokens = λ r. a.tokens r ∙ ap (λ z. z ++ r) (sym (classes_joined xs (Closes ∷ []) ∙ none (classes_in xs)));
   counts = λ rest q. let h = e.Opened (level + 1) ∷ q in let same : level + 1 - 1 ≡ level = omega arith in
       ap (λ z. events (level + 1) z h) (append_assoc xs (Closes ∷ []) rest) ∙ a.counts (Closes ∷ rest) h ∙ ap (λ n. events n rest (k h)) same;
+  nests = λ rest h. let same : level ≡ level + 1 - 1 = omega arith in let above : 0 < level + 1 = omega arith in
+      subst (AreNested (level + 1)) (sym (append_assoc xs (Closes ∷ []) rest)) (a.nests (Closes ∷ rest) (above, subst (λ n. AreNested n rest) same h));
 }
   where
     none : (ks : List Class) → ks ++ [] ≡ ks

@@ -1,5 +1,5 @@
 -- What the derivations of declarations, statements and files spell is their tokens and events.
-use Rattle.std.proofs.Common.{◌≡◌, ◌+◌, ℕ, Bool, true, false, List, [], ◌∷◌, ◌++◌, Option, Some, None, ap, sym, ◌∙◌, append_assoc}
+use Rattle.std.proofs.Common.{◌≡◌, ◌+◌, ℕ, Bool, true, false, List, [], ◌∷◌, ◌++◌, Option, Some, None, ap, sym, subst, ◌∙◌, append_assoc}
 use Rattle.c_grammar.specs.declared.class.Class.{Class}
 use Rattle.c_grammar.specs.declared.class.Class.TheVariants as c
 use Rattle.c_grammar.specs.Events.{Event}
@@ -13,7 +13,7 @@ use Rattle.c_source_laws.proofs.ExpressionEntries.{assignment_entries}
 use Rattle.c_source_laws.proofs.StatementEntries.{word_entries, more_entries, optional_entries, size_entries, initialiser_entries, value_entries, declarator_entries, local_entries, label_entries, start_entries, tested_entries, block_entries, items_entries, statement_entries, body_entries, plain_entries}
 use Rattle.c_source_laws.proofs.FileEntries.{parameter_entries, parameters_entries, enumerator_entries, enumeration_entries, declaration_entries, result_entries, function_entries, top_entries, file_entries}
 use Rattle.c_source_laws.proofs.FileEntries as files
-use Rattle.c_source_laws.proofs.Spelt.{Spelt, events, nothing, uncounted, outside, join, in_level, type_spelt, expression_spelt, assignment_spelt, conditional_spelt}
+use Rattle.c_source_laws.proofs.Spelt.{Spelt, events, AreNested, nothing, uncounted, outside, join, in_level, type_spelt, expression_spelt, assignment_spelt, conditional_spelt}
 
 pub word_spelt : {level : ℕ} (k : Class) (given : Bool) → Spelt level (word_tokens k given) (word_events given) (word_entries k given)
 word_spelt k false = nothing
@@ -26,7 +26,11 @@ more_spelt {level} {X} f k n each (x ∷ xs) = join (join (outside c.Comma) (eac
 
 -- the same entries in another order of brackets
 again : {level : ℕ} {f : List Class → List Class} {k : List Event → List Event} (xs ys : List Entry) → xs ≡ ys → Spelt level f k xs → Spelt level f k ys
-again {level} {f} {k} xs ys e a = record { tokens = λ r. a.tokens r ∙ ap (λ z. classes_in z ++ r) e; counts = λ rest q. ap (λ z. events level (z ++ rest) q) (sym e) ∙ a.counts rest q }
+again {level} {f} {k} xs ys e a = record {
+  tokens = λ r. a.tokens r ∙ ap (λ z. classes_in z ++ r) e;
+  counts = λ rest q. ap (λ z. events level (z ++ rest) q) (sym e) ∙ a.counts rest q;
+  nests = λ rest h. subst (λ z. AreNested level (z ++ rest)) e (a.nests rest h);
+}
 
 regroup : (f m w e : List Entry) → f ++ (m ++ w ++ e) ≡ f ++ m ++ w ++ e
 regroup f m w e = sym (append_assoc f (m ++ w) e) ∙ ap (λ z. z ++ e) (sym (append_assoc f m w))

@@ -2,10 +2,13 @@
 -- the entries tell the same.
 use Rattle.std.proofs.Common.{◌≡◌, ◌<◌, ◌≤◌, ◌⊎◌, inl, inr, ◌+◌, ◌-◌, ℕ, Bool, true, false, cond, nat_lt, max, List, [], ◌∷◌, ◌++◌, length, reverse, Option, Some, None, refl, sym, ap, subst, ◌∙◌, append-nil, append_assoc, arith}
 use Rattle.std.proofs.lemmas.Bool.{ltb-true, ltb-false}
+use Rattle.std.specs.Prelude.{count_by}
 use Rattle.std.proofs.lemmas.List.{reverse-append}
+use Rattle.std.proofs.lemmas.List.Sums.{sum_by-append}
 use Rattle.c_grammar.specs.Derives.{NotBefore}
 use Rattle.c_reading_defs.specs.Behind.{SomeBehind}
-use Rattle.c_reading_defs.specs.Entries.{Entry, Counted, Uncounted, Outside, Opens, Closes, classes_in, limit, counted, most_counted, levels, IsOver}
+use Rattle.c_reading_defs.specs.Entries.{Entry, Counted, Uncounted, Outside, Opens, Closes, classes_in, limit, counted, most_counted, opens_level, ends_level, levels, IsOver}
+use Rattle.c_source_laws.proofs.Spelt.{AreNested}
 
 -- The number of the first token that opens a level or counts past the limit. In front of these entries stand so many tokens,
 -- so many count in the full expression that is open there, and so many levels are open.
@@ -68,10 +71,46 @@ number_both (x ∷ xs) ys =
     let g = number_one x xs in
     omega (arith, f, g, h)
 
--- ---- those that are past a limit, by the entries in front with the last first
+-- ---- the levels, by the entries in front with the last first
+
+abbrev levels_back : List Entry → ℕ
+levels_back [] = 0
+levels_back (Opens ∷ q) = levels_back q + 1
+levels_back (Closes ∷ q) = levels_back q - 1
+levels_back (_ ∷ q) = levels_back q
+
+nested_more : (x : Entry) (q xs : List Entry) → AreNested (levels_back q) (x ∷ xs) → AreNested (levels_back (x ∷ q)) xs
+nested_more (Counted k) q xs n = n
+nested_more (Uncounted k) q xs n = n
+nested_more (Outside k) q xs n = n
+nested_more Opens q xs n = n
+nested_more Closes q xs n = n.1
+
+-- so many were opened as have ended and are open
+abbrev AreOpen : List Entry → ℕ → Type 0
+AreOpen front n = count_by opens_level front ≡ count_by ends_level front + n
+
+open_more : (x : Entry) (front q xs : List Entry) → AreNested (levels_back q) (x ∷ xs) → AreOpen front (levels_back q) → AreOpen (front ++ x ∷ []) (levels_back (x ∷ q))
+open_more x front q xs n h =
+    let o = counted_last opens_level front x in
+    let c = counted_last ends_level front x in
+    by x n (omega (arith, o, h)) c
+  where
+    counted_last : (p : Entry → Bool) (front : List Entry) (x : Entry) → count_by p (front ++ x ∷ []) ≡ count_by p front + cond (p x) 1 0
+    counted_last p front x = let e = sum_by-append (λ (x : Entry). cond {A = ℕ} (p x) 1 0) front (x ∷ []) in omega (arith, e)
+
+    by : (x : Entry) → AreNested (levels_back q) (x ∷ xs) → count_by opens_level (front ++ x ∷ []) ≡ count_by ends_level front + levels_back q + cond (opens_level x) 1 0
+        → count_by ends_level (front ++ x ∷ []) ≡ count_by ends_level front + cond (ends_level x) 1 0 → AreOpen (front ++ x ∷ []) (levels_back (x ∷ q))
+    by (Counted k) n o c = omega (arith, o, c)
+    by (Uncounted k) n o c = omega (arith, o, c)
+    by (Outside k) n o c = omega (arith, o, c)
+    by Opens n o c = omega (arith, o, c)
+    by Closes n o c = let l = n.0 in omega (arith, o, c, l)
+
+-- ---- those that are past a limit
 
 abbrev Past : List Entry → Type 0
-Past q = (limit < counted q) ⊎ (limit < levels q)
+Past q = (limit < counted q) ⊎ (limit < levels_back q)
 
 abbrev OverBehind : List Entry → List Entry → ℕ → Type 0
 OverBehind q [] k = ⊥
@@ -85,17 +124,33 @@ later q (x ∷ xs) k (inr h) = let l = later (x ∷ q) xs k h in let n = number_
 record IsBack (front q : List Entry) : Type 0 where
   same : reverse front ≡ q
   numbers : number front ≡ number q
+  open_there : AreOpen front (levels_back q)
 
-back_more : (front q : List Entry) (x : Entry) → IsBack front q → IsBack (front ++ x ∷ []) (x ∷ q)
-back_more front q x b =
+back_more : (front q : List Entry) (x : Entry) (xs : List Entry) → AreNested (levels_back q) (x ∷ xs) → IsBack front q → IsBack (front ++ x ∷ []) (x ∷ q)
+back_more front q x xs i b =
     let n = b.numbers in
     let f = number_both front (x ∷ []) in
     let g = number_one x [] in
     let h = number_one x q in
-    record { same = reverse-append front (x ∷ []) ∙ ap (λ l. x ∷ l) (b.same); numbers = omega (arith, n, f, g, h) }
+    record {
+      same = reverse-append front (x ∷ []) ∙ ap (λ l. x ∷ l) (b.same);
+      numbers = omega (arith, n, f, g, h);
+      open_there = open_more x front q xs i (b.open_there);
+    }
+
+abbrev PastAt : List Entry → Entry → Type 0
+PastAt front x = (limit < counted (x ∷ reverse front)) ⊎ (limit < levels (front ++ x ∷ []))
+
+past_back : (front q : List Entry) (x : Entry) → IsBack front q → IsBack (front ++ x ∷ []) (x ∷ q) → PastAt front x → Past (x ∷ q)
+past_back front q x b m (inl h) = inl (subst (λ l. limit < counted (x ∷ l)) (b.same) h)
+past_back front q x b m (inr h) = inr (let e = m.open_there in omega (arith, h, e))
+
+past_at : (front q : List Entry) (x : Entry) → IsBack front q → IsBack (front ++ x ∷ []) (x ∷ q) → Past (x ∷ q) → PastAt front x
+past_at front q x b m (inl h) = inl (subst (λ l. limit < counted (x ∷ l)) (sym (b.same)) h)
+past_at front q x b m (inr h) = inr (let e = m.open_there in omega (arith, h, e))
 
 abbrev Is : ℕ → List Entry → Entry → Type 0
-Is k front x = (number front ≡ k) × Past (x ∷ reverse front)
+Is k front x = (number front ≡ k) × PastAt front x
 
 abbrev FrontsOf : (k : ℕ) → List Entry → (List Entry → List Entry) → Type 0
 FrontsOf k xs f = SomeBehind (λ before. Is k (f before)) xs
@@ -109,25 +164,25 @@ back : (k : ℕ) (front : List Entry) (x : Entry) (xs : List Entry)
     → FrontsOf k xs (λ before. (front ++ x ∷ []) ++ before) → FrontsOf k xs (λ before. front ++ x ∷ before)
 back k front x xs h = subst (FrontsOf k xs) (λ i. λ before. append_assoc front (x ∷ []) before i) h
 
-to_behind : (k : ℕ) (front q xs : List Entry) → IsBack front q → SomeBehind (λ before. Is k (front ++ before)) xs → OverBehind q xs k
-to_behind k front q [] b h = h
-to_behind k front q (x ∷ xs) b (inl h) =
+to_behind : (k : ℕ) (front q xs : List Entry) → AreNested (levels_back q) xs → IsBack front q → SomeBehind (λ before. Is k (front ++ before)) xs → OverBehind q xs k
+to_behind k front q [] i b h = h
+to_behind k front q (x ∷ xs) i b (inl h) =
     let e = append-nil front in
     let n = subst (λ l. number l ≡ k) e h.0 in
     let m = b.numbers in
-    inl (omega (arith, n, m), subst (λ l. Past (x ∷ l)) (ap reverse e ∙ b.same) h.1)
-to_behind k front q (x ∷ xs) b (inr h) =
-    inr (to_behind k (front ++ x ∷ []) (x ∷ q) xs (back_more front q x b) (further k front x xs h))
+    inl (omega (arith, n, m), past_back front q x b (back_more front q x xs i b) (subst (λ l. PastAt l x) e h.1))
+to_behind k front q (x ∷ xs) i b (inr h) =
+    inr (to_behind k (front ++ x ∷ []) (x ∷ q) xs (nested_more x q xs i) (back_more front q x xs i b) (further k front x xs h))
 
-from_behind : (k : ℕ) (front q xs : List Entry) → IsBack front q → OverBehind q xs k → SomeBehind (λ before. Is k (front ++ before)) xs
-from_behind k front q [] b h = h
-from_behind k front q (x ∷ xs) b (inl h) =
+from_behind : (k : ℕ) (front q xs : List Entry) → AreNested (levels_back q) xs → IsBack front q → OverBehind q xs k → SomeBehind (λ before. Is k (front ++ before)) xs
+from_behind k front q [] i b h = h
+from_behind k front q (x ∷ xs) i b (inl h) =
     let e = sym (append-nil front) in
     let n = h.0 in
     let m = b.numbers in
-    inl (subst (λ l. number l ≡ k) e (omega (arith, n, m)), subst (λ l. Past (x ∷ l)) (sym (b.same) ∙ ap reverse e) h.1)
-from_behind k front q (x ∷ xs) b (inr h) =
-    inr (back k front x xs (from_behind k (front ++ x ∷ []) (x ∷ q) xs (back_more front q x b) h))
+    inl (subst (λ l. number l ≡ k) e (omega (arith, n, m)), subst (λ l. PastAt l x) e (past_at front q x b (back_more front q x xs i b) h.1))
+from_behind k front q (x ∷ xs) i b (inr h) =
+    inr (back k front x xs (from_behind k (front ++ x ∷ []) (x ∷ q) xs (nested_more x q xs i) (back_more front q x xs i b) h))
 
 -- ---- the first of them
 
@@ -140,7 +195,7 @@ first_as : (o : Option ℕ) (P Q : ℕ → Type 0) → ((k : ℕ) → P k → Q 
 first_as None P Q f g h = λ k q. h k (g k q)
 first_as (Some n) P Q f g h = (f n (h.0), λ k l q. h.1 k l (g k q))
 
-passed : (o : Option ℕ) (x : Entry) (q xs : List Entry) → counted (x ∷ q) ≤ limit → levels (x ∷ q) ≤ limit
+passed : (o : Option ℕ) (x : Entry) (q xs : List Entry) → counted (x ∷ q) ≤ limit → levels_back (x ∷ q) ≤ limit
     → IsFirst o (OverBehind (x ∷ q) xs) → IsFirst o (OverBehind q (x ∷ xs))
 passed o x q xs c l = first_as o _ _ (λ k h. inr h) (λ k h. go k h)
   where
@@ -160,8 +215,8 @@ by_limit n at o P f g = go (nat_lt limit n) refl
     go true e = f (ltb-true limit n e)
     go false e = g (ltb-false limit n e)
 
-first_behind : (xs q : List Entry) (at : ℕ) → at ≡ number q → counted q ≤ limit → levels q ≤ limit
-    → IsFirst (walked_over at (counted q) (levels q) xs) (OverBehind q xs)
+first_behind : (xs q : List Entry) (at : ℕ) → at ≡ number q → counted q ≤ limit → levels_back q ≤ limit
+    → IsFirst (walked_over at (counted q) (levels_back q) xs) (OverBehind q xs)
 first_behind [] q at e c l = λ k h. h
 first_behind (Counted k ∷ xs) q at e c l =
     by_limit (counted q + 1) at _ (OverBehind q (Counted k ∷ xs)) (λ h. reached (Counted k) q xs at e (inl h))
@@ -170,16 +225,16 @@ first_behind (Uncounted k ∷ xs) q at e c l = passed _ (Uncounted k) q xs c l (
 first_behind (Outside k ∷ xs) q at e c l =
     passed _ (Outside k) q xs (omega arith) l (first_behind xs (Outside k ∷ q) (at + 1) (omega (arith, e)) (omega arith) l)
 first_behind (Opens ∷ xs) q at e c l =
-    by_limit (levels q + 1) at _ (OverBehind q (Opens ∷ xs)) (λ h. reached Opens q xs at e (inr h))
+    by_limit (levels_back q + 1) at _ (OverBehind q (Opens ∷ xs)) (λ h. reached Opens q xs at e (inr h))
     (λ h. passed _ Opens q xs c h (first_behind xs (Opens ∷ q) at e c h))
-first_behind (Closes ∷ xs) q at e c l = let m : levels q - 1 ≤ limit = omega (arith, l) in passed _ Closes q xs c m (first_behind xs (Closes ∷ q) at e c m)
+first_behind (Closes ∷ xs) q at e c l = let m : levels_back q - 1 ≤ limit = omega (arith, l) in passed _ Closes q xs c m (first_behind xs (Closes ∷ q) at e c m)
 
 -- what the walk finds is the first token over a limit
-pub walked_first : (xs : List Entry) → IsFirst (walked_over 0 0 0 xs) (IsOver xs)
-walked_first xs =
-    let b : IsBack [] [] = record { same = refl; numbers = refl } in
+pub walked_first : (xs : List Entry) → AreNested 0 xs → IsFirst (walked_over 0 0 0 xs) (IsOver xs)
+walked_first xs i =
+    let b : IsBack [] [] = record { same = refl; numbers = refl; open_there = refl } in
     let h = first_behind xs [] 0 refl (omega arith) (omega arith) in
-    first_as (walked_over 0 0 0 xs) (OverBehind [] xs) (IsOver xs) (λ k. from_behind k [] [] xs b) (λ k. to_behind k [] [] xs b) h
+    first_as (walked_over 0 0 0 xs) (OverBehind [] xs) (IsOver xs) (λ k. from_behind k [] [] xs i b) (λ k. to_behind k [] [] xs i b) h
 
 -- ---- what a first one says
 
