@@ -14,13 +14,12 @@ use Rattle.c_scopes.specs.Enums.{number_first}
 use Rattle.c_scopes.specs.Files.{File}
 use Rattle.c_scopes.specs.FunctionNames.{has_body, is_main_form, same_signature, signature_in}
 use Rattle.c_reading_defs.specs.Typings.{Typing}
-use Rattle.c_reading_defs.specs.Written.{enumerator_number}
 use Rattle.c_reading_defs.specs.Bindings.{IsDeclared, IsDeclaredAs}
 use Rattle.c_reading_defs.specs.Arrays.{ArrayBreaks}
 use Rattle.c_reading_defs.specs.Declared.{SizeBreaks, InitialiserBreaks}
 use Rattle.c_reading_defs.specs.Expressions.{NeedsConstant, ExpressionBreaks}
 use Rattle.c_reading_defs.specs.Scopes.{Identifier, scopes_at, names_at, names_for}
-use Rattle.c_reading_defs.specs.FileScopes.{first_before, value_in}
+use Rattle.c_reading_defs.specs.FileScopes.{enumerator_number}
 use Rattle.c_reading_defs.specs.Behind.{SomeOf, SomeBehind}
 use Rattle.c_reading_defs.specs.Functions.{FunctionBreaks}
 use Rattle.c_reading_defs.specs.Violations.{broken}
@@ -33,25 +32,20 @@ pub data FileNameBreaks (word : ℕ → List ℕ) (scopes : List (List Identifie
 
 -- ---- enums
 
--- a constant that follows one of the value `before`, None where that one has no value
-pub data EnumeratorBreaks (typing : Typing) (env : Env) (before : Option ℤ) (e : Enumerator) : Fault → Type 0 where
-  no_int : (n : ℤ) → enumerator_number typing env e.value before ≡ Some n → is_in_range Int n ≡ false → EnumeratorBreaks typing env before e (broken (number_first e.name e.value) 34)
+-- a constant of this number
+pub data EnumeratorBreaks (number : Option ℤ) (e : Enumerator) : Fault → Type 0 where
+  no_int : (n : ℤ) → number ≡ Some n → is_in_range Int n ≡ false → EnumeratorBreaks number e (broken (number_first e.name e.value) 34)
 
 -- the value that is written for a constant, if one is
 abbrev pub GivenBreaks : Env → Option Term → Fault → Type 0
 GivenBreaks env (Some t) v = ExpressionBreaks env NeedsConstant t v
 GivenBreaks env None v = ⊥
 
--- at one constant: its value and its name
-abbrev pub ConstantBreaks : Typing → (ℕ → List ℕ) → List (List Identifier) → Option ℤ → Enumerator → Fault → Type 0
-ConstantBreaks typing word scopes before e v =
-    let env = names_at word scopes e.name in
-    GivenBreaks env e.value v ⊎ (EnumeratorBreaks typing env before e v ⊎ FileNameBreaks word scopes e.name v)
-
--- at one of these, of which the first follows one of the value `before`
-abbrev pub ConstantsBreak : Typing → (ℕ → List ℕ) → List (List Identifier) → Option ℤ → List Enumerator → Fault → Type 0
-ConstantsBreak typing word scopes before [] v = ⊥
-ConstantsBreak typing word scopes before (e ∷ es) v = ConstantBreaks typing word scopes before e v ⊎ ConstantsBreak typing word scopes (value_in typing word scopes before e) es v
+-- at one constant with these in front of it: its value and its name
+abbrev pub ConstantBreaks : Typing → (ℕ → List ℕ) → List (List Identifier) → List Enumerator → Enumerator → Fault → Type 0
+ConstantBreaks typing word scopes front e v =
+    GivenBreaks (names_at word scopes e.name) e.value v
+    ⊎ (EnumeratorBreaks (enumerator_number typing word scopes front e) e v ⊎ FileNameBreaks word scopes e.name v)
 
 -- ---- variables
 
@@ -88,7 +82,7 @@ pub data FunctionNameBreaks (file : File) (before : List Top) (ss : List Scope) 
 
 -- in a declaration or a function, behind these of the file
 abbrev pub FormBreaks : Typing → File → List (List Identifier) → List Top → Form → Fault → Type 0
-FormBreaks typing file scopes before (Enum es) v = ConstantsBreak typing file.word scopes first_before es v
+FormBreaks typing file scopes before (Enum es) v = SomeBehind (λ front e. ConstantBreaks typing file.word scopes front e v) es
 FormBreaks typing file scopes before (Globals static d) v = SomeOf (λ x. VariableBreaks typing file.word scopes x v) d.names
 FormBreaks typing file scopes before (Defines f) v = FunctionNameBreaks file before (scopes_at scopes f.name) f v ⊎ FunctionBreaks typing file.flat file.word file.notes f scopes v
 FormBreaks typing file scopes before _ v = ⊥

@@ -1,9 +1,10 @@
 -- The program that a file writes (ISO/IEC 9899:2011, 6.9).
-use Rattle.std.specs.Prelude.{ℕ, ℤ, Bool, cond, is_some, List, [], ◌∷◌, ◌++◌, map, flat_map, Option, option_map}
+use Rattle.std.specs.Prelude.{ℕ, Bool, cond, is_some, List, [], ◌∷◌, ◌++◌, map, flat_map, option_map}
 use Rattle.c_tree.specs.declared.tree.EnumItem.{EnumItem}
 use Rattle.c_tree.specs.declared.tree.Program.{Program}
 use Rattle.c_tree.specs.declared.tree.Top as tree_top
 use Rattle.c_tree.specs.declared.tree.Top.TheVariants as top
+use Rattle.c_lexer.specs.Behind.{each_behind}
 use Rattle.c_lexer.specs.declared.token.Token.{Token}
 use Rattle.c_lexer.specs.declared.token.Span.{Span}
 use Rattle.c_layers.specs.Words.{word_of}
@@ -19,16 +20,17 @@ use Rattle.c_reading_defs.specs.Comments.{notes_of}
 use Rattle.c_reading_defs.specs.Typings.{Typing}
 use Rattle.c_reading_defs.specs.Written.{constant_at, slot_of}
 use Rattle.c_reading_defs.specs.Scopes.{Identifier, names_at, names_for}
-use Rattle.c_reading_defs.specs.FileScopes.{first_before, value_in}
+use Rattle.c_reading_defs.specs.FileScopes.{enumerator_value}
 use Rattle.c_reading_defs.specs.Bodies.{function_of}
 
 -- ---- what stands at file scope
 
-abbrev pub enum_items : Typing → (ℕ → List ℕ) → List (List Identifier) → Option ℤ → List Enumerator → List EnumItem
-enum_items typing word scopes before [] = []
-enum_items typing word scopes before (e ∷ es) =
-    let value = value_in typing word scopes before e in
-    record { name = word e.name; given = option_map (constant_at typing (λ t. names_at word scopes e.name)) e.value; value = or_zero value } ∷ enum_items typing word scopes value es
+abbrev pub enum_item : Typing → (ℕ → List ℕ) → List (List Identifier) → List Enumerator → Enumerator → EnumItem
+enum_item typing word scopes front e = record {
+  name = word e.name;
+  given = option_map (constant_at typing (λ t. names_at word scopes e.name)) e.value;
+  value = or_zero (enumerator_value typing word scopes front e);
+}
 
 abbrev pub global : Typing → (ℕ → List ℕ) → List (List Identifier) → Bool → Kinded → Declarator → tree_top.Top
 global typing word scopes static k d =
@@ -36,7 +38,7 @@ global typing word scopes static k d =
 
 abbrev pub form_tops : Typing → File → List (List Identifier) → ℕ → Form → List tree_top.Top
 form_tops typing file scopes first Line = top.Include (file.word first) ∷ []
-form_tops typing file scopes first (Enum es) = top.Enum (enum_items typing file.word scopes first_before es) ∷ []
+form_tops typing file scopes first (Enum es) = top.Enum (each_behind (enum_item typing file.word scopes) es) ∷ []
 form_tops typing file scopes first (Globals static d) = map (global typing file.word scopes static (kinded file.word d)) d.names
 form_tops typing file scopes first (Defines f) = top.Function (function_of typing file.word file.notes f scopes) ∷ []
 form_tops typing file scopes first Unread = []

@@ -1,5 +1,5 @@
 -- What is written with expressions, by what those are.
-use Rattle.std.specs.Prelude.{ℤ, List, [], ◌∷◌, ◌++◌, Option, Some, None, option_map, option_and_then}
+use Rattle.std.specs.Prelude.{ℤ, List, [], ◌∷◌, ◌++◌, Option, Some, None, option_map}
 use Rattle.c_tree.specs.declared.tree.Expression.{Expression}
 use Rattle.c_tree.specs.declared.tree.Item as item
 use Rattle.c_tree.specs.declared.tree.Slot.{Slot}
@@ -15,7 +15,6 @@ use Rattle.c_statements.specs.declared.extents.Length.TheVariants.{NoLength, OfL
 use Rattle.c_statements.specs.declared.anchors.Anchor.TheVariants.{Before}
 use Rattle.c_statements.specs.Declarations.{or_placeholder, constant_or_placeholder, extent_of, slot, shape_of, cells_of}
 use Rattle.c_statements.specs.Statements.{or_dropped}
-use Rattle.c_scopes.specs.Enums.{an_int, next_value}
 use Rattle.c_reading_defs.specs.Typings.{Typing}
 use Rattle.c_reading_defs.specs.Labels.{InFunction, notes_at, mark}
 
@@ -79,11 +78,7 @@ section_cases typing env (l ∷ ls) = label_cases typing env l ++ section_cases 
 
 -- ---- enum constants
 
--- the number that is written, or one more than the value of the constant before
-abbrev pub enumerator_number : Typing → Env → Option Term → Option ℤ → Option ℤ
-enumerator_number typing env (Some t) before = worth typing env t
-enumerator_number typing env None before = next_value before
-
--- none where the number is no int
-abbrev pub enumerator_value : Typing → Env → Option Term → Option ℤ → Option ℤ
-enumerator_value typing env t before = option_and_then an_int (enumerator_number typing env t before)
+-- the number that is written for a constant, or else this one
+abbrev pub written_or : Typing → Env → Option Term → Option ℤ → Option ℤ
+written_or typing env (Some t) other = worth typing env t
+written_or typing env None other = other

@@ -1,5 +1,5 @@
 -- What a walk finds at file scope, but in functions.
-use Rattle.std.proofs.Common.{◌≡◌, ◌⊎◌, inl, inr, ℕ, Bool, true, false, not, List, [], ◌∷◌, ◌++◌, map, codes, Option, Some, None, refl, sym, ap, subst, bytes_eq, true≢false}
+use Rattle.std.proofs.Common.{◌≡◌, ◌⊎◌, inl, inr, ℕ, Bool, true, false, not, List, [], ◌∷◌, ◌++◌, map, codes, Option, Some, None, refl, sym, ap, subst, ◌∙◌, bytes_eq, true≢false}
 use Rattle.std.specs.Prelude.{ℤ}
 use Rattle.c_types.specs.declared.kinds.IntKind.TheVariants.{Int}
 use Rattle.c_types.specs.Numbers.{is_in_range}
@@ -17,18 +17,19 @@ use Rattle.c_statements.specs.Declarations.{is_bad_array, size_faults, initial_f
 use Rattle.c_scopes.specs.Enums.{number_of, value_of, or_zero, enumerated, int_fault, number_first, given_faults, value_faults, enum_faults}
 use Rattle.c_scopes.specs.FileNames.{file_name_faults}
 use Rattle.c_scopes.specs.Globals.{global_declared, global_faults, globals_faults}
-use Rattle.c_reading_defs.specs.Written as written
 use Rattle.c_reading_defs.specs.Bindings.{IsDeclared}
 use Rattle.c_reading_defs.specs.Expressions.{NeedsConstant}
 use Rattle.c_reading_defs.specs.Scopes.{Identifier, scopes_at, names_for}
-use Rattle.c_reading_defs.specs.FileScopes.{value_in, constants, global_variable}
+use Rattle.c_reading_defs.specs.FileScopes.{enumerator_number, global_variable}
 use Rattle.c_reading_defs.specs.Behind.{SomeOf}
-use Rattle.c_reading_defs.specs.Files.{FileNameBreaks, EnumeratorBreaks, GivenBreaks, ConstantsBreak, GlobalBreaks, VariableBreaks}
+use Rattle.c_reading_defs.specs.Files.{FileNameBreaks, EnumeratorBreaks, GivenBreaks, ConstantBreaks, GlobalBreaks, VariableBreaks}
 use Rattle.c_reading_defs.specs.Violations.{broken}
 use Rattle.c_violation_laws.specs.Finds.{Finds}
 use Rattle.c_violation_laws.proofs.Finding.{Rule, finds_none, finds_both, finds_same, finds_nothing, finds_if}
 use Rattle.c_violation_laws.proofs.Standing.{AreMaps}
 use Rattle.c_violation_laws.proofs.Marks.{each_marks, enumerator_marks, declarator_marks}
+use Rattle.c_violation_laws.proofs.Behind.{Behind}
+use Rattle.c_violation_laws.proofs.Enumerated.{constants, last_value, number_is, value_more}
 use Rattle.c_violation_laws.proofs.FileStanding.{in_scopes, FileIn, Follow, number_alike, value_alike, constant_here, constant_past, global_here, global_values, global_past}
 use Rattle.c_violation_laws.proofs.Declared.{constant_at, sizes, initialiser, bad_breaks, breaks_are_bad, twice}
 
@@ -66,57 +67,65 @@ module _ (word : ℕ → List ℕ) where
     given None = finds_none
     given (Some t) = constant_at word ms ss m t
 
-    module _ (e : Enumerator) (before : Option ℤ) where
-      abbrev at : ℕ
-      at = number_first e.name e.value
+  module _ (ss : List (List Identifier)) (front : List Enumerator) (e : Enumerator) where
+    abbrev at : ℕ
+    at = number_first e.name e.value
 
-      abbrev number : Option ℤ
-      number = written.enumerator_number typed (in_scopes word ss) e.value before
+    abbrev number : Option ℤ
+    number = enumerator_number typed word ss front e
 
-      abbrev Breaks : Rule
-      Breaks v = EnumeratorBreaks typed (in_scopes word ss) before e v
+    abbrev Breaks : Rule
+    Breaks v = EnumeratorBreaks number e v
 
-      some_same : (a b : ℤ) → number ≡ Some a → number ≡ Some b → a ≡ b
-      some_same a b i j = cc
+    some_same : (a b : ℤ) → number ≡ Some a → number ≡ Some b → a ≡ b
+    some_same a b i j = cc
 
-      some_none : (a : ℤ) → number ≡ Some a → number ≡ None → ⊥
-      some_none a i j = cc
+    some_none : (a : ℤ) → number ≡ Some a → number ≡ None → ⊥
+    some_none a i j = cc
 
-      untrue : (b : Bool) → not b ≡ true → b ≡ false
-      untrue true i = absurd (true≢false (sym i))
-      untrue false i = refl
+    untrue : (b : Bool) → not b ≡ true → b ≡ false
+    untrue true i = absurd (true≢false (sym i))
+    untrue false i = refl
 
-      by_number : (o : Option ℤ) → number ≡ o → Finds (int_fault at o) Breaks
-      by_number (Some n) i =
-          finds_same (fault_if (not (is_in_range Int n)) at 34) _ Breaks (finds_if (not (is_in_range Int n)) at 34)
-          (λ v q. subst Breaks (sym q.1) (EnumeratorBreaks.no_int n i (untrue (is_in_range Int n) q.0))) fro
-        where
-          fro : (v : Fault) → EnumeratorBreaks typed (in_scopes word ss) before e v → (not (is_in_range Int n) ≡ true) × (v ≡ broken at 34)
-          fro v (EnumeratorBreaks.no_int k j r) = (ap not (subst (λ z. is_in_range Int z ≡ false) (some_same k n j i) r), refl)
-      by_number None i = finds_nothing Breaks no
-        where
-          no : (v : Fault) → EnumeratorBreaks typed (in_scopes word ss) before e v → ⊥
-          no v (EnumeratorBreaks.no_int k j r) = some_none k j i
+    by_number : (o : Option ℤ) → number ≡ o → Finds (int_fault at o) Breaks
+    by_number (Some n) i =
+        finds_same (fault_if (not (is_in_range Int n)) at 34) _ Breaks (finds_if (not (is_in_range Int n)) at 34)
+        (λ v q. subst Breaks (sym q.1) (EnumeratorBreaks.no_int n i (untrue (is_in_range Int n) q.0))) fro
+      where
+        fro : (v : Fault) → EnumeratorBreaks number e v → (not (is_in_range Int n) ≡ true) × (v ≡ broken at 34)
+        fro v (EnumeratorBreaks.no_int k j r) = (ap not (subst (λ z. is_in_range Int z ≡ false) (some_same k n j i) r), refl)
+    by_number None i = finds_nothing Breaks no
+      where
+        no : (v : Fault) → EnumeratorBreaks number e v → ⊥
+        no v (EnumeratorBreaks.no_int k j r) = some_none k j i
 
-      int : Finds (int_fault at (number_of (in_scopes word ms) e.value before)) Breaks
-      int = by_number (number_of (in_scopes word ms) e.value before) (sym (number_alike word ms ss m e.value before))
+    int : (ms : List Scope) → AreMaps ms (scopes_at ss e.name) → Finds (int_fault at (number_of (in_scopes word ms) e.value (last_value word ss front))) Breaks
+    int ms m =
+        let before = last_value word ss front in
+        by_number (number_of (in_scopes word ms) e.value before) (number_is word ss front e ∙ sym (number_alike word ms ss e m before))
 
   module _ (ss : List (List Identifier)) where
-    pub enumerators : (es : List Enumerator) (before : Option ℤ) (ms : List Scope) (zs : List Identifier) (ns : List ℕ) → FileIn ms ss (constants typed word ss before es ++ zs) (each_marks enumerator_marks es ++ ns) → Follow ns zs
-        → Finds (enum_faults es before (in_scopes word ms)) (λ v. ConstantsBreak typed word ss before es v)
-    enumerators [] before ms zs ns h follow = finds_none
-    enumerators (e ∷ es) before ms zs ns h follow =
+    pub enumerators : (es front : List Enumerator) (ms : List Scope) (zs : List Identifier) (ns : List ℕ)
+        → FileIn ms ss (constants word ss (last_value word ss front) es ++ zs) (each_marks enumerator_marks es ++ ns) → Follow ns zs
+        → Finds (enum_faults es (last_value word ss front) (in_scopes word ms)) (λ v. Behind (λ front e. ConstantBreaks typed word ss front e v) front es)
+    enumerators [] front ms zs ns h follow = finds_none
+    enumerators (e ∷ es) front ms zs ns h follow =
         let env = in_scopes word ms in
-        let known = scopes_at ss e.name in
+        let before = last_value word ss front in
         let m = constant_here word ss e es before ms zs ns h follow in
         let ours = value_of env e.value before in
-        let theirs = value_in typed word ss before e in
-        let same = value_alike word ms known m e.value before in
+        let more = front ++ e ∷ [] in
+        let theirs = last_value word ss more in
+        let value = value_more word ss front e in
+        let same : theirs ≡ ours = value ∙ sym (value_alike word ms ss e m before) in
+        let inner = bind (word e.name) (Constant (or_zero theirs)) ms in
+        let rest = subst (λ z. FileIn inner ss (constants word ss z es ++ zs) (each_marks enumerator_marks es ++ ns)) (sym value)
+        (constant_past word ss e es before ms zs ns theirs value h) in
         finds_both (λ vs. file_name_faults e.name env (value_faults env e.name e.value before vs)) (enum_faults es ours (enumerated e ours env)) _ _
-        (finds_both (given_faults env e.value) (λ vs. file_name_faults e.name env (int_fault (number_first e.name e.value) (number_of env e.value before) vs)) _ _ (given ms known m e.value)
-        (finds_both (int_fault (number_first e.name e.value) (number_of env e.value before)) (file_name_faults e.name env) _ _ (int ms known m e before) (name ms ss e.name m)))
-        (subst (λ z. Finds (enum_faults es z (enumerated e z env)) (λ v. ConstantsBreak typed word ss theirs es v)) (sym same)
-        (enumerators es theirs (bind (word e.name) (Constant (or_zero theirs)) ms) zs ns (constant_past word ss e es before ms zs ns theirs refl h) follow))
+        (finds_both (given_faults env e.value) (λ vs. file_name_faults e.name env (int_fault (number_first e.name e.value) (number_of env e.value before) vs)) _ _ (given ms (scopes_at ss e.name) m e.value)
+        (finds_both (int_fault (number_first e.name e.value) (number_of env e.value before)) (file_name_faults e.name env) _ _ (int ss front e ms m) (name ms ss e.name m)))
+        (subst (λ z. Finds (enum_faults es z (enumerated e z env)) (λ v. Behind (λ front e. ConstantBreaks typed word ss front e v) more es)) same
+        (enumerators es more inner zs ns rest follow))
 
   -- ---- variables
 

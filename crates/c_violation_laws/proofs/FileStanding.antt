@@ -12,19 +12,20 @@ use Rattle.c_kinds.specs.Constants.{constant_of}
 use Rattle.c_statements.specs.declared.extents.Kinded.{Kinded}
 use Rattle.c_statements.specs.Context.{Walk, no_construct}
 use Rattle.c_statements.specs.Declarations.{kinded, shape_of}
-use Rattle.c_scopes.specs.Enums.{an_int, number_of, value_of, or_zero, enumerated, behind_enum}
+use Rattle.c_scopes.specs.Enums.{an_int, next_value, number_of, value_of, or_zero, enumerated, behind_enum}
 use Rattle.c_scopes.specs.FunctionNames.{signature_in}
 use Rattle.c_scopes.specs.Globals.{behind_globals}
 use Rattle.c_scopes.specs.Files.{File, State, function_declared}
 use Rattle.c_scopes.specs.Files as walked
 use Rattle.c_kinds.specs.Typing.{typed}
-use Rattle.c_reading_defs.specs.Written as written
+use Rattle.c_reading_defs.specs.Written.{written_or}
 use Rattle.c_reading_defs.specs.Scopes.{Identifier, scopes_at}
 use Rattle.c_reading_defs.specs.Places.{Place}
-use Rattle.c_reading_defs.specs.FileScopes.{first_before, value_in, constants, global_variable, function_identifier, form_identifiers, file_identifiers}
+use Rattle.c_reading_defs.specs.FileScopes.{global_variable, function_identifier, form_identifiers, file_identifiers}
 use Rattle.c_violation_laws.proofs.AlikeTerms.{typed_alike}
 use Rattle.c_violation_laws.proofs.Rising.{Rising, rising_ends, parted}
 use Rattle.c_violation_laws.proofs.Marks.{each_marks, value_marks, declarator_marks, enumerator_marks, inner_marks, form_marks, top_marks}
+use Rattle.c_violation_laws.proofs.Enumerated.{first_before, number_in, value_in, constants, constants_are}
 use Rattle.c_violation_laws.proofs.Known.{FromOn, from_earlier, from_both, scope_sees, scope_declared, scope_narrow}
 use Rattle.c_violation_laws.proofs.Standing.{AreMaps, Stands, StandsIn, stands_begin, stands_stated}
 
@@ -99,21 +100,24 @@ file_last ms ss xs marks h = subst (λ l. FileIn ms ss l (marks ++ [])) (sym (ap
 -- ---- values of constants
 
 module _ (word : ℕ → List ℕ) where
-  pub number_alike : (ms ss : List Scope) → AreMaps ms ss → (t : Option Term) (before : Option ℤ) → number_of (in_scopes word ms) t before ≡ written.enumerator_number typed (in_scopes word ss) t before
-  number_alike ms ss h (Some t) before = λ i. option_map (λ c. c.1) (constant_of (typed_alike word ms ss h t i))
-  number_alike ms ss h None before = refl
+  number_same : (ms ss : List Scope) → AreMaps ms ss → (t : Option Term) (before : Option ℤ) → number_of (in_scopes word ms) t before ≡ written_or typed (in_scopes word ss) t (next_value before)
+  number_same ms ss h (Some t) before = λ i. option_map (λ c. c.1) (constant_of (typed_alike word ms ss h t i))
+  number_same ms ss h None before = refl
 
-  pub value_alike : (ms ss : List Scope) → AreMaps ms ss → (t : Option Term) (before : Option ℤ) → value_of (in_scopes word ms) t before ≡ written.enumerator_value typed (in_scopes word ss) t before
-  value_alike ms ss h t before = ap (option_and_then an_int) (number_alike ms ss h t before)
+  pub number_alike : (ms : List Scope) (scopes : List (List Identifier)) (e : Enumerator) → AreMaps ms (scopes_at scopes e.name) → (before : Option ℤ) → number_of (in_scopes word ms) e.value before ≡ number_in word scopes before e
+  number_alike ms scopes e h before = number_same ms (scopes_at scopes e.name) h e.value before
+
+  pub value_alike : (ms : List Scope) (scopes : List (List Identifier)) (e : Enumerator) → AreMaps ms (scopes_at scopes e.name) → (before : Option ℤ) → value_of (in_scopes word ms) e.value before ≡ value_in word scopes before e
+  value_alike ms scopes e h before = ap (option_and_then an_int) (number_alike ms scopes e h before)
 
   -- ---- in front of names
 
-  pub constants_from : (ss : List (List Identifier)) (before : Option ℤ) (lo : ℕ) (es : List Enumerator) (hi : ℕ) → Rising lo (each_marks enumerator_marks es) hi → FromOn lo (constants typed word ss before es)
+  pub constants_from : (ss : List (List Identifier)) (before : Option ℤ) (lo : ℕ) (es : List Enumerator) (hi : ℕ) → Rising lo (each_marks enumerator_marks es) hi → FromOn lo (constants word ss before es)
   constants_from ss before lo [] hi r = tt
   constants_from ss before lo (e ∷ es) hi r =
       let g = r.0 in
-      let v = value_in typed word ss before e in
-      (g, from_earlier lo (e.name + 1) (constants typed word ss v es) (omega (arith, g)) (constants_from ss v (e.name + 1) es hi r.1.1))
+      let v = value_in word ss before e in
+      (g, from_earlier lo (e.name + 1) (constants word ss v es) (omega (arith, g)) (constants_from ss v (e.name + 1) es hi r.1.1))
 
   pub globals_from : (k : Kinded) (lo : ℕ) (ds : List Declarator) (hi : ℕ) → Rising lo (each_marks declarator_marks ds) hi → FromOn lo (map (global_variable word k) ds)
   globals_from k lo [] hi r = tt
@@ -130,30 +134,30 @@ module _ (word : ℕ → List ℕ) where
 
   module _ (ss : List (List Identifier)) where
     pub constant_here : (e : Enumerator) (es : List Enumerator) (before : Option ℤ) (ms : List Scope) (zs : List Identifier) (ns : List ℕ)
-        → FileIn ms ss (constants typed word ss before (e ∷ es) ++ zs) (each_marks enumerator_marks (e ∷ es) ++ ns) → Follow ns zs → AreMaps ms (scopes_at ss e.name)
+        → FileIn ms ss (constants word ss before (e ∷ es) ++ zs) (each_marks enumerator_marks (e ∷ es) ++ ns) → Follow ns zs → AreMaps ms (scopes_at ss e.name)
     constant_here e es before ms zs ns h follow =
-        let v = value_in typed word ss before e in
-        let more = constants typed word ss v es in
+        let v = value_in word ss before e in
+        let more = constants word ss v es in
         file_here ms ss (record { at = e.name; name = word e.name; binding = Constant (or_zero v) }) (more ++ zs) (each_marks enumerator_marks es ++ ns) h
         (follow_both (each_marks enumerator_marks es) ns more zs (λ mid hi r. constants_from ss v mid es hi r) follow)
 
     -- with the value of the walk
-    pub constant_past : (e : Enumerator) (es : List Enumerator) (before : Option ℤ) (ms : List Scope) (zs : List Identifier) (ns : List ℕ) (v : Option ℤ) → v ≡ value_in typed word ss before e
-        → FileIn ms ss (constants typed word ss before (e ∷ es) ++ zs) (each_marks enumerator_marks (e ∷ es) ++ ns)
-        → FileIn (bind (word e.name) (Constant (or_zero v)) ms) ss (constants typed word ss (value_in typed word ss before e) es ++ zs) (each_marks enumerator_marks es ++ ns)
+    pub constant_past : (e : Enumerator) (es : List Enumerator) (before : Option ℤ) (ms : List Scope) (zs : List Identifier) (ns : List ℕ) (v : Option ℤ) → v ≡ value_in word ss before e
+        → FileIn ms ss (constants word ss before (e ∷ es) ++ zs) (each_marks enumerator_marks (e ∷ es) ++ ns)
+        → FileIn (bind (word e.name) (Constant (or_zero v)) ms) ss (constants word ss (value_in word ss before e) es ++ zs) (each_marks enumerator_marks es ++ ns)
     constant_past e es before ms zs ns v same h =
-        let value = value_in typed word ss before e in
-        file_past ms ss (Constant (or_zero v)) (record { at = e.name; name = word e.name; binding = Constant (or_zero value) }) (constants typed word ss value es ++ zs) (each_marks enumerator_marks es ++ ns) h
+        let value = value_in word ss before e in
+        file_past ms ss (Constant (or_zero v)) (record { at = e.name; name = word e.name; binding = Constant (or_zero value) }) (constants word ss value es ++ zs) (each_marks enumerator_marks es ++ ns) h
         (ap (λ z. Constant (or_zero z)) same)
 
-    enums_past : (es : List Enumerator) (before : Option ℤ) (ms : List Scope) (zs : List Identifier) (ns : List ℕ) → FileIn ms ss (constants typed word ss before es ++ zs) (each_marks enumerator_marks es ++ ns) → Follow ns zs
+    enums_past : (es : List Enumerator) (before : Option ℤ) (ms : List Scope) (zs : List Identifier) (ns : List ℕ) → FileIn ms ss (constants word ss before es ++ zs) (each_marks enumerator_marks es ++ ns) → Follow ns zs
         → FileIn (behind_enum es before (in_scopes word ms)).scopes ss zs ns
     enums_past [] before ms zs ns h follow = h
     enums_past (e ∷ es) before ms zs ns h follow =
         let v = value_of (in_scopes word ms) e.value before in
-        let same = value_alike ms (scopes_at ss e.name) (constant_here e es before ms zs ns h follow) e.value before in
+        let same = value_alike ms ss e (constant_here e es before ms zs ns h follow) before in
         subst (λ z. FileIn (behind_enum es z (enumerated e v (in_scopes word ms))).scopes ss zs ns) (sym same)
-        (enums_past es (value_in typed word ss before e) (bind (word e.name) (Constant (or_zero v)) ms) zs ns (constant_past e es before ms zs ns v same h) follow)
+        (enums_past es (value_in word ss before e) (bind (word e.name) (Constant (or_zero v)) ms) zs ns (constant_past e es before ms zs ns v same h) follow)
 
     -- ---- behind variables
 
@@ -202,7 +206,7 @@ module _ (file : File) (ss : List (List Identifier)) where
 
   form_from : (form : Form) → Follow (form_marks form) (form_identifiers typed file ss form)
   form_from Line mid hi r = tt
-  form_from (Enum es) mid hi r = constants_from file.word ss first_before mid es hi r
+  form_from (Enum es) mid hi r = subst (FromOn mid) (sym (constants_are file.word ss es)) (constants_from file.word ss first_before mid es hi r)
   form_from (Globals static d) mid hi r = globals_from file.word (kinded file.word d) mid d.names hi r
   form_from (Defines f) mid hi r = (r.0, tt)
   form_from Unread mid hi r = tt
@@ -214,7 +218,8 @@ module _ (file : File) (ss : List (List Identifier)) where
 
   form_past : (form : Form) (s : State) (zs : List Identifier) (ns : List ℕ) → FileIn s.scopes ss (form_identifiers typed file ss form ++ zs) (form_marks form ++ ns) → Follow ns zs → FileIn (walked.behind_form file form s).scopes ss zs ns
   form_past Line s zs ns h follow = h
-  form_past (Enum es) s zs ns h follow = enums_past file.word ss es first_before s.scopes zs ns h follow
+  form_past (Enum es) s zs ns h follow =
+      enums_past file.word ss es first_before s.scopes zs ns (subst (λ l. FileIn s.scopes ss (l ++ zs) (each_marks enumerator_marks es ++ ns)) (constants_are file.word ss es) h) follow
   form_past (Globals static d) s zs ns h follow = globals_past file.word ss (kinded file.word d) d.names s.scopes zs ns h follow
   form_past (Defines f) s zs ns h follow = file_behind (function_declared file f s).scopes ss zs _ ns (function_past f s zs _ h)
   form_past Unread s zs ns h follow = h

@@ -13,6 +13,7 @@ pub mod Marks
 pub mod Ordered
 pub mod Numbered
 pub mod Standing
+pub mod Enumerated
 pub mod FileStanding
 pub mod Sections
 pub mod Parted

@@ -28,9 +28,10 @@ use Rattle.c_scopes.specs.Files as walked
 use Rattle.c_scopes.specs.Resolving.{program_of}
 use Rattle.c_kinds.specs.Typing.{typed}
 use Rattle.c_reading_defs.specs.Scopes.{Identifier, scopes_at, names_for}
-use Rattle.c_reading_defs.specs.FileScopes.{first_before, value_in, constants, global_variable, form_identifiers, IsFileScope}
+use Rattle.c_reading_defs.specs.FileScopes.{global_variable, form_identifiers, IsFileScope}
 use Rattle.c_reading_defs.specs.Written.{constant_at}
-use Rattle.c_reading_defs.specs.Programs.{enum_items, global, form_tops, top_tops, program, defined}
+use Rattle.c_reading_defs.specs.Programs.{global, form_tops, top_tops, program, defined}
+use Rattle.c_violation_laws.proofs.Enumerated.{first_before, value_in, constants, constants_are, enum_items, enum_items_are}
 use Rattle.c_violation_laws.proofs.FileStanding.{in_scopes, file_walk, FileIn, Follow, file_last, value_alike, constant_here, constant_past, global_here, global_values, global_past, function_inside, Before, form_first, tops_rest, file_begins}
 use Rattle.c_violation_laws.proofs.Ordered.{file as ordered_file}
 use Rattle.c_violation_laws.proofs.Marks.{each_marks, enumerator_marks, declarator_marks, form_marks}
@@ -85,16 +86,16 @@ module _ (word : ℕ → List ℕ) (ss : List (List Identifier)) where
   given_same ms known m None = refl
   given_same ms known m (Some t) = ap Some (constant_same word (file_walk ms) known m t)
 
-  enums_same : (es : List Enumerator) (before : Option ℤ) (ms : List Scope) (zs : List Identifier) (ns : List ℕ) → FileIn ms ss (constants typed word ss before es ++ zs) (each_marks enumerator_marks es ++ ns) → Follow ns zs
-      → enums.enum_items es before (in_scopes word ms) ≡ enum_items typed word ss before es
+  enums_same : (es : List Enumerator) (before : Option ℤ) (ms : List Scope) (zs : List Identifier) (ns : List ℕ) → FileIn ms ss (constants word ss before es ++ zs) (each_marks enumerator_marks es ++ ns) → Follow ns zs
+      → enums.enum_items es before (in_scopes word ms) ≡ enum_items word ss before es
   enums_same [] before ms zs ns h follow = refl
   enums_same (e ∷ es) before ms zs ns h follow =
       let known = scopes_at ss e.name in
       let m = constant_here word ss e es before ms zs ns h follow in
       let v = value_of (in_scopes word ms) e.value before in
-      let same = value_alike word ms known m e.value before in
+      let same = value_alike word ms ss e m before in
       let rest = ap (λ z. enums.enum_items es z (in_scopes word (bind (word e.name) (Constant (or_zero v)) ms))) same
-      ∙ enums_same es (value_in typed word ss before e) (bind (word e.name) (Constant (or_zero v)) ms) zs ns (constant_past word ss e es before ms zs ns v same h) follow in
+      ∙ enums_same es (value_in word ss before e) (bind (word e.name) (Constant (or_zero v)) ms) zs ns (constant_past word ss e es before ms zs ns v same h) follow in
       λ i. record { name = word e.name; given = given_same ms known m e.value i; value = or_zero (same i) } ∷ rest i
 
   globals_same : (static : Bool) (k : Kinded) (ds : List Declarator) (ms : List Scope) (zs : List Identifier) (ns : List ℕ) → FileIn ms ss (map (global_variable word k) ds ++ zs) (each_marks declarator_marks ds ++ ns) → Follow ns zs
@@ -114,7 +115,12 @@ module _ (word : ℕ → List ℕ) (ss : List (List Identifier)) where
 module _ (file : File) (ss : List (List Identifier)) where
   form_same : (first : ℕ) (form : Form) (s : State) → IsApart form → FileIn s.scopes ss (form_identifiers typed file ss form) (form_marks form) → walked.form_tops file first form s ≡ form_tops typed file ss first form
   form_same first Line s a h = refl
-  form_same first (Enum es) s a h = λ i. top.Enum (enums_same file.word ss es first_before s.scopes [] [] (file_last s.scopes ss (constants typed file.word ss first_before es) (each_marks enumerator_marks es) h) (λ mid hi r. tt) i) ∷ []
+  form_same first (Enum es) s a h =
+      let marks = each_marks enumerator_marks es in
+      let valued = subst (λ l. FileIn s.scopes ss l marks) (constants_are file.word ss es) h in
+      let items = enums_same file.word ss es first_before s.scopes [] [] (file_last s.scopes ss (constants file.word ss first_before es) marks valued) (λ mid hi r. tt)
+      ∙ sym (enum_items_are file.word ss es) in
+      λ i. top.Enum (items i) ∷ []
   form_same first (Globals static d) s a h =
       let k = kinded file.word d in
       globals_same file.word ss static k d.names s.scopes [] [] (file_last s.scopes ss (map (global_variable file.word k) d.names) (each_marks declarator_marks d.names) h) (λ mid hi r. tt)

@@ -1,15 +1,16 @@
 -- What a walk finds in a file, and what of that is reported.
-use Rattle.std.proofs.Common.{List, [], ◌∷◌, ◌++◌, map, true≢false, sym}
+use Rattle.std.proofs.Common.{List, [], ◌∷◌, ◌++◌, map, true≢false, sym, subst}
 use Rattle.c_layers.specs.Tops.{Form, Line, Enum, Globals, Defines, Unread, Top, From}
 use Rattle.c_statements.specs.Declarations.{kinded}
 use Rattle.c_statements.specs.Functions.{function_faults}
+use Rattle.c_scopes.specs.Enums.{enum_faults}
 use Rattle.c_scopes.specs.Files.{File, State, start, env_of, function_declared, form_faults, top_faults, file_faults}
 use Rattle.c_scopes.specs.Files as walked
 use Rattle.c_scopes.specs.FunctionNames.{function_name_faults}
 use Rattle.c_kinds.specs.Typing.{typed}
 use Rattle.c_reading_defs.specs.Scopes.{Identifier, scopes_at}
-use Rattle.c_reading_defs.specs.FileScopes.{first_before, constants, global_variable, form_identifiers, IsFileScope}
-use Rattle.c_reading_defs.specs.Files.{FormBreaks, TopBreaks, IsViolation}
+use Rattle.c_reading_defs.specs.FileScopes.{global_variable, form_identifiers, IsFileScope}
+use Rattle.c_reading_defs.specs.Files.{ConstantBreaks, FormBreaks, TopBreaks, IsViolation}
 use Rattle.c_violation_laws.specs.Finds.{Finds}
 use Rattle.c_violation_laws.proofs.Finding.{finds_none, finds_both}
 use Rattle.c_violation_laws.proofs.Behind.{Behind, finds_behind}
@@ -17,6 +18,7 @@ use Rattle.c_violation_laws.proofs.Least.{the_least, least_back, the_faultless, 
 use Rattle.c_reading_defs.specs.Entries.{Entry}
 use Rattle.c_reading_defs.specs.DerivedTops.{IsFile}
 use Rattle.c_violation_laws.proofs.Numbered.{IsApart, AreApart, file_apart}
+use Rattle.c_violation_laws.proofs.Enumerated.{first_before, constants, constants_are}
 use Rattle.c_violation_laws.proofs.FileStanding.{FileIn, file_last, function_here, function_inside, Before, form_first, tops_rest, file_begins}
 use Rattle.c_violation_laws.proofs.Ordered.{file as ordered_file}
 use Rattle.c_violation_laws.proofs.Marks.{each_marks, enumerator_marks, declarator_marks, inner_marks, form_marks}
@@ -28,7 +30,11 @@ use Rattle.c_violation_laws.specs.FileLaws.{FileLaws}
 module _ (file : File) (ss : List (List Identifier)) where
   form : (x : Form) → IsApart x → (before : List Top) (s : State) → FileIn s.scopes ss (form_identifiers typed file ss x) (form_marks x) → AreBodies file.word before s.bodies → Finds (form_faults file x s) (λ v. FormBreaks typed file ss before x v)
   form Line a before s h b = finds_none
-  form (Enum es) a before s h b = enumerators file.word ss es first_before s.scopes [] [] (file_last s.scopes ss (constants typed file.word ss first_before es) (each_marks enumerator_marks es) h) (λ mid hi r. tt)
+  form (Enum es) a before s h b =
+      let marks = each_marks enumerator_marks es in
+      let valued = subst (λ l. FileIn s.scopes ss l marks) (constants_are file.word ss es) h in
+      finds_behind (enum_faults es first_before (env_of file s)) (λ v front e. ConstantBreaks typed file.word ss front e v) es
+      (enumerators file.word ss es [] s.scopes [] [] (file_last s.scopes ss (constants file.word ss first_before es) marks valued) (λ mid hi r. tt))
   form (Globals static d) a before s h b =
       let k = kinded file.word d in
       variables file.word k ss d.names s.scopes [] [] (file_last s.scopes ss (map (global_variable file.word k) d.names) (each_marks declarator_marks d.names) h) (λ mid hi r. tt)
