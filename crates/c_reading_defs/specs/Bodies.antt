@@ -11,14 +11,14 @@ use Rattle.c_statements.specs.Functions.{result_kind, parameter_slot, function}
 use Rattle.c_reading_defs.specs.Typings.{Typing}
 use Rattle.c_reading_defs.specs.Scopes.{Identifier}
 use Rattle.c_reading_defs.specs.Places.{Place, within_function}
-use Rattle.c_reading_defs.specs.Labels.{InFunction, notes_at, labels_of}
+use Rattle.c_reading_defs.specs.Labels.{InFunction, notes_at, distinct_labels}
 use Rattle.c_reading_defs.specs.Variables.{variables_of}
 use Rattle.c_reading_defs.specs.Slots.{slots_in, slots_of_list}
 use Rattle.c_reading_defs.specs.Items.{item_items, list_items}
 
 abbrev pub labels_within : (ℕ → List ℕ) → Option Body → List (List ℕ)
 labels_within word None = []
-labels_within word (Some b) = labels_of word b
+labels_within word (Some b) = distinct_labels word b
 
 -- what is known in a function
 abbrev pub known : (ℕ → List ℕ) → (Anchor → List (List ℕ)) → Function → InFunction
@@ -29,9 +29,9 @@ abbrev pub inside : (ℕ → List ℕ) → (Anchor → List (List ℕ)) → Func
 inside word notes f scopes = within_function (known word notes f) f scopes
 
 -- the outermost list has no scope of its own
-abbrev pub body_items : Typing → InFunction → Body → Place → List item.Item
-body_items typing f (Braces first after xs) p = list_items typing f xs p ++ notes_at f (AtEnd first)
-body_items typing f (Lone first after x) p = item_items typing f x p ++ notes_at f (AtEnd first)
+abbrev pub outermost_items : Typing → InFunction → Body → Place → List item.Item
+outermost_items typing f (Braces first after xs) p = list_items typing f xs p ++ notes_at f (AtEnd first)
+outermost_items typing f (Lone first after x) p = item_items typing f x p ++ notes_at f (AtEnd first)
 
 abbrev pub body_slots : Typing → InFunction → Body → Place → List Slot
 body_slots typing f (Braces first after xs) p = slots_of_list typing f xs p
@@ -45,4 +45,4 @@ abbrev pub function_of : Typing → (ℕ → List ℕ) → (Anchor → List (Lis
 function_of typing word notes f scopes =
     let p = inside word notes f scopes in
     function word f (map (parameter_slot word) f.parameters ++ slots_within typing (known word notes f) f.body p) (labels_within word f.body)
-    (option_map (λ b. body_items typing (known word notes f) b p) f.body)
+    (option_map (λ b. outermost_items typing (known word notes f) b p) f.body)

@@ -61,7 +61,7 @@ abbrev mutual
   in_statement (While e b) t = in_body b t
   in_statement (DoWhile b e) t = in_body b t
   in_statement (For start e u b) t = in_body b t
-  in_statement (Switch e b) t = in_switch b t
+  in_statement (Switch e b) t = in_switch_body b t
   in_statement (Block b) t = in_body b t
   in_statement _ t = None
 
@@ -75,9 +75,9 @@ abbrev mutual
   in_items switched (Then x xs) t = cond (nat_lt t (item_after x)) (Some (item_place switched x t)) (in_items switched xs t)
 
   -- a null statement in front of the first section is no item
-  pub in_switch : Body → ℕ → Option Anchor
-  in_switch (Braces first after xs) t = cond (nat_le t first || stands_in_null (outside xs) t) None (option_or (in_items true xs t) (section_end first xs))
-  in_switch (Lone first after x) t = cond (nat_lt t first || not (is_element x)) None (Some (item_place true x t))
+  pub in_switch_body : Body → ℕ → Option Anchor
+  in_switch_body (Braces first after xs) t = cond (nat_le t first || stands_in_null (outside xs) t) None (option_or (in_items true xs t) (section_end first xs))
+  in_switch_body (Lone first after x) t = cond (nat_lt t first || not (is_element x)) None (Some (item_place true x t))
 
 -- ---- files
 

@@ -19,15 +19,15 @@ use Rattle.c_reading_defs.specs.Violations.{broken}
 -- ---- names
 
 -- a function, `printf` among them
-abbrev pub IsFunction : Binding → Type 0
-IsFunction (Function s) = Unit {0}
-IsFunction Printf = Unit {0}
-IsFunction _ = ⊥
+abbrev pub IsFunctionBinding : Binding → Type 0
+IsFunctionBinding (Function s) = Unit {0}
+IsFunctionBinding Printf = Unit {0}
+IsFunctionBinding _ = ⊥
 
-abbrev pub is_array : Binding → Bool
-is_array (Global shape) = shape.array
-is_array (Local slot shape) = shape.array
-is_array _ = false
+abbrev pub is_array_binding : Binding → Bool
+is_array_binding (Global shape) = shape.array
+is_array_binding (Local slot shape) = shape.array
+is_array_binding _ = false
 
 -- a variable that is a number
 abbrev pub is_number_variable : Binding → Bool
@@ -43,9 +43,9 @@ is_const _ = false
 -- a name, or a cell of what it names, that is not written to
 pub data ReadBreaks (env : Env) : Form → Fault → Type 0 where
   undeclared : {at : ℕ} → IsUnbound (env.word at) env.scopes → ReadBreaks env (Variable at) (broken at 20)
-  not_called : {at : ℕ} (b : Binding) → IsBoundTo (env.word at) b env.scopes → IsFunction b → ReadBreaks env (Variable at) (broken at 22)
+  not_called : {at : ℕ} (b : Binding) → IsBoundTo (env.word at) b env.scopes → IsFunctionBinding b → ReadBreaks env (Variable at) (broken at 22)
   undeclared_array : {at : ℕ} {i : Term} → IsUnbound (env.word at) env.scopes → ReadBreaks env (Cell at i) (broken at 20)
-  no_array : {at : ℕ} {i : Term} (b : Binding) → IsBoundTo (env.word at) b env.scopes → is_array b ≡ false → ReadBreaks env (Cell at i) (broken at 22)
+  no_array : {at : ℕ} {i : Term} (b : Binding) → IsBoundTo (env.word at) b env.scopes → is_array_binding b ≡ false → ReadBreaks env (Cell at i) (broken at 22)
 
 -- a name or a cell that is assigned or counted up or down
 pub data WriteBreaks (env : Env) : Form → Fault → Type 0 where
@@ -53,8 +53,8 @@ pub data WriteBreaks (env : Env) : Form → Fault → Type 0 where
   no_number : {at : ℕ} (b : Binding) → IsBoundTo (env.word at) b env.scopes → is_number_variable b ≡ false → WriteBreaks env (Variable at) (broken at 22)
   const : {at : ℕ} (b : Binding) → IsBoundTo (env.word at) b env.scopes → is_number_variable b ≡ true → is_const b ≡ true → WriteBreaks env (Variable at) (broken at 26)
   undeclared_array : {at : ℕ} {i : Term} → IsUnbound (env.word at) env.scopes → WriteBreaks env (Cell at i) (broken at 20)
-  no_array : {at : ℕ} {i : Term} (b : Binding) → IsBoundTo (env.word at) b env.scopes → is_array b ≡ false → WriteBreaks env (Cell at i) (broken at 22)
-  const_cell : {at : ℕ} {i : Term} (b : Binding) → IsBoundTo (env.word at) b env.scopes → is_array b ≡ true → is_const b ≡ true → WriteBreaks env (Cell at i) (broken at 26)
+  no_array : {at : ℕ} {i : Term} (b : Binding) → IsBoundTo (env.word at) b env.scopes → is_array_binding b ≡ false → WriteBreaks env (Cell at i) (broken at 22)
+  const_cell : {at : ℕ} {i : Term} (b : Binding) → IsBoundTo (env.word at) b env.scopes → is_array_binding b ≡ true → is_const b ≡ true → WriteBreaks env (Cell at i) (broken at 26)
 
 -- ---- what an expression is used for
 

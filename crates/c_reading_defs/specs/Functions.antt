@@ -7,7 +7,7 @@ use Rattle.c_statements.specs.declared.anchors.Anchor.{Anchor}
 use Rattle.c_statements.specs.Functions.{FlatCounts, measures}
 use Rattle.c_statements.specs.Measures.{is_tangled}
 use Rattle.c_reading_defs.specs.Typings.{Typing}
-use Rattle.c_reading_defs.specs.Bodies.{known, inside, body_items}
+use Rattle.c_reading_defs.specs.Bodies.{known, inside, outermost_items}
 use Rattle.c_reading_defs.specs.Behind.{SomeOf, SomeBehind, IsOne}
 use Rattle.c_reading_defs.specs.Bindings.{IsDeclared}
 use Rattle.c_reading_defs.specs.Declared.{SizeBreaks}
@@ -41,7 +41,7 @@ OutermostBreaks typing f p (Lone first after x) v = ItemBreaks typing f p x v
 
 -- a function that is too tangled; `flat` gives counts for a body with jumps, and none for another
 pub data Tangled (typing : Typing) (flat : FlatCounts) (word : ℕ → List ℕ) (notes : Anchor → List (List ℕ)) (f : Function) (b : Body) (scopes : List (List Identifier)) : Fault → Type 0 where
-  tangled : (counts : ℕ × ℕ) → flat (body_items typing (known word notes f) b (inside word notes f scopes)) ≡ Some counts → is_tangled (measures word f b counts) ≡ true → Tangled typing flat word notes f b scopes (broken f.name 39)
+  tangled : (counts : ℕ × ℕ) → flat (outermost_items typing (known word notes f) b (inside word notes f scopes)) ≡ Some counts → is_tangled (measures word f b counts) ≡ true → Tangled typing flat word notes f b scopes (broken f.name 39)
 
 -- the labels, the statements and the size of a function with a body
 abbrev pub DefinitionBreaks : Typing → FlatCounts → (ℕ → List ℕ) → (Anchor → List (List ℕ)) → Function → List (List Identifier) → Option Body → Fault → Type 0

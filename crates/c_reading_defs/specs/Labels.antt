@@ -64,8 +64,8 @@ each_once [] = []
 each_once (n ∷ ns) = n ∷ filter (λ m. not (bytes_eq m n)) (each_once ns)
 
 -- the names of the labels of a body, in text order
-abbrev pub labels_of : (ℕ → List ℕ) → Body → List (List ℕ)
-labels_of word b = each_once (map word (body_labels b))
+abbrev pub distinct_labels : (ℕ → List ℕ) → Body → List (List ℕ)
+distinct_labels word b = each_once (map word (body_labels b))
 
 -- how many of these labels come before the one of this name
 abbrev pub label_number : List (List ℕ) → List ℕ → ℕ

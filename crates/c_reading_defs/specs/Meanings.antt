@@ -98,11 +98,11 @@ abbrev mutual
   FormMeans env (Cell at i) x = (n : Valued) × (y : Target) × Means env i (Value n) × IsCell env at n y × (x ≡ of_kind y.kind (node.Read y.place))
   -- `++` and `--` (6.5.3.1), and `+ - ! ~` (6.5.3.3)
   FormMeans env (Prefix m a) x =
-      ((up : Bool) × (y : Target) × (step_of (mark_of (env.word m)) ≡ Some up) × IsTarget env a y × (y.constant ≡ false) × (x ≡ of_kind y.kind (node.Count y.place up false)))
+      ((up : Bool) × (y : Target) × (step_of (mark_of (env.word m)) ≡ Some up) × MeansTarget env a y × (y.constant ≡ false) × (x ≡ of_kind y.kind (node.Count y.place up false)))
       ⊎ ((v : Valued) × (step_of (mark_of (env.word m)) ≡ None) × Means env a (Value v)
       × (x ≡ of_kind (unary_kind (unary_op (mark_of (env.word m))) v.kind) (node.Unary (unary_op (mark_of (env.word m))) (expression v))))
   -- 6.5.2.4
-  FormMeans env (Suffix m a) x = (y : Target) × IsTarget env a y × (y.constant ≡ false) × (x ≡ of_kind y.kind (node.Count y.place (counts_up (mark_of (env.word m))) true))
+  FormMeans env (Suffix m a) x = (y : Target) × MeansTarget env a y × (y.constant ≡ false) × (x ≡ of_kind y.kind (node.Count y.place (counts_up (mark_of (env.word m))) true))
   -- 6.5.4
   FormMeans env (CastTo words a) x = (v : Valued) × Means env a (Value v) × (x ≡ of_kind (kind_of env.word words) (node.Cast (expression v)))
   FormMeans env (CastVoid a) x = (y : Typed) × (e : Expression) × Means env a y × (dropped y ≡ Some e) × (x ≡ Void (node.Cast e))
@@ -116,7 +116,7 @@ abbrev mutual
       × (x ≡ of_kind (usual_kind v.kind w.kind) (node.Conditional (expression u) (expression v) (expression w)))
   -- 6.5.16
   FormMeans env (Assign m t a) x =
-      (y : Target) × (v : Valued) × IsTarget env t y × (y.constant ≡ false) × Means env a (Value v)
+      (y : Target) × (v : Valued) × MeansTarget env t y × (y.constant ≡ false) × Means env a (Value v)
       × (x ≡ of_kind y.kind (stored (update_op (mark_of (env.word m))) y (expression v)))
   FormMeans env (Commas a bs) x = (y : Typed) × (ys : List Typed) × Means env a y × AreMeant env bs ys × AreCommas (y ∷ ys) x
   FormMeans env (Call at xs) x = (b : Binding) × (ys : List Typed) × IsBound env at b × AreMeant env xs ys × IsCall (env.word at) b ys x
@@ -124,13 +124,13 @@ abbrev mutual
   FormMeans env Unknown x = ⊥
 
   -- the variable or the cell that an operand is (6.3.2.1)
-  pub IsTarget : Env → Term → Target → Type 0
-  IsTarget env (At first form) y = FormIsTarget env form y
+  pub MeansTarget : Env → Term → Target → Type 0
+  MeansTarget env (At first form) y = FormMeansTarget env form y
 
-  pub FormIsTarget : Env → Form → Target → Type 0
-  FormIsTarget env (Variable at) y = IsNumber env at y
-  FormIsTarget env (Cell at i) y = (n : Valued) × Means env i (Value n) × IsCell env at n y
-  FormIsTarget env _ y = ⊥
+  pub FormMeansTarget : Env → Form → Target → Type 0
+  FormMeansTarget env (Variable at) y = IsNumber env at y
+  FormMeansTarget env (Cell at i) y = (n : Valued) × Means env i (Value n) × IsCell env at n y
+  FormMeansTarget env _ y = ⊥
 
   -- each of these terms, in order
   pub AreMeant : Env → Terms → List Typed → Type 0

@@ -14,7 +14,7 @@ use Rattle.c_statements.specs.Labels.{has_case}
 use Rattle.c_statements.specs.Statements.{is_null, is_element, begins}
 use Rattle.c_comments.specs.Notes.{label_after, item_after, labels_place, section_place, or_behind, top_after, next_token, comment_bytes}
 use Rattle.c_comments.specs.Notes as walked
-use Rattle.c_reading_defs.specs.Comments.{label_place, in_labels, item_place, plain_place, in_statement, in_body, in_items, in_switch, outside, stands_in_null, has_sections, section_end, in_form, top_place, place_in, notes_of}
+use Rattle.c_reading_defs.specs.Comments.{label_place, in_labels, item_place, plain_place, in_statement, in_body, in_items, in_switch_body, outside, stands_in_null, has_sections, section_end, in_form, top_place, place_in, notes_of}
 
 -- ---- the items of a switch, up to the first section or behind its beginning
 
@@ -183,7 +183,7 @@ module _ (t : ℕ) where
     list_same end (Then x xs) =
         either (nat_lt t (item_after x)) (walked.item_place x t) (walked.list_place end xs t) end (Some (item_place false x t)) (in_items false xs t) (item_same x) (list_same end xs)
 
-    switch_same : (switch : ℕ) (b : Body) → walked.switch_place switch b t ≡ or_behind (in_switch b t) (Before switch)
+    switch_same : (switch : ℕ) (b : Body) → walked.switch_place switch b t ≡ or_behind (in_switch_body b t) (Before switch)
     switch_same switch (Braces first after xs) =
         either (nat_le t first) (Before switch) (walked.members_place false switch first xs t) (Before switch) None (in_outside first xs t) refl (outside_same switch first xs)
         ∙ ap (λ o. or_behind o (Before switch)) (ap (cond (nat_le t first) None) (sym (outside_is first t xs)) ∙ none_or (nat_le t first) (stands_in_null (outside xs) t) (option_or (in_items true xs t) (section_end first xs)))

@@ -105,7 +105,7 @@ module _ (word : ℕ → List ℕ) (flat : FlatCounts) (notes : Anchor → List 
 
     -- those that are written there
     abbrev theirs : List tree.Item
-    theirs = written.body_items typed here b place
+    theirs = written.outermost_items typed here b place
 
     some_counts : (n k : ℕ × ℕ) → flat theirs ≡ Some n → flat theirs ≡ Some k → n ≡ k
     some_counts n k e g = cc

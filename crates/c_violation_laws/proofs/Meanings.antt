@@ -31,7 +31,7 @@ use Rattle.c_kinds.specs.Values.{number, character_constant, of_result, value_of
 use Rattle.c_kinds.specs.Names.{variable_of, named}
 use Rattle.c_kinds.specs.Calls.{called}
 use Rattle.c_kinds.specs.Typing.{joined_texts, typed, form_typed, commas, target_of, form_target, given}
-use Rattle.c_reading_defs.specs.Meanings.{IsVariable, IsNumber, IsCell, TextsWrite, IsCall, Means, FormMeans, AreCommas, one, more, IsTarget, FormIsTarget, AreMeant}
+use Rattle.c_reading_defs.specs.Meanings.{IsVariable, IsNumber, IsCell, TextsWrite, IsCall, Means, FormMeans, AreCommas, one, more, MeansTarget, FormMeansTarget, AreMeant}
 use Rattle.c_violation_laws.proofs.Lookups.{bound_is, is_bound}
 use Rattle.c_violation_laws.proofs.CallMeanings.{types, AllRight, call_right, called_is, is_called}
 
@@ -287,10 +287,10 @@ mutual
       let j = subst (λ l. Joined y l x) m.4 h in
       ap (λ z. commas env (comma (dropped y) z) bs) (is_typed env b m.0 m.2) ∙ ap (λ o. commas env (comma o m.0) bs) j.2 ∙ are_commas env (with_left j.0 m.0) bs m.1 x m.3 j.4
 
-  pub is_target : (env : Env) (t : Term) (y : Target) → IsTarget env t y → target_of env t ≡ Some y
+  pub is_target : (env : Env) (t : Term) (y : Target) → MeansTarget env t y → target_of env t ≡ Some y
   is_target env (At first form) y h = is_form_target env form y h
 
-  is_form_target : (env : Env) (f : Form) (y : Target) → FormIsTarget env f y → form_target env f ≡ Some y
+  is_form_target : (env : Env) (f : Form) (y : Target) → FormMeansTarget env f y → form_target env f ≡ Some y
   is_form_target env (Variable at) y h = is_number env at y h
   is_form_target env (Cell at i) y h = ap (λ x. cell_target (variable_of (env.word at) (meaning env at)) (value_of x)) (is_typed env i (Value h.0) h.1) ∙ is_cell env at h.0 y h.2
   is_form_target env (Constant at) y h = absurd h
@@ -313,7 +313,7 @@ mutual
 -- ---- and back
 
 prefix_is : (env : Env) (m : ℕ) (a : Term) (x : Typed) (o : Option Bool) → step_of (mark_of (env.word m)) ≡ o
-    → ((y : Target) → target_of env a ≡ Some y → IsTarget env a y) → ((v : Valued) → typed env a ≡ Value v → Means env a (Value v))
+    → ((y : Target) → target_of env a ≡ Some y → MeansTarget env a y) → ((v : Valued) → typed env a ≡ Value v → Means env a (Value v))
     → elim o [ Some up ↦ counting up false (writable (target_of env a)) | None ↦ unary (unary_op (mark_of (env.word m))) (value_of (typed env a)) ] ≡ x → x ≢ Wrong → FormMeans env (Prefix m a) x
 prefix_is env m a x (Some up) s tt' vv e r =
     let n = writable_is (target_of env a) (counting_is up false (writable (target_of env a)) x e r) in
@@ -392,10 +392,10 @@ mutual
       let means = typed_is env b (typed env b) refl (dropped_right (typed env b) n.holds.it n.holds.it_is) in
       (typed env b ∷ c.0, (typed env b, c.0, means, c.1, refl), (n.it, n.holds.it, n.it_is, n.holds.it_is, c.2))
 
-  pub target_is : (env : Env) (t : Term) (y : Target) → target_of env t ≡ Some y → IsTarget env t y
+  pub target_is : (env : Env) (t : Term) (y : Target) → target_of env t ≡ Some y → MeansTarget env t y
   target_is env (At first form) y e = form_target_is env form y e
 
-  form_target_is : (env : Env) (f : Form) (y : Target) → form_target env f ≡ Some y → FormIsTarget env f y
+  form_target_is : (env : Env) (f : Form) (y : Target) → form_target env f ≡ Some y → FormMeansTarget env f y
   form_target_is env (Variable at) y e = number_is env at y (variable_of (env.word at) (meaning env at)) refl e
   form_target_is env (Cell at i) y e =
       let c = cell_is env at (value_of (typed env i)) y (variable_of (env.word at) (meaning env at)) refl e in

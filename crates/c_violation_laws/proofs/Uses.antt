@@ -13,7 +13,7 @@ use Rattle.c_kinds.specs.Typing.{typed, used, unused}
 use Rattle.c_kinds.specs.Values.{use_fault, drop_fault}
 use Rattle.c_reading_defs.specs.Violations.{broken}
 use Rattle.c_reading_defs.specs.Bindings.{IsBoundTo, IsUnbound}
-use Rattle.c_reading_defs.specs.Expressions.{IsFunction, is_array, is_number_variable, is_const, ReadBreaks, WriteBreaks, NeedsValue, NeedsConstant, MayBeVoid, IsJudgedElsewhere, UseBreaks}
+use Rattle.c_reading_defs.specs.Expressions.{IsFunctionBinding, is_array_binding, is_number_variable, is_const, ReadBreaks, WriteBreaks, NeedsValue, NeedsConstant, MayBeVoid, IsJudgedElsewhere, UseBreaks}
 use Rattle.c_reading_defs.specs.Meanings.{Means}
 use Rattle.c_violation_laws.proofs.Meanings.{is_typed, typed_is}
 use Rattle.c_violation_laws.proofs.Constants.{constant_not, no_constant}
@@ -48,19 +48,19 @@ module _ (env : Env) (at : ℕ) where
   abbrev reads : Rule
   reads v = ReadBreaks env (Variable at) v
 
-  read_function : (c : Binding) → meaning env at ≡ Some c → IsFunction c → Finds (fault at 22) reads
+  read_function : (c : Binding) → meaning env at ≡ Some c → IsFunctionBinding c → Finds (fault at 22) reads
   read_function c e i = finds_one at 22 reads (ReadBreaks.not_called c (bound c e) i) only
     where
       only : (v : Fault) → ReadBreaks env (Variable at) v → v ≡ broken at 22
       only v (ReadBreaks.undeclared u) = absurd (not_both c u e)
       only v (ReadBreaks.not_called b h f) = refl
 
-  read_other : (c : Binding) → meaning env at ≡ Some c → (IsFunction c → ⊥) → Finds (λ vs. vs) reads
+  read_other : (c : Binding) → meaning env at ≡ Some c → (IsFunctionBinding c → ⊥) → Finds (λ vs. vs) reads
   read_other c e i = finds_nothing reads only
     where
       only : (v : Fault) → ReadBreaks env (Variable at) v → ⊥
       only v (ReadBreaks.undeclared u) = not_both c u e
-      only v (ReadBreaks.not_called b h f) = i (subst IsFunction (same_bound b c h e) f)
+      only v (ReadBreaks.not_called b h f) = i (subst IsFunctionBinding (same_bound b c h e) f)
 
   by_name : (m : Option Binding) → meaning env at ≡ m → Finds (name_fault at m) reads
   by_name None e = finds_one at 20 reads (ReadBreaks.undeclared (unbound e)) only
@@ -84,7 +84,7 @@ module _ (env : Env) (at : ℕ) where
   shaped false c = finds_same (fault at 22) (λ v. v ≡ broken at 22) _ (finds_fault at 22) (λ v e. inl (refl, e)) (λ v h. elim h [ inl p ↦ p.1 | inr p ↦ absurd (true≢false (sym p.0)) ])
   shaped true c = finds_same (fault_if c at 26) (λ v. (c ≡ true) × (v ≡ broken at 26)) _ (finds_if c at 26) (λ v p. inr (refl, p.0, p.1)) (λ v h. elim h [ inl p ↦ absurd (true≢false p.0) | inr p ↦ (p.1, p.2) ])
 
-  a_cell : (writes : Bool) (b : Binding) (vs : Faults) → target_fault writes true at (Some b) vs ≡ cond (is_array b) (fault_if (writes && is_const b) at 26 vs) (fault at 22 vs)
+  a_cell : (writes : Bool) (b : Binding) (vs : Faults) → target_fault writes true at (Some b) vs ≡ cond (is_array_binding b) (fault_if (writes && is_const b) at 26 vs) (fault at 22 vs)
   a_cell writes (Constant n) vs = refl
   a_cell writes (Global shape) vs = refl
   a_cell writes (Local slot shape) vs = refl
@@ -111,15 +111,15 @@ module _ (env : Env) (at : ℕ) where
         only v (ReadBreaks.undeclared_array u) = refl
         only v (ReadBreaks.no_array b h f) = absurd (not_bound b h e)
     read_cell_by (Some c) e =
-        finds_as (target_fault false true at (Some c)) _ _ (a_cell false c) (finds_same _ _ (λ v. ReadBreaks env (Cell at i) v) (shaped (is_array c) false) to fro)
+        finds_as (target_fault false true at (Some c)) _ _ (a_cell false c) (finds_same _ _ (λ v. ReadBreaks env (Cell at i) v) (shaped (is_array_binding c) false) to fro)
       where
-        to : (v : Fault) → ((is_array c ≡ false) × (v ≡ broken at 22)) ⊎ ((is_array c ≡ true) × (false ≡ true) × (v ≡ broken at 26)) → ReadBreaks env (Cell at i) v
+        to : (v : Fault) → ((is_array_binding c ≡ false) × (v ≡ broken at 22)) ⊎ ((is_array_binding c ≡ true) × (false ≡ true) × (v ≡ broken at 26)) → ReadBreaks env (Cell at i) v
         to v (inl p) = subst (λ w. ReadBreaks env (Cell at i) w) (sym p.1) (ReadBreaks.no_array c (bound c e) p.0)
         to v (inr p) = absurd (true≢false (sym p.1))
 
-        fro : (v : Fault) → ReadBreaks env (Cell at i) v → ((is_array c ≡ false) × (v ≡ broken at 22)) ⊎ ((is_array c ≡ true) × (false ≡ true) × (v ≡ broken at 26))
+        fro : (v : Fault) → ReadBreaks env (Cell at i) v → ((is_array_binding c ≡ false) × (v ≡ broken at 22)) ⊎ ((is_array_binding c ≡ true) × (false ≡ true) × (v ≡ broken at 26))
         fro v (ReadBreaks.undeclared_array u) = absurd (not_both c u e)
-        fro v (ReadBreaks.no_array b h f) = inl (subst (λ x. is_array x ≡ false) (same_bound b c h e) f, refl)
+        fro v (ReadBreaks.no_array b h f) = inl (subst (λ x. is_array_binding x ≡ false) (same_bound b c h e) f, refl)
 
     pub read_cell : Finds (target_fault false true at (meaning env at)) (λ v. ReadBreaks env (Cell at i) v)
     read_cell = read_cell_by (meaning env at) refl
@@ -132,16 +132,16 @@ module _ (env : Env) (at : ℕ) where
         only v (WriteBreaks.no_array b h f) = absurd (not_bound b h e)
         only v (WriteBreaks.const_cell b h f g) = absurd (not_bound b h e)
     write_cell_by (Some c) e =
-        finds_as (target_fault true true at (Some c)) _ _ (a_cell true c) (finds_same _ _ (λ v. WriteBreaks env (Cell at i) v) (shaped (is_array c) (is_const c)) to fro)
+        finds_as (target_fault true true at (Some c)) _ _ (a_cell true c) (finds_same _ _ (λ v. WriteBreaks env (Cell at i) v) (shaped (is_array_binding c) (is_const c)) to fro)
       where
-        to : (v : Fault) → ((is_array c ≡ false) × (v ≡ broken at 22)) ⊎ ((is_array c ≡ true) × (is_const c ≡ true) × (v ≡ broken at 26)) → WriteBreaks env (Cell at i) v
+        to : (v : Fault) → ((is_array_binding c ≡ false) × (v ≡ broken at 22)) ⊎ ((is_array_binding c ≡ true) × (is_const c ≡ true) × (v ≡ broken at 26)) → WriteBreaks env (Cell at i) v
         to v (inl p) = subst (λ w. WriteBreaks env (Cell at i) w) (sym p.1) (WriteBreaks.no_array c (bound c e) p.0)
         to v (inr p) = subst (λ w. WriteBreaks env (Cell at i) w) (sym p.2) (WriteBreaks.const_cell c (bound c e) p.0 p.1)
 
-        fro : (v : Fault) → WriteBreaks env (Cell at i) v → ((is_array c ≡ false) × (v ≡ broken at 22)) ⊎ ((is_array c ≡ true) × (is_const c ≡ true) × (v ≡ broken at 26))
+        fro : (v : Fault) → WriteBreaks env (Cell at i) v → ((is_array_binding c ≡ false) × (v ≡ broken at 22)) ⊎ ((is_array_binding c ≡ true) × (is_const c ≡ true) × (v ≡ broken at 26))
         fro v (WriteBreaks.undeclared_array u) = absurd (not_both c u e)
-        fro v (WriteBreaks.no_array b h f) = inl (subst (λ x. is_array x ≡ false) (same_bound b c h e) f, refl)
-        fro v (WriteBreaks.const_cell b h f g) = inr (subst (λ x. is_array x ≡ true) (same_bound b c h e) f, subst (λ x. is_const x ≡ true) (same_bound b c h e) g, refl)
+        fro v (WriteBreaks.no_array b h f) = inl (subst (λ x. is_array_binding x ≡ false) (same_bound b c h e) f, refl)
+        fro v (WriteBreaks.const_cell b h f g) = inr (subst (λ x. is_array_binding x ≡ true) (same_bound b c h e) f, subst (λ x. is_const x ≡ true) (same_bound b c h e) g, refl)
 
     pub write_cell : Finds (target_fault true true at (meaning env at)) (λ v. WriteBreaks env (Cell at i) v)
     write_cell = write_cell_by (meaning env at) refl

@@ -16,7 +16,7 @@ use Rattle.c_reading_defs.specs.Scopes.{Identifier}
 use Rattle.c_reading_defs.specs.Places.{Place}
 use Rattle.c_reading_defs.specs.Labels.{InFunction, notes_at, each_once, label_number}
 use Rattle.c_reading_defs.specs.Variables.{variables_of}
-use Rattle.c_reading_defs.specs.Bodies.{known, inside, body_items, body_slots, slots_within, labels_within, function_of}
+use Rattle.c_reading_defs.specs.Bodies.{known, inside, outermost_items, body_slots, slots_within, labels_within, function_of}
 use Rattle.c_violation_laws.proofs.Rising.{Rising, Apart}
 use Rattle.c_violation_laws.proofs.Marks.{inner_marks}
 use Rattle.c_violation_laws.proofs.Known.{Sees}
@@ -37,7 +37,7 @@ module _ (word : ℕ → List ℕ) (notes : Anchor → List (List ℕ)) (f : Fun
   numbers_same b e name =
       number_same (map word (body_labels b [])) name ∙ ap (λ ats. label_number (each_once (map word ats)) name) (labels_same b) ∙ ap (λ o. label_number (labels_within word o) name) (sym e)
 
-  pub body_same : (b : Body) → f.body ≡ Some b → (w : Walk) (p : Place) → OutermostIn here apart w p b → walked.body_items (context word notes f b) b w ≡ body_items typed here b p
+  pub body_same : (b : Body) → f.body ≡ Some b → (w : Walk) (p : Place) → OutermostIn here apart w p b → walked.body_items (context word notes f b) b w ≡ outermost_items typed here b p
   body_same (Braces first after xs) e w p h =
       let b = Braces first after xs in
       λ i. list_same (context word notes f b) (labels_within word f.body) (numbers_same b e) vs apart xs w p [] h i ++ notes_at here (AtEnd first)
@@ -57,7 +57,7 @@ module _ (word : ℕ → List ℕ) (notes : Anchor → List (List ℕ)) (f : Fun
   within_labelled None = refl
   within_labelled (Some b) = names_once (map word (body_labels b [])) ∙ ap (λ ats. each_once (map word ats)) (labels_same b)
 
-  within_same : (o : Option Body) → f.body ≡ o → (w : Walk) (p : Place) → GivenIn here apart w p o → items_within word notes f o w ≡ option_map (λ b. body_items typed here b p) o
+  within_same : (o : Option Body) → f.body ≡ o → (w : Walk) (p : Place) → GivenIn here apart w p o → items_within word notes f o w ≡ option_map (λ b. outermost_items typed here b p) o
   within_same None e w p h = refl
   within_same (Some b) e w p h = ap Some (body_same b e w p h)
 

@@ -13,7 +13,7 @@ use Rattle.c_kinds.specs.Scopes.{Env, Scope, look_up}
 use Rattle.c_kinds.specs.Typing.{typed, target_of}
 use Rattle.c_reading_defs.specs.Bindings.{IsBoundTo, IsUnbound}
 use Rattle.c_reading_defs.specs.Formats.{IsFormat}
-use Rattle.c_reading_defs.specs.Meanings.{Means, IsTarget, IsConstantExpression}
+use Rattle.c_reading_defs.specs.Meanings.{Means, MeansTarget, IsConstantExpression}
 use Rattle.c_reading_defs.specs.Typings.{Typing, IsTyping}
 
 pub record MeaningLaws : Type 0 where
@@ -28,7 +28,7 @@ pub record MeaningLaws : Type 0 where
   pub constant : (env : Env) (t : Term) (e : Expression) (n : ℤ) → (constant_of (typed env t) ≡ Some (e, n) → IsConstantExpression env t e n) × (IsConstantExpression env t e n → constant_of (typed env t) ≡ Some (e, n))
   pub right : (env : Env) (t : Term) → Means env t Wrong → ⊥
   -- and so is a target
-  pub target : (env : Env) (t : Term) (y : Target) → (target_of env t ≡ Some y → IsTarget env t y) × (IsTarget env t y → target_of env t ≡ Some y)
+  pub target : (env : Env) (t : Term) (y : Target) → (target_of env t ≡ Some y → MeansTarget env t y) × (MeansTarget env t y → target_of env t ≡ Some y)
   -- what the walk finds all expressions to be is the one typing
   pub typing : IsTyping typed
   pub sole : (typing : Typing) → IsTyping typing → typing ≡ typed
