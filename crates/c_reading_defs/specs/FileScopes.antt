@@ -36,7 +36,8 @@ abbrev pub enumerator_value : Typing → (ℕ → List ℕ) → List (List Ident
 enumerator_value typing word scopes front e = int_only (enumerator_number typing word scopes front e)
 
 abbrev pub enum_constant : Typing → (ℕ → List ℕ) → List (List Identifier) → List Enumerator → Enumerator → Identifier
-enum_constant typing word scopes front e = record { at = e.name; name = word e.name; binding = Constant (or_zero (enumerator_value typing word scopes front e)) }
+enum_constant typing word scopes front e =
+    record { at = e.name; name = word e.name; binding = Constant (or_zero (enumerator_value typing word scopes front e)) }
 
 -- ---- variables and functions
 

@@ -1,4 +1,4 @@
-pub mod Entries
+pub mod Symbols
 pub mod DerivedTerms
 pub mod DerivedItems
 pub mod DerivedTops

@@ -22,9 +22,9 @@ pub mod CountedStatements
 pub mod CountedFiles
 pub mod WholeFiles
 pub mod TheLimitLaws
-pub mod ExpressionEntries
-pub mod StatementEntries
-pub mod FileEntries
+pub mod ExpressionSymbols
+pub mod StatementSymbols
+pub mod FileSymbols
 pub mod SourceTerms
 pub mod SourceItems
 pub mod SourceTops

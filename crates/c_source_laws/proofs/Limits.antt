@@ -5,8 +5,8 @@ use Rattle.c_grammar.specs.Events as ev
 use Rattle.c_grammar.specs.Counts.{function_events, file_events}
 use Rattle.c_grammar.specs.Files.{Function, Top}
 use Rattle.c_grammar.specs.Derives as old
-use Rattle.c_reading_defs.specs.Entries.{Entry, Counted, Uncounted, Outside, Opens, Closes, most_counted, IsOver}
-use Rattle.c_source_laws.proofs.FileEntries.{function_entries, file_entries}
+use Rattle.c_reading_defs.specs.Symbols.{Symbol, Counted, Uncounted, Outside, OpensLevel, EndsLevel, most_counted, IsOver}
+use Rattle.c_source_laws.proofs.FileSymbols.{function_symbols, file_symbols}
 use Rattle.c_source_laws.proofs.Spelt.{events, AreNested}
 use Rattle.c_source_laws.proofs.StatementsSpelt.{function_spelt, file_spelt}
 use Rattle.c_source_laws.proofs.WalkedLimits.{walked_over, walked_most, walked_most_is, walked_first, IsFirst}
@@ -21,24 +21,24 @@ count_low : (q : List Event) → count_of q ≤ peak q
 count_low [] = omega arith
 count_low (e ∷ q) = omega arith
 
-peak_of : (level : ℕ) (xs : List Entry) (q : List Event) → peak (events level xs q) ≡ max (peak q) (walked_most (count_of q) xs)
+peak_of : (level : ℕ) (xs : List Symbol) (q : List Event) → peak (events level xs q) ≡ max (peak q) (walked_most (count_of q) xs)
 peak_of level [] q = omega arith
 peak_of level (Counted k ∷ xs) q = let h = peak_of level xs (ev.Counted ∷ q) in omega (arith, h)
 peak_of level (Uncounted k ∷ xs) q = let h = peak_of level xs (ev.Uncounted ∷ q) in let l = count_low q in omega (arith, h, l)
 peak_of level (Outside k ∷ xs) q = let h = peak_of level xs (ev.Outside ∷ q) in omega (arith, h)
-peak_of level (Opens ∷ xs) q = let h = peak_of (level + 1) xs (ev.Opened (level + 1) ∷ q) in let l = count_low q in omega (arith, h, l)
-peak_of level (Closes ∷ xs) q = peak_of (level - 1) xs q
+peak_of level (OpensLevel ∷ xs) q = let h = peak_of (level + 1) xs (ev.Opened (level + 1) ∷ q) in let l = count_low q in omega (arith, h, l)
+peak_of level (EndsLevel ∷ xs) q = peak_of (level - 1) xs q
 
-all_of : (xs : List Entry) → xs ++ [] ≡ xs
+all_of : (xs : List Symbol) → xs ++ [] ≡ xs
 all_of [] = refl
 all_of (x ∷ xs) = ap (λ l. x ∷ l) (all_of xs)
 
-pub function_peak : (x : Function) → peak (function_events x []) ≡ most_counted (function_entries x)
+pub function_peak : (x : Function) → peak (function_events x []) ≡ most_counted (function_symbols x)
 function_peak x =
-    let e : events 0 (function_entries x) [] ≡ function_events x [] = ap (λ l. events 0 l []) (sym (all_of (function_entries x))) ∙ (function_spelt x).counts [] [] in
-    let h = peak_of 0 (function_entries x) [] in
+    let e : events 0 (function_symbols x) [] ≡ function_events x [] = ap (λ l. events 0 l []) (sym (all_of (function_symbols x))) ∙ (function_spelt x).counts [] [] in
+    let h = peak_of 0 (function_symbols x) [] in
     let g = ap peak e in
-    let m = walked_most_is (function_entries x) in
+    let m = walked_most_is (function_symbols x) in
     omega (arith, g, h, m)
 
 -- ---- the first token over a limit
@@ -56,17 +56,18 @@ stopped None p true n = refl
 stopped None p false n = refl
 stopped (Some m) p b n = refl
 
-over_of : (level : ℕ) (xs : List Entry) (q : List Event)
+over_of : (level : ℕ) (xs : List Symbol) (q : List Event)
     → ev.first_over (events level xs q) ≡ earlier (ev.first_over q) (walked_over (number_of q) (count_of q) level xs)
 over_of level [] q = earlier_none (ev.first_over q)
 over_of level (Counted k ∷ xs) q = over_of level xs (ev.Counted ∷ q) ∙ stopped (ev.first_over q) _ (nat_lt 400 (count_of q + 1)) (number_of q)
 over_of level (Uncounted k ∷ xs) q = over_of level xs (ev.Uncounted ∷ q) ∙ passed (ev.first_over q) _
 over_of level (Outside k ∷ xs) q = over_of level xs (ev.Outside ∷ q) ∙ passed (ev.first_over q) _
-over_of level (Opens ∷ xs) q = over_of (level + 1) xs (ev.Opened (level + 1) ∷ q) ∙ stopped (ev.first_over q) _ (nat_lt 400 (level + 1)) (number_of q)
-over_of level (Closes ∷ xs) q = over_of (level - 1) xs q
+over_of level (OpensLevel ∷ xs) q = over_of (level + 1) xs (ev.Opened (level + 1) ∷ q) ∙ stopped (ev.first_over q) _ (nat_lt 400 (level + 1)) (number_of q)
+over_of level (EndsLevel ∷ xs) q = over_of (level - 1) xs q
 
 -- what the grammar finds in a file is the first of its tokens that is over a limit
-pub file_first : (xs : List Top) → IsFirst (old.first_too_many xs) (IsOver (file_entries xs))
+pub file_first : (xs : List Top) → IsFirst (old.first_too_many xs) (IsOver (file_symbols xs))
 file_first xs =
-    let e : events 0 (file_entries xs) [] ≡ file_events xs [] = ap (λ l. events 0 l []) (sym (all_of (file_entries xs))) ∙ (file_spelt xs).counts [] [] in
-    subst (λ o. IsFirst o (IsOver (file_entries xs))) (sym (over_of 0 (file_entries xs) []) ∙ ap ev.first_over e) (walked_first (file_entries xs) (subst (AreNested 0) (all_of (file_entries xs)) ((file_spelt xs).nests [] tt)))
+    let e : events 0 (file_symbols xs) [] ≡ file_events xs [] = ap (λ l. events 0 l []) (sym (all_of (file_symbols xs))) ∙ (file_spelt xs).counts [] [] in
+    let nested = subst (AreNested 0) (all_of (file_symbols xs)) ((file_spelt xs).nests [] tt) in
+    subst (λ o. IsFirst o (IsOver (file_symbols xs))) (sym (over_of 0 (file_symbols xs) []) ∙ ap ev.first_over e) (walked_first (file_symbols xs) nested)

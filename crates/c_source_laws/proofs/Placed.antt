@@ -9,98 +9,98 @@ use Rattle.c_grammar.specs.Statements.{Size, Declarator, Local, Label, ForStart,
 use Rattle.c_grammar.specs.StatementSyntax.{word_end, optional_end, size_end, declarator_end, local_end, label_end, for_start_end, items_end, statement_end, plain_end}
 use Rattle.c_grammar.specs.Files.{Parameter, Parameters, Top, parameter_tokens, parameters_tokens, enumerator_tokens, result_tokens, top_tokens}
 use Rattle.c_grammar.specs.FileSyntax.{parameter_end, parameters_end, enumerator_end, result_end, top_end}
-use Rattle.c_reading_defs.specs.Entries.{Entry, classes_in, behind}
-use Rattle.c_source_laws.proofs.ExpressionEntries.{type_entries, expression_entries, assignment_entries, conditional_entries, binary_entries, target_entries, argument_entries}
-use Rattle.c_source_laws.proofs.StatementEntries.{word_entries, optional_entries, size_entries, declarator_entries, local_entries, label_entries, start_entries, tested_entries, items_entries, statement_entries, body_entries, plain_entries}
-use Rattle.c_source_laws.proofs.FileEntries.{parameter_entries, parameters_entries, enumerator_entries, result_entries, top_entries}
+use Rattle.c_reading_defs.specs.Symbols.{Symbol, classes_in, token_behind}
+use Rattle.c_source_laws.proofs.ExpressionSymbols.{type_symbols, expression_symbols, assignment_symbols, conditional_symbols, binary_symbols, target_symbols, argument_symbols}
+use Rattle.c_source_laws.proofs.StatementSymbols.{word_symbols, optional_symbols, size_symbols, declarator_symbols, local_symbols, label_symbols, start_symbols, tested_symbols, items_symbols, statement_symbols, body_symbols, plain_symbols}
+use Rattle.c_source_laws.proofs.FileSymbols.{parameter_symbols, parameters_symbols, enumerator_symbols, result_symbols, top_symbols}
 use Rattle.c_source_laws.proofs.SourceEnds.{Ends, type_ends, expression_ends, assignment_ends, conditional_ends, binary_ends, target_ends, argument_ends, word_ends, optional_ends, size_ends, declarator_ends, local_ends, label_ends, start_ends, items_ends, tested_ends, statement_ends, plain_ends, enumerator_ends, parameter_ends, parameters_ends, result_ends, top_ends}
 use Rattle.c_source_laws.proofs.Spelt.{Spelt, type_spelt, expression_spelt, assignment_spelt, conditional_spelt, binary_spelt, target_spelt, argument_spelt}
 use Rattle.c_source_laws.proofs.StatementsSpelt.{tested_spelt, items_spelt, word_spelt, optional_spelt, size_spelt, declarator_spelt, local_spelt, label_spelt, start_spelt, statement_spelt, body_spelt, plain_spelt, enumerator_spelt, parameter_spelt, parameters_spelt, result_spelt, top_spelt}
 
 -- here it ends
-abbrev pub Placed : {X : Type 0} → (ℕ → X → ℕ) → X → List Entry → Type 0
-Placed z x xs = (at : ℕ) → z at x ≡ behind at xs
+abbrev pub Placed : {X : Type 0} → (ℕ → X → ℕ) → X → List Symbol → Type 0
+Placed z x xs = (at : ℕ) → z at x ≡ token_behind at xs
 
 none_more : (ks : List Class) → length (ks ++ []) ≡ length ks
 none_more [] = refl
 none_more (k ∷ ks) = let h = none_more ks in omega (arith, h)
 
-placed : {X : Type 0} {k : List Event → List Event} (f : X → List Class → List Class) (z : ℕ → X → ℕ) (x : X) (xs : List Entry) → Ends f z x → Spelt 0 (f x) k xs → Placed z x xs
+placed : {X : Type 0} {k : List Event → List Event} (f : X → List Class → List Class) (z : ℕ → X → ℕ) (x : X) (xs : List Symbol) → Ends f z x → Spelt 0 (f x) k xs → Placed z x xs
 placed {X} {k} f z x xs e s at = let h = e at [] in let n = ap length (s.tokens []) ∙ none_more (classes_in xs) in omega (arith, h, n)
 
-pub type_placed : (n : NumberType) → Placed type_end n (type_entries n)
-type_placed n = placed type_tokens type_end n (type_entries n) (type_ends n) (type_spelt n)
+pub type_placed : (n : NumberType) → Placed type_end n (type_symbols n)
+type_placed n = placed type_tokens type_end n (type_symbols n) (type_ends n) (type_spelt n)
 
-pub expression_placed : (e : Expression) → Placed expression_end e (expression_entries e)
-expression_placed e = placed expression_tokens expression_end e (expression_entries e) (expression_ends e) (expression_spelt e)
+pub expression_placed : (e : Expression) → Placed expression_end e (expression_symbols e)
+expression_placed e = placed expression_tokens expression_end e (expression_symbols e) (expression_ends e) (expression_spelt e)
 
-pub assignment_placed : (a : Assignment) → Placed assignment_end a (assignment_entries a)
-assignment_placed a = placed assignment_tokens assignment_end a (assignment_entries a) (assignment_ends a) (assignment_spelt a)
+pub assignment_placed : (a : Assignment) → Placed assignment_end a (assignment_symbols a)
+assignment_placed a = placed assignment_tokens assignment_end a (assignment_symbols a) (assignment_ends a) (assignment_spelt a)
 
-pub conditional_placed : (d : Conditional) → Placed conditional_end d (conditional_entries d)
-conditional_placed d = placed conditional_tokens conditional_end d (conditional_entries d) (conditional_ends d) (conditional_spelt d)
+pub conditional_placed : (d : Conditional) → Placed conditional_end d (conditional_symbols d)
+conditional_placed d = placed conditional_tokens conditional_end d (conditional_symbols d) (conditional_ends d) (conditional_spelt d)
 
-pub binary_placed : (b : Binary) → Placed binary_end b (binary_entries b)
-binary_placed b = placed binary_tokens binary_end b (binary_entries b) (binary_ends b) (binary_spelt b)
+pub binary_placed : (b : Binary) → Placed binary_end b (binary_symbols b)
+binary_placed b = placed binary_tokens binary_end b (binary_symbols b) (binary_ends b) (binary_spelt b)
 
-pub target_placed : (t : Target) → Placed target_end t (target_entries t)
-target_placed t = placed target_tokens target_end t (target_entries t) (target_ends t) (target_spelt t)
+pub target_placed : (t : Target) → Placed target_end t (target_symbols t)
+target_placed t = placed target_tokens target_end t (target_symbols t) (target_ends t) (target_spelt t)
 
-pub argument_placed : (x : Argument) → Placed argument_end x (argument_entries x)
-argument_placed x = placed argument_tokens argument_end x (argument_entries x) (argument_ends x) (argument_spelt x)
+pub argument_placed : (x : Argument) → Placed argument_end x (argument_symbols x)
+argument_placed x = placed argument_tokens argument_end x (argument_symbols x) (argument_ends x) (argument_spelt x)
 
-pub optional_placed : (o : Option Expression) → Placed optional_end o (optional_entries o)
-optional_placed o = placed optional_tokens optional_end o (optional_entries o) (optional_ends o) (optional_spelt o)
+pub optional_placed : (o : Option Expression) → Placed optional_end o (optional_symbols o)
+optional_placed o = placed optional_tokens optional_end o (optional_symbols o) (optional_ends o) (optional_spelt o)
 
-pub size_placed : (x : Size) → Placed size_end x (size_entries x)
-size_placed x = placed size_tokens size_end x (size_entries x) (size_ends x) (size_spelt x)
+pub size_placed : (x : Size) → Placed size_end x (size_symbols x)
+size_placed x = placed size_tokens size_end x (size_symbols x) (size_ends x) (size_spelt x)
 
-pub declarator_placed : (d : Declarator) → Placed declarator_end d (declarator_entries d)
-declarator_placed d = placed declarator_tokens declarator_end d (declarator_entries d) (declarator_ends d) (declarator_spelt d)
+pub declarator_placed : (d : Declarator) → Placed declarator_end d (declarator_symbols d)
+declarator_placed d = placed declarator_tokens declarator_end d (declarator_symbols d) (declarator_ends d) (declarator_spelt d)
 
-pub local_placed : (x : Local) → Placed local_end x (local_entries x)
-local_placed x = placed local_tokens local_end x (local_entries x) (local_ends x) (local_spelt x)
+pub local_placed : (x : Local) → Placed local_end x (local_symbols x)
+local_placed x = placed local_tokens local_end x (local_symbols x) (local_ends x) (local_spelt x)
 
-pub label_placed : (x : Label) → Placed label_end x (label_entries x)
-label_placed x = placed label_tokens label_end x (label_entries x) (label_ends x) (label_spelt x)
+pub label_placed : (x : Label) → Placed label_end x (label_symbols x)
+label_placed x = placed label_tokens label_end x (label_symbols x) (label_ends x) (label_spelt x)
 
-pub enumerator_placed : (o : Option Conditional) → Placed enumerator_end o (enumerator_entries o)
-enumerator_placed o = placed enumerator_tokens enumerator_end o (enumerator_entries o) (enumerator_ends o) (enumerator_spelt o)
+pub enumerator_placed : (o : Option Conditional) → Placed enumerator_end o (enumerator_symbols o)
+enumerator_placed o = placed enumerator_tokens enumerator_end o (enumerator_symbols o) (enumerator_ends o) (enumerator_spelt o)
 
-pub parameter_placed : (x : Parameter) → Placed parameter_end x (parameter_entries x)
-parameter_placed x = placed parameter_tokens parameter_end x (parameter_entries x) (parameter_ends x) (parameter_spelt x)
+pub parameter_placed : (x : Parameter) → Placed parameter_end x (parameter_symbols x)
+parameter_placed x = placed parameter_tokens parameter_end x (parameter_symbols x) (parameter_ends x) (parameter_spelt x)
 
-pub parameters_placed : (xs : Parameters) → Placed parameters_end xs (parameters_entries xs)
-parameters_placed xs = placed parameters_tokens parameters_end xs (parameters_entries xs) (parameters_ends xs) (parameters_spelt xs)
+pub parameters_placed : (xs : Parameters) → Placed parameters_end xs (parameters_symbols xs)
+parameters_placed xs = placed parameters_tokens parameters_end xs (parameters_symbols xs) (parameters_ends xs) (parameters_spelt xs)
 
-pub result_placed : (o : Option NumberType) → Placed result_end o (result_entries o)
-result_placed o = placed result_tokens result_end o (result_entries o) (result_ends o) (result_spelt o)
+pub result_placed : (o : Option NumberType) → Placed result_end o (result_symbols o)
+result_placed o = placed result_tokens result_end o (result_symbols o) (result_ends o) (result_spelt o)
 
-pub top_placed : (x : Top) → Placed top_end x (top_entries x)
-top_placed x = placed top_tokens top_end x (top_entries x) (top_ends x) (top_spelt x)
+pub top_placed : (x : Top) → Placed top_end x (top_symbols x)
+top_placed x = placed top_tokens top_end x (top_symbols x) (top_ends x) (top_spelt x)
 
-pub word_placed : (k : Class) (given : Bool) → Placed word_end given (word_entries k given)
-word_placed k given = placed (word_tokens k) word_end given (word_entries k given) (word_ends k given) (word_spelt k given)
+pub word_placed : (k : Class) (given : Bool) → Placed word_end given (word_symbols k given)
+word_placed k given = placed (word_tokens k) word_end given (word_symbols k given) (word_ends k given) (word_spelt k given)
 
-pub start_placed : (x : ForStart) → Placed for_start_end x (start_entries x)
-start_placed x = placed for_start_tokens for_start_end x (start_entries x) (start_ends x) (start_spelt x)
+pub start_placed : (x : ForStart) → Placed for_start_end x (start_symbols x)
+start_placed x = placed for_start_tokens for_start_end x (start_symbols x) (start_ends x) (start_spelt x)
 
-pub items_placed : (xs : Items) → Placed items_end xs (items_entries xs)
-items_placed xs = placed items_tokens items_end xs (items_entries xs) (items_ends xs) (items_spelt 0 xs)
+pub items_placed : (xs : Items) → Placed items_end xs (items_symbols xs)
+items_placed xs = placed items_tokens items_end xs (items_symbols xs) (items_ends xs) (items_spelt 0 xs)
 
 -- an expression in brackets, behind a word
 abbrev pub tested_end : ℕ → Expression → ℕ
 tested_end at e = expression_end (at + 1 + 1) e + 1
 
-pub tested_placed : (k : Class) (e : Expression) → Placed tested_end e (tested_entries k e)
-tested_placed k e = placed (λ e r. k ∷ c.Open ∷ expression_tokens e (c.Close ∷ r)) tested_end e (tested_entries k e) (tested_ends k e) (tested_spelt k e)
+pub tested_placed : (k : Class) (e : Expression) → Placed tested_end e (tested_symbols k e)
+tested_placed k e = placed (λ e r. k ∷ c.Open ∷ expression_tokens e (c.Close ∷ r)) tested_end e (tested_symbols k e) (tested_ends k e) (tested_spelt k e)
 
-pub statement_placed : (t : Statement) → Placed statement_end t (statement_entries t)
-statement_placed t = placed statement_tokens statement_end t (statement_entries t) (statement_ends t) (statement_spelt 0 t)
+pub statement_placed : (t : Statement) → Placed statement_end t (statement_symbols t)
+statement_placed t = placed statement_tokens statement_end t (statement_symbols t) (statement_ends t) (statement_spelt 0 t)
 
-pub plain_placed : (x : Plain) → Placed plain_end x (plain_entries x)
-plain_placed x = placed plain_tokens plain_end x (plain_entries x) (plain_ends x) (plain_spelt 0 x)
+pub plain_placed : (x : Plain) → Placed plain_end x (plain_symbols x)
+plain_placed x = placed plain_tokens plain_end x (plain_symbols x) (plain_ends x) (plain_spelt 0 x)
 
 -- as the list of a construct
-pub body_placed : (t : Statement) → Placed statement_end t (body_entries t)
-body_placed t = placed statement_tokens statement_end t (body_entries t) (statement_ends t) (body_spelt 0 t)
+pub body_placed : (t : Statement) → Placed statement_end t (body_symbols t)
+body_placed t = placed statement_tokens statement_end t (body_symbols t) (statement_ends t) (body_spelt 0 t)

@@ -9,9 +9,9 @@ use Rattle.c_grammar.specs.StatementSyntax.{word_end, optional_end, size_end, de
 use Rattle.c_layers.specs.Terms.{At}
 use Rattle.c_layers.specs.Items as s
 use Rattle.reread_parts_laws.specs.WrittenStatements as old
-use Rattle.c_reading_defs.specs.Entries.{behind}
-use Rattle.c_source_laws.proofs.ExpressionEntries.{type_entries, assignment_entries, conditional_entries}
-use Rattle.c_source_laws.proofs.StatementEntries.{word_entries, optional_entries, size_entries, declarator_entries, local_entries, label_entries, start_entries, tested_entries, items_entries, statement_entries, body_entries, plain_entries}
+use Rattle.c_reading_defs.specs.Symbols.{token_behind}
+use Rattle.c_source_laws.proofs.ExpressionSymbols.{type_symbols, assignment_symbols, conditional_symbols}
+use Rattle.c_source_laws.proofs.StatementSymbols.{word_symbols, optional_symbols, size_symbols, declarator_symbols, local_symbols, label_symbols, start_symbols, tested_symbols, items_symbols, statement_symbols, body_symbols, plain_symbols}
 use Rattle.c_source_laws.proofs.SourceTerms.{expression_term, assignment_term}
 use Rattle.c_source_laws.proofs.SourceItems as new
 use Rattle.c_source_laws.proofs.Placed.{type_placed, assignment_placed, word_placed, optional_placed, size_placed, declarator_placed, local_placed, label_placed, start_placed, conditional_placed, tested_end, tested_placed, items_placed, statement_placed, body_placed, plain_placed}
@@ -27,12 +27,12 @@ size_same (Sized d) at at' p =
     let h = conditional_same d (at + 1) (at' + 1) q in
     λ i. s.Sized (At (q i) (h i))
 
-further_values : (xs : List Assignment) (at at' : ℕ) → at ≡ at' → old.further_terms at xs ≡ new.further assignment_entries assignment_term at' xs
+further_values : (xs : List Assignment) (at at' : ℕ) → at ≡ at' → old.further_terms at xs ≡ new.further assignment_symbols assignment_term at' xs
 further_values [] at at' p = refl
 further_values (a ∷ xs) at at' p =
     let q = up at at' p in
     let g = assignment_same a (at + 1) (at' + 1) q in
-    let h = further_values xs (assignment_end (at + 1) a) (behind (at' + 1) (assignment_entries a)) (next assignment_end a (assignment_entries a) (assignment_placed a) (at + 1) (at' + 1) q) in
+    let h = further_values xs (assignment_end (at + 1) a) (token_behind (at' + 1) (assignment_symbols a)) (next assignment_end a (assignment_symbols a) (assignment_placed a) (at + 1) (at' + 1) q) in
     λ i. At (q i) (g i) ∷ h i
 
 initialiser_same : (x : Initialiser) (at at' : ℕ) → at ≡ at' → old.written_initialiser at x ≡ new.initialiser_of at' x
@@ -40,7 +40,7 @@ initialiser_same (OneValue a) at at' p = let g = assignment_same a at at' p in �
 initialiser_same (ValueList a xs trailing) at at' p =
     let q = up at at' p in
     let g = assignment_same a (at + 1) (at' + 1) q in
-    let h = further_values xs (assignment_end (at + 1) a) (behind (at' + 1) (assignment_entries a)) (next assignment_end a (assignment_entries a) (assignment_placed a) (at + 1) (at' + 1) q) in
+    let h = further_values xs (assignment_end (at + 1) a) (token_behind (at' + 1) (assignment_symbols a)) (next assignment_end a (assignment_symbols a) (assignment_placed a) (at + 1) (at' + 1) q) in
     λ i. s.ValueList (At (q i) (g i) ∷ h i)
 
 value_same : (o : Option Initialiser) (at at' : ℕ) → at ≡ at' → old.written_value at o ≡ new.value_of at' o
@@ -51,28 +51,28 @@ declarator_same : (d : Declarator) (at at' : ℕ) → at ≡ at' → old.written
 declarator_same (Declared size value) at at' p =
     let q = up at at' p in
     let g = size_same size (at + 1) (at' + 1) q in
-    let h = value_same value (size_end (at + 1) size) (behind (at' + 1) (size_entries size)) (next size_end size (size_entries size) (size_placed size) (at + 1) (at' + 1) q) in
+    let h = value_same value (size_end (at + 1) size) (token_behind (at' + 1) (size_symbols size)) (next size_end size (size_symbols size) (size_placed size) (at + 1) (at' + 1) q) in
     λ i. record { name = p i; size = g i; value = h i }
 
-further_same : (ds : List Declarator) (at at' : ℕ) → at ≡ at' → old.further_declarators at ds ≡ new.further declarator_entries new.declarator_of at' ds
+further_same : (ds : List Declarator) (at at' : ℕ) → at ≡ at' → old.further_declarators at ds ≡ new.further declarator_symbols new.declarator_of at' ds
 further_same [] at at' p = refl
 further_same (d ∷ ds) at at' p =
     let q = up at at' p in
     let g = declarator_same d (at + 1) (at' + 1) q in
-    let h = further_same ds (declarator_end (at + 1) d) (behind (at' + 1) (declarator_entries d)) (next declarator_end d (declarator_entries d) (declarator_placed d) (at + 1) (at' + 1) q) in
+    let h = further_same ds (declarator_end (at + 1) d) (token_behind (at' + 1) (declarator_symbols d)) (next declarator_end d (declarator_symbols d) (declarator_placed d) (at + 1) (at' + 1) q) in
     λ i. g i ∷ h i
 
 pub declaration_same : (x : Local) (at at' : ℕ) → at ≡ at' → old.written_declaration at x ≡ new.declaration_of at' x
 declaration_same (Locals constant n d ds) at at' p =
     let x = word_end at constant in
-    let x' = behind at' (word_entries c.Const constant) in
+    let x' = token_behind at' (word_symbols c.Const constant) in
     let y = type_end x n in
-    let y' = behind x' (type_entries n) in
-    let q = next word_end constant (word_entries c.Const constant) (word_placed c.Const constant) at at' p in
-    let r = next type_end n (type_entries n) (type_placed n) x x' q in
+    let y' = token_behind x' (type_symbols n) in
+    let q = next word_end constant (word_symbols c.Const constant) (word_placed c.Const constant) at at' p in
+    let r = next type_end n (type_symbols n) (type_placed n) x x' q in
     let f = type_same n x x' q in
     let g = declarator_same d y y' r in
-    let h = further_same ds (declarator_end y d) (behind y' (declarator_entries d)) (next declarator_end d (declarator_entries d) (declarator_placed d) y y' r) in
+    let h = further_same ds (declarator_end y d) (token_behind y' (declarator_symbols d)) (next declarator_end d (declarator_symbols d) (declarator_placed d) y y' r) in
     λ i. record { constant = constant; words = f i; names = g i ∷ h i }
 
 -- ---- statements
@@ -88,7 +88,7 @@ label_same : (x : Label) (at at' : ℕ) → at ≡ at' → old.written_label at 
 label_same NameLabel at at' p = λ i. s.Named (p i) (p i + 1 + 1)
 label_same (CaseLabel d) at at' p =
     let q = up at at' p in
-    let e = past conditional_end d (conditional_entries d) (conditional_placed d) (at + 1) (at' + 1) q in
+    let e = past conditional_end d (conditional_symbols d) (conditional_placed d) (at + 1) (at' + 1) q in
     let h = conditional_same d (at + 1) (at' + 1) q in
     λ i. s.Case (p i) (e i) (At (q i) (h i))
 label_same DefaultLabel at at' p = λ i. s.Default (p i) (p i + 1 + 1)
@@ -101,7 +101,7 @@ start_same (StartValue (Some e)) at at' p = ap s.StartValue (term_same e at at' 
 labels_same : (t : Statement) (at at' : ℕ) → at ≡ at' → old.written_labels at t ≡ new.labels_of at' t
 labels_same (Labelled x t) at at' p =
     let g = label_same x at at' p in
-    let h = labels_same t (label_end at x) (behind at' (label_entries x)) (next label_end x (label_entries x) (label_placed x) at at' p) in
+    let h = labels_same t (label_end at x) (token_behind at' (label_symbols x)) (next label_end x (label_symbols x) (label_placed x) at at' p) in
     λ i. g i ∷ h i
 labels_same (Unlabelled x) at at' p = refl
 
@@ -112,11 +112,11 @@ two at at' p = up (at + 1) (at' + 1) (up at at' p)
 tested_term : (e : Expression) (at at' : ℕ) → at ≡ at' → old.expression_term (at + 1 + 1) e ≡ expression_term (at' + 1 + 1) e
 tested_term e at at' p = term_same e (at + 1 + 1) (at' + 1 + 1) (two at at' p)
 
-tested : (k : Class) (e : Expression) (at at' : ℕ) → at ≡ at' → expression_end (at + 1 + 1) e + 1 ≡ behind at' (tested_entries k e)
-tested k e at at' p = next tested_end e (tested_entries k e) (tested_placed k e) at at' p
+tested : (k : Class) (e : Expression) (at at' : ℕ) → at ≡ at' → expression_end (at + 1 + 1) e + 1 ≡ token_behind at' (tested_symbols k e)
+tested k e at at' p = next tested_end e (tested_symbols k e) (tested_placed k e) at at' p
 
 pub block_same : (xs : Items) (at at' : ℕ) → at ≡ at' → old.written_items (at + 1) xs ≡ new.items_of (at' + 1) xs → old.written_block at xs ≡ new.block_of at' (Braces xs)
-block_same xs at at' p h = let e = past items_end xs (items_entries xs) (items_placed xs) (at + 1) (at' + 1) (up at at' p) in λ i. s.Braces (p i) (e i) (h i)
+block_same xs at at' p h = let e = past items_end xs (items_symbols xs) (items_placed xs) (at + 1) (at' + 1) (up at at' p) in λ i. s.Braces (p i) (e i) (h i)
 
 -- what a block holds
 abbrev body_in : s.Statement → s.Body
@@ -126,39 +126,39 @@ body_in _ = s.Braces 0 0 s.NoItem
 -- a statement without labels, as the list of a construct
 lone_same : (x : Plain) (at at' : ℕ) → at ≡ at' → old.written_plain at x ≡ new.plain_of at' x → old.written_body at (Unlabelled x) ≡ new.body_of at' (Unlabelled x)
 lone_same (Compound (Braces xs)) at at' p h = ap body_in h
-lone_same (Simple None) at at' p h = let e = next plain_end (Simple None) (plain_entries (Simple None)) (plain_placed (Simple None)) at at' p in λ i. s.Lone (p i) (e i) (s.States [] (s.From (p i) (e i) (h i)))
+lone_same (Simple None) at at' p h = let e = next plain_end (Simple None) (plain_symbols (Simple None)) (plain_placed (Simple None)) at at' p in λ i. s.Lone (p i) (e i) (s.States [] (s.From (p i) (e i) (h i)))
 lone_same (Simple (Some t)) at at' p h =
-    let x = Simple (Some t) in let e = next plain_end x (plain_entries x) (plain_placed x) at at' p in λ i. s.Lone (p i) (e i) (s.States [] (s.From (p i) (e i) (h i)))
-lone_same x at at' p h = let e = next plain_end x (plain_entries x) (plain_placed x) at at' p in λ i. s.Lone (p i) (e i) (s.States [] (s.From (p i) (e i) (h i)))
+    let x = Simple (Some t) in let e = next plain_end x (plain_symbols x) (plain_placed x) at at' p in λ i. s.Lone (p i) (e i) (s.States [] (s.From (p i) (e i) (h i)))
+lone_same x at at' p h = let e = next plain_end x (plain_symbols x) (plain_placed x) at at' p in λ i. s.Lone (p i) (e i) (s.States [] (s.From (p i) (e i) (h i)))
 
 mutual
   pub items_same : (xs : Items) (at at' : ℕ) → at ≡ at' → old.written_items at xs ≡ new.items_of at' xs
   items_same NoItems at at' p = refl
   items_same (LocalItem x xs) at at' p =
-      let e = next local_end x (local_entries x) (local_placed x) at at' p in
+      let e = next local_end x (local_symbols x) (local_placed x) at at' p in
       let g = declaration_same x at at' p in
-      let h = items_same xs (local_end at x) (behind at' (local_entries x)) e in
+      let h = items_same xs (local_end at x) (token_behind at' (local_symbols x)) e in
       λ i. s.Then (s.Declares (p i) (e i) (g i)) (h i)
   items_same (StatementItem t xs) at at' p =
-      let e = next statement_end t (statement_entries t) (statement_placed t) at at' p in
+      let e = next statement_end t (statement_symbols t) (statement_placed t) at at' p in
       let f = labels_same t at at' p in
       let g = statement_same t at at' p in
-      let h = items_same xs (statement_end at t) (behind at' (statement_entries t)) e in
+      let h = items_same xs (statement_end at t) (token_behind at' (statement_symbols t)) e in
       λ i. s.Then (s.States (f i) (g i)) (h i)
 
   statement_same : (t : Statement) (at at' : ℕ) → at ≡ at' → old.behind_labels at t ≡ new.statement_of at' t
-  statement_same (Labelled x t) at at' p = statement_same t (label_end at x) (behind at' (label_entries x)) (next label_end x (label_entries x) (label_placed x) at at' p)
+  statement_same (Labelled x t) at at' p = statement_same t (label_end at x) (token_behind at' (label_symbols x)) (next label_end x (label_symbols x) (label_placed x) at at' p)
   statement_same (Unlabelled x) at at' p =
-      let e = next plain_end x (plain_entries x) (plain_placed x) at at' p in
+      let e = next plain_end x (plain_symbols x) (plain_placed x) at at' p in
       let h = plain_same x at at' p in
       λ i. s.From (p i) (e i) (h i)
 
   body_same : (t : Statement) (at at' : ℕ) → at ≡ at' → old.written_body at t ≡ new.body_of at' t
   body_same (Labelled x t) at at' p =
       let y = label_end at x in
-      let y' = behind at' (label_entries x) in
-      let d = next label_end x (label_entries x) (label_placed x) at at' p in
-      let e = next statement_end (Labelled x t) (statement_entries (Labelled x t)) (statement_placed (Labelled x t)) at at' p in
+      let y' = token_behind at' (label_symbols x) in
+      let d = next label_end x (label_symbols x) (label_placed x) at at' p in
+      let e = next statement_end (Labelled x t) (statement_symbols (Labelled x t)) (statement_placed (Labelled x t)) at at' p in
       let f = label_same x at at' p in
       let g = labels_same t y y' d in
       let h = statement_same t y y' d in
@@ -171,43 +171,43 @@ mutual
   plain_same (Simple (Some e)) at at' p = ap s.Evaluate (term_same e at at' p)
   plain_same (If e t) at at' p =
       let g = tested_term e at at' p in
-      let h = body_same t (expression_end (at + 1 + 1) e + 1) (behind at' (tested_entries c.If e)) (tested c.If e at at' p) in
+      let h = body_same t (expression_end (at + 1 + 1) e + 1) (token_behind at' (tested_symbols c.If e)) (tested c.If e at at' p) in
       λ i. s.If (g i) (h i)
   plain_same (IfElse e t u) at at' p =
       let x = expression_end (at + 1 + 1) e + 1 in
-      let x' = behind at' (tested_entries c.If e) in
+      let x' = token_behind at' (tested_symbols c.If e) in
       let q = tested c.If e at at' p in
       let f = tested_term e at at' p in
       let g = body_same t x x' q in
-      let h = body_same u (statement_end x t + 1) (behind x' (body_entries t) + 1) (past statement_end t (body_entries t) (body_placed t) x x' q) in
+      let h = body_same u (statement_end x t + 1) (token_behind x' (body_symbols t) + 1) (past statement_end t (body_symbols t) (body_placed t) x x' q) in
       λ i. s.IfElse (f i) (g i) (h i)
   plain_same (While e t) at at' p =
       let g = tested_term e at at' p in
-      let h = body_same t (expression_end (at + 1 + 1) e + 1) (behind at' (tested_entries c.While e)) (tested c.While e at at' p) in
+      let h = body_same t (expression_end (at + 1 + 1) e + 1) (token_behind at' (tested_symbols c.While e)) (tested c.While e at at' p) in
       λ i. s.While (g i) (h i)
   plain_same (DoWhile t e) at at' p =
       let x = statement_end (at + 1) t + 1 in
-      let x' = behind (at' + 1) (body_entries t) + 1 in
-      let q = past statement_end t (body_entries t) (body_placed t) (at + 1) (at' + 1) (up at at' p) in
+      let x' = token_behind (at' + 1) (body_symbols t) + 1 in
+      let q = past statement_end t (body_symbols t) (body_placed t) (at + 1) (at' + 1) (up at at' p) in
       let g = body_same t (at + 1) (at' + 1) (up at at' p) in
       let h = term_same e (x + 1) (x' + 1) (up x x' q) in
       λ i. s.DoWhile (g i) (h i)
   plain_same (For f t u b) at at' p =
       let x = for_start_end (at + 1 + 1) f in
-      let x' = behind (at' + 1 + 1) (start_entries f) in
+      let x' = token_behind (at' + 1 + 1) (start_symbols f) in
       let y = optional_end x t + 1 in
-      let y' = behind x' (optional_entries t) + 1 in
+      let y' = token_behind x' (optional_symbols t) + 1 in
       let o = two at at' p in
-      let q = next for_start_end f (start_entries f) (start_placed f) (at + 1 + 1) (at' + 1 + 1) o in
-      let r = past optional_end t (optional_entries t) (optional_placed t) x x' q in
+      let q = next for_start_end f (start_symbols f) (start_placed f) (at + 1 + 1) (at' + 1 + 1) o in
+      let r = past optional_end t (optional_symbols t) (optional_placed t) x x' q in
       let d = start_same f (at + 1 + 1) (at' + 1 + 1) o in
       let e = optional_same t x x' q in
       let g = optional_same u y y' r in
-      let h = body_same b (optional_end y u + 1) (behind y' (optional_entries u) + 1) (past optional_end u (optional_entries u) (optional_placed u) y y' r) in
+      let h = body_same b (optional_end y u + 1) (token_behind y' (optional_symbols u) + 1) (past optional_end u (optional_symbols u) (optional_placed u) y y' r) in
       λ i. s.For (d i) (e i) (g i) (h i)
   plain_same (Switch e t) at at' p =
       let g = tested_term e at at' p in
-      let h = body_same t (expression_end (at + 1 + 1) e + 1) (behind at' (tested_entries c.Switch e)) (tested c.Switch e at at' p) in
+      let h = body_same t (expression_end (at + 1 + 1) e + 1) (token_behind at' (tested_symbols c.Switch e)) (tested c.Switch e at at' p) in
       λ i. s.Switch (g i) (h i)
   plain_same Goto at at' p = λ i. s.Goto (p i + 1)
   plain_same Break at at' p = refl

@@ -14,10 +14,10 @@ use Rattle.reread_parts_laws.proofs.FileSources.{file_writes}
 use Rattle.c_source_laws.specs.Classed.{IsClassed}
 use Rattle.c_source_laws.proofs.Numbered.{Along}
 use Rattle.c_source_laws.proofs.Weights.{IsWeighed}
-use Rattle.c_reading_defs.specs.Entries.{Entry, IsOver}
+use Rattle.c_reading_defs.specs.Symbols.{Symbol, IsOver}
 use Rattle.c_reading_defs.specs.DerivedTops.{IsFile}
 use Rattle.c_reading_defs.specs.Derivations.{with_end, DeriveFile, Viable, IsUnexpected, IsTooMany}
-use Rattle.c_source_laws.proofs.FileEntries.{file_entries}
+use Rattle.c_source_laws.proofs.FileSymbols.{file_symbols}
 use Rattle.c_source_laws.proofs.SourceTops.{tops_of}
 use Rattle.c_source_laws.proofs.StatementsSpelt.{file_spelt}
 use Rattle.c_source_laws.proofs.WalkedLimits.{IsFirst, none_is, is_none, none_before, is_before, first_is, is_first}
@@ -31,11 +31,11 @@ use Rattle.c_source_laws.proofs.TopsDerived.{file_given}
 sources : (word : ℕ → List ℕ) (file : List g.Top) (r : List Class) → FitsFile file → Along IsClassed word 0 (file_tokens file r) → Along IsWeighed word 0 (file_tokens file r) → file_of word (file_node file) ≡ tops_of 0 file
 sources word file r f s w = file_writes word file (file_keywords word file 0 r s) ∙ tops_same word file 0 0 r refl f w
 
-spelt : (file : List g.Top) → file_tokens file (c.End ∷ []) ≡ with_end (file_entries file)
+spelt : (file : List g.Top) → file_tokens file (c.End ∷ []) ≡ with_end (file_symbols file)
 spelt file = (file_spelt file).tokens (c.End ∷ [])
 
-first_along : (file : List g.Top) (xs : List Entry) → file_entries file ≡ xs → IsFirst (old.first_too_many file) (IsOver xs)
-first_along file xs e = subst (λ (l : List Entry). IsFirst (old.first_too_many file) (IsOver l)) e (file_first file)
+first_along : (file : List g.Top) (xs : List Symbol) → file_symbols file ≡ xs → IsFirst (old.first_too_many file) (IsOver xs)
+first_along file xs e = subst (λ (l : List Symbol). IsFirst (old.first_too_many file) (IsOver l)) e (file_first file)
 
 -- ---- derivations
 
@@ -45,10 +45,10 @@ module _ (word : ℕ → List ℕ) (tokens : List Class) (classed : Along IsClas
 
   pub derives_file : (x : Syntax) → Derives tokens x → DeriveFile tokens (file_of word x)
   derives_file x d = record {
-    entries = file_entries (d.file);
-    derives = subst (IsFile 0 (file_entries (d.file))) (sym (ap (file_of word) (d.syntax_of) ∙ writes (d.file) (d.formed) (d.spelled))) (file_derives (d.file) 0 (d.formed));
+    symbols = file_symbols (d.file);
+    derives = subst (IsFile 0 (file_symbols (d.file))) (sym (ap (file_of word) (d.syntax_of) ∙ writes (d.file) (d.formed) (d.spelled))) (file_derives (d.file) 0 (d.formed));
     spelled = sym (spelt (d.file)) ∙ d.spelled;
-    within = none_is _ (IsOver (file_entries (d.file))) (file_first (d.file)) (d.within);
+    within = none_is _ (IsOver (file_symbols (d.file))) (file_first (d.file)) (d.within);
   }
 
   -- a syntax that writes this file
@@ -59,31 +59,31 @@ module _ (word : ℕ → List ℕ) (tokens : List Class) (classed : Along IsClas
 
   pub syntax_given : (file : List Top) → DeriveFile tokens file → SyntaxOf file
   syntax_given file d =
-      let h = file_given 0 (d.entries) file (d.derives) in
-      let e = spelt (h.d) ∙ ap with_end (h.entries) ∙ d.spelled in
-      let o = first_along (h.d) (d.entries) (h.entries) in
+      let h = file_given 0 (d.symbols) file (d.derives) in
+      let e = spelt (h.d) ∙ ap with_end (h.symbols) ∙ d.spelled in
+      let o = first_along (h.d) (d.symbols) (h.symbols) in
       record {
         syntax_of = file_node (h.d);
-        derives = record { file = h.d; formed = h.fits; spelled = e; syntax_of = refl; within = is_none _ (IsOver (d.entries)) o (d.within) };
+        derives = record { file = h.d; formed = h.fits; spelled = e; syntax_of = refl; within = is_none _ (IsOver (d.symbols)) o (d.within) };
         writes = writes (h.d) (h.fits) e ∙ h.written;
       }
 
 -- ---- faults
 
 abbrev viable_given : (tokens : List Class) → old.Viable tokens → Viable tokens
-viable_given tokens v = record { entries = file_entries (v.file); file = tops_of 0 (v.file); derives = file_derives (v.file) 0 (v.formed); more = v.more; begins = sym (spelt (v.file)) ∙ v.begins }
+viable_given tokens v = record { symbols = file_symbols (v.file); file = tops_of 0 (v.file); derives = file_derives (v.file) 0 (v.formed); more = v.more; begins = sym (spelt (v.file)) ∙ v.begins }
 
 -- a derivation of the grammar that is over a limit at the same token first
 record ViableBack (tokens : List Class) (v : Viable tokens) : Type 0 where
   is : old.Viable tokens
-  over : IsFirst (old.first_too_many (is.file)) (IsOver (v.entries))
+  over : IsFirst (old.first_too_many (is.file)) (IsOver (v.symbols))
 
 viable_back : (tokens : List Class) (v : Viable tokens) → ViableBack tokens v
 viable_back tokens v =
-    let h = file_given 0 (v.entries) (v.file) (v.derives) in
+    let h = file_given 0 (v.symbols) (v.file) (v.derives) in
     record {
-      is = record { file = h.d; more = v.more; formed = h.fits; begins = spelt (h.d) ∙ ap with_end (h.entries) ∙ v.begins };
-      over = first_along (h.d) (v.entries) (h.entries);
+      is = record { file = h.d; more = v.more; formed = h.fits; begins = spelt (h.d) ∙ ap with_end (h.symbols) ∙ v.begins };
+      over = first_along (h.d) (v.symbols) (h.symbols);
     }
 
 pub unexpected_given : (tokens : List Class) (k : ℕ) → old.IsUnexpected tokens k → IsUnexpected tokens k
@@ -95,7 +95,7 @@ unexpected_given tokens k u = record {
   place = u.place;
   viable = viable_given (u.front) (u.viable);
   none = λ v. u.none ((viable_back (u.front ++ u.token ∷ []) v).is);
-  within = λ v. let b = viable_back (u.front) v in none_before _ (IsOver (v.entries)) k (b.over) (u.within (b.is));
+  within = λ v. let b = viable_back (u.front) v in none_before _ (IsOver (v.symbols)) k (b.over) (u.within (b.is));
 }
 
 pub unexpected_back : (tokens : List Class) (k : ℕ) → IsUnexpected tokens k → old.IsUnexpected tokens k
@@ -107,7 +107,7 @@ unexpected_back tokens k u = record {
   place = u.place;
   viable = (viable_back (u.front) (u.viable)).is;
   none = λ v. u.none (viable_given (u.front ++ u.token ∷ []) v);
-  within = λ v. is_before _ (IsOver (file_entries (v.file))) k (file_first (v.file)) (u.within (viable_given (u.front) v));
+  within = λ v. is_before _ (IsOver (file_symbols (v.file))) k (file_first (v.file)) (u.within (viable_given (u.front) v));
 }
 
 pub too_many_given : (tokens : List Class) (k : ℕ) → old.IsTooMany tokens k → IsTooMany tokens k
@@ -118,8 +118,8 @@ too_many_given tokens k u = record {
   split = u.split;
   place = u.place;
   viable = viable_given (u.front ++ u.token ∷ []) (u.viable);
-  over = λ v. let b = viable_back (u.front ++ u.token ∷ []) v in (first_is _ (IsOver (v.entries)) k (b.over) (u.over (b.is))).0;
-  first = λ v. let b = viable_back (u.front ++ u.token ∷ []) v in (first_is _ (IsOver (v.entries)) k (b.over) (u.over (b.is))).1;
+  over = λ v. let b = viable_back (u.front ++ u.token ∷ []) v in (first_is _ (IsOver (v.symbols)) k (b.over) (u.over (b.is))).0;
+  first = λ v. let b = viable_back (u.front ++ u.token ∷ []) v in (first_is _ (IsOver (v.symbols)) k (b.over) (u.over (b.is))).1;
 }
 
 pub too_many_back : (tokens : List Class) (k : ℕ) → IsTooMany tokens k → old.IsTooMany tokens k
@@ -130,5 +130,5 @@ too_many_back tokens k u = record {
   split = u.split;
   place = u.place;
   viable = (viable_back (u.front ++ u.token ∷ []) (u.viable)).is;
-  over = λ v. let w = viable_given (u.front ++ u.token ∷ []) v in is_first _ (IsOver (w.entries)) k (file_first (v.file)) (u.over w, u.first w);
+  over = λ v. let w = viable_given (u.front ++ u.token ∷ []) v in is_first _ (IsOver (w.symbols)) k (file_first (v.file)) (u.over w, u.first w);
 }

@@ -1,5 +1,5 @@
--- What the limits count, told by a walk over the entries with a state, as the events of tokens tell it; and that the places of
--- the entries tell the same.
+-- What the limits count, told by a walk over the symbols with a state, as the events of tokens tell it; and that the places of
+-- the symbols tell the same.
 use Rattle.std.proofs.Common.{◌≡◌, ◌<◌, ◌≤◌, ◌⊎◌, inl, inr, ◌+◌, ◌-◌, ℕ, Bool, true, false, cond, nat_lt, max, List, [], ◌∷◌, ◌++◌, length, reverse, Option, Some, None, refl, sym, ap, subst, ◌∙◌, append-nil, append_assoc, arith}
 use Rattle.std.proofs.lemmas.Bool.{ltb-true, ltb-false}
 use Rattle.std.specs.Prelude.{count_by}
@@ -7,21 +7,21 @@ use Rattle.std.proofs.lemmas.List.{reverse-append}
 use Rattle.std.proofs.lemmas.List.Sums.{sum_by-append}
 use Rattle.c_grammar.specs.Derives.{NotBefore}
 use Rattle.c_reading_defs.specs.Behind.{SomeBehind}
-use Rattle.c_reading_defs.specs.Entries.{Entry, Counted, Uncounted, Outside, Opens, Closes, classes_in, limit, counted, most_counted, opens_level, ends_level, levels, IsOver}
+use Rattle.c_reading_defs.specs.Symbols.{Symbol, Counted, Uncounted, Outside, OpensLevel, EndsLevel, classes_in, limit, counted, most_counted, opens_level, ends_level, levels, IsOver}
 use Rattle.c_source_laws.proofs.Spelt.{AreNested}
 
--- The number of the first token that opens a level or counts past the limit. In front of these entries stand so many tokens,
+-- The number of the first token that opens a level or counts past the limit. In front of these symbols stand so many tokens,
 -- so many count in the full expression that is open there, and so many levels are open.
-abbrev pub walked_over : ℕ → ℕ → ℕ → List Entry → Option ℕ
+abbrev pub walked_over : ℕ → ℕ → ℕ → List Symbol → Option ℕ
 walked_over at count level [] = None
 walked_over at count level (Counted k ∷ xs) = cond (nat_lt limit (count + 1)) (Some at) (walked_over (at + 1) (count + 1) level xs)
 walked_over at count level (Uncounted k ∷ xs) = walked_over (at + 1) count level xs
 walked_over at count level (Outside k ∷ xs) = walked_over (at + 1) 0 level xs
-walked_over at count level (Opens ∷ xs) = cond (nat_lt limit (level + 1)) (Some at) (walked_over at count (level + 1) xs)
-walked_over at count level (Closes ∷ xs) = walked_over at count (level - 1) xs
+walked_over at count level (OpensLevel ∷ xs) = cond (nat_lt limit (level + 1)) (Some at) (walked_over at count (level + 1) xs)
+walked_over at count level (EndsLevel ∷ xs) = walked_over at count (level - 1) xs
 
 -- the most tokens that count in one full expression, where so many do in front of these
-abbrev pub walked_most : ℕ → List Entry → ℕ
+abbrev pub walked_most : ℕ → List Symbol → ℕ
 walked_most count [] = 0
 walked_most count (Counted k ∷ xs) = max (count + 1) (walked_most (count + 1) xs)
 walked_most count (Outside k ∷ xs) = walked_most 0 xs
@@ -29,41 +29,41 @@ walked_most count (_ ∷ xs) = walked_most count xs
 
 -- ---- the most that count
 
-counted_low : (xs : List Entry) → counted xs ≤ most_counted xs
+counted_low : (xs : List Symbol) → counted xs ≤ most_counted xs
 counted_low [] = omega arith
 counted_low (x ∷ xs) = omega arith
 
-most_from : (count : ℕ) (xs : List Entry) → max count (walked_most count xs) ≡ max (count + counted xs) (most_counted xs)
+most_from : (count : ℕ) (xs : List Symbol) → max count (walked_most count xs) ≡ max (count + counted xs) (most_counted xs)
 most_from count [] = omega arith
 most_from count (Counted k ∷ xs) = let h = most_from (count + 1) xs in omega (arith, h)
 most_from count (Uncounted k ∷ xs) = let h = most_from count xs in omega (arith, h)
 most_from count (Outside k ∷ xs) = let h = most_from 0 xs in let l = counted_low xs in omega (arith, h, l)
-most_from count (Opens ∷ xs) = let h = most_from count xs in omega (arith, h)
-most_from count (Closes ∷ xs) = let h = most_from count xs in omega (arith, h)
+most_from count (OpensLevel ∷ xs) = let h = most_from count xs in omega (arith, h)
+most_from count (EndsLevel ∷ xs) = let h = most_from count xs in omega (arith, h)
 
-pub walked_most_is : (xs : List Entry) → walked_most 0 xs ≡ most_counted xs
+pub walked_most_is : (xs : List Symbol) → walked_most 0 xs ≡ most_counted xs
 walked_most_is xs = let h = most_from 0 xs in let l = counted_low xs in omega (arith, h, l)
 
 -- ---- the numbers of tokens
 
-abbrev number : List Entry → ℕ
+abbrev number : List Symbol → ℕ
 number xs = length (classes_in xs)
 
-abbrev has_token : Entry → ℕ
+abbrev has_token : Symbol → ℕ
 has_token (Counted k) = 1
 has_token (Uncounted k) = 1
 has_token (Outside k) = 1
-has_token Opens = 0
-has_token Closes = 0
+has_token OpensLevel = 0
+has_token EndsLevel = 0
 
-number_one : (x : Entry) (xs : List Entry) → number (x ∷ xs) ≡ has_token x + number xs
+number_one : (x : Symbol) (xs : List Symbol) → number (x ∷ xs) ≡ has_token x + number xs
 number_one (Counted k) xs = omega arith
 number_one (Uncounted k) xs = omega arith
 number_one (Outside k) xs = omega arith
-number_one Opens xs = omega arith
-number_one Closes xs = omega arith
+number_one OpensLevel xs = omega arith
+number_one EndsLevel xs = omega arith
 
-number_both : (xs ys : List Entry) → number (xs ++ ys) ≡ number xs + number ys
+number_both : (xs ys : List Symbol) → number (xs ++ ys) ≡ number xs + number ys
 number_both [] ys = omega arith
 number_both (x ∷ xs) ys =
     let h = number_both xs ys in
@@ -71,62 +71,64 @@ number_both (x ∷ xs) ys =
     let g = number_one x xs in
     omega (arith, f, g, h)
 
--- ---- the levels, by the entries in front with the last first
+-- ---- the levels, by the symbols in front with the last first
 
-abbrev levels_back : List Entry → ℕ
+abbrev levels_back : List Symbol → ℕ
 levels_back [] = 0
-levels_back (Opens ∷ q) = levels_back q + 1
-levels_back (Closes ∷ q) = levels_back q - 1
+levels_back (OpensLevel ∷ q) = levels_back q + 1
+levels_back (EndsLevel ∷ q) = levels_back q - 1
 levels_back (_ ∷ q) = levels_back q
 
-nested_more : (x : Entry) (q xs : List Entry) → AreNested (levels_back q) (x ∷ xs) → AreNested (levels_back (x ∷ q)) xs
+nested_more : (x : Symbol) (q xs : List Symbol) → AreNested (levels_back q) (x ∷ xs) → AreNested (levels_back (x ∷ q)) xs
 nested_more (Counted k) q xs n = n
 nested_more (Uncounted k) q xs n = n
 nested_more (Outside k) q xs n = n
-nested_more Opens q xs n = n
-nested_more Closes q xs n = n.1
+nested_more OpensLevel q xs n = n
+nested_more EndsLevel q xs n = n.1
 
 -- so many were opened as have ended and are open
-abbrev AreOpen : List Entry → ℕ → Type 0
+abbrev AreOpen : List Symbol → ℕ → Type 0
 AreOpen front n = count_by opens_level front ≡ count_by ends_level front + n
 
-open_more : (x : Entry) (front q xs : List Entry) → AreNested (levels_back q) (x ∷ xs) → AreOpen front (levels_back q) → AreOpen (front ++ x ∷ []) (levels_back (x ∷ q))
+open_more : (x : Symbol) (front q xs : List Symbol) → AreNested (levels_back q) (x ∷ xs) → AreOpen front (levels_back q)
+    → AreOpen (front ++ x ∷ []) (levels_back (x ∷ q))
 open_more x front q xs n h =
     let o = counted_last opens_level front x in
     let c = counted_last ends_level front x in
     by x n (omega (arith, o, h)) c
   where
-    counted_last : (p : Entry → Bool) (front : List Entry) (x : Entry) → count_by p (front ++ x ∷ []) ≡ count_by p front + cond (p x) 1 0
-    counted_last p front x = let e = sum_by-append (λ (x : Entry). cond {A = ℕ} (p x) 1 0) front (x ∷ []) in omega (arith, e)
+    counted_last : (p : Symbol → Bool) (front : List Symbol) (x : Symbol) → count_by p (front ++ x ∷ []) ≡ count_by p front + cond (p x) 1 0
+    counted_last p front x = let e = sum_by-append (λ (x : Symbol). cond {A = ℕ} (p x) 1 0) front (x ∷ []) in omega (arith, e)
 
-    by : (x : Entry) → AreNested (levels_back q) (x ∷ xs) → count_by opens_level (front ++ x ∷ []) ≡ count_by ends_level front + levels_back q + cond (opens_level x) 1 0
+    by : (x : Symbol) → AreNested (levels_back q) (x ∷ xs)
+        → count_by opens_level (front ++ x ∷ []) ≡ count_by ends_level front + levels_back q + cond (opens_level x) 1 0
         → count_by ends_level (front ++ x ∷ []) ≡ count_by ends_level front + cond (ends_level x) 1 0 → AreOpen (front ++ x ∷ []) (levels_back (x ∷ q))
     by (Counted k) n o c = omega (arith, o, c)
     by (Uncounted k) n o c = omega (arith, o, c)
     by (Outside k) n o c = omega (arith, o, c)
-    by Opens n o c = omega (arith, o, c)
-    by Closes n o c = let l = n.0 in omega (arith, o, c, l)
+    by OpensLevel n o c = omega (arith, o, c)
+    by EndsLevel n o c = let l = n.0 in omega (arith, o, c, l)
 
 -- ---- those that are past a limit
 
-abbrev Past : List Entry → Type 0
+abbrev Past : List Symbol → Type 0
 Past q = (limit < counted q) ⊎ (limit < levels_back q)
 
-abbrev OverBehind : List Entry → List Entry → ℕ → Type 0
+abbrev OverBehind : List Symbol → List Symbol → ℕ → Type 0
 OverBehind q [] k = ⊥
 OverBehind q (x ∷ xs) k = ((number q ≡ k) × Past (x ∷ q)) ⊎ OverBehind (x ∷ q) xs k
 
-later : (q xs : List Entry) (k : ℕ) → OverBehind q xs k → number q ≤ k
+later : (q xs : List Symbol) (k : ℕ) → OverBehind q xs k → number q ≤ k
 later q [] k h = absurd h
 later q (x ∷ xs) k (inl h) = let e = h.0 in omega (arith, e)
 later q (x ∷ xs) k (inr h) = let l = later (x ∷ q) xs k h in let n = number_one x q in omega (arith, l, n)
 
-record IsBack (front q : List Entry) : Type 0 where
+record IsBack (front q : List Symbol) : Type 0 where
   same : reverse front ≡ q
   numbers : number front ≡ number q
   open_there : AreOpen front (levels_back q)
 
-back_more : (front q : List Entry) (x : Entry) (xs : List Entry) → AreNested (levels_back q) (x ∷ xs) → IsBack front q → IsBack (front ++ x ∷ []) (x ∷ q)
+back_more : (front q : List Symbol) (x : Symbol) (xs : List Symbol) → AreNested (levels_back q) (x ∷ xs) → IsBack front q → IsBack (front ++ x ∷ []) (x ∷ q)
 back_more front q x xs i b =
     let n = b.numbers in
     let f = number_both front (x ∷ []) in
@@ -138,33 +140,34 @@ back_more front q x xs i b =
       open_there = open_more x front q xs i (b.open_there);
     }
 
-abbrev PastAt : List Entry → Entry → Type 0
+abbrev PastAt : List Symbol → Symbol → Type 0
 PastAt front x = (limit < counted (x ∷ reverse front)) ⊎ (limit < levels (front ++ x ∷ []))
 
-past_back : (front q : List Entry) (x : Entry) → IsBack front q → IsBack (front ++ x ∷ []) (x ∷ q) → PastAt front x → Past (x ∷ q)
+past_back : (front q : List Symbol) (x : Symbol) → IsBack front q → IsBack (front ++ x ∷ []) (x ∷ q) → PastAt front x → Past (x ∷ q)
 past_back front q x b m (inl h) = inl (subst (λ l. limit < counted (x ∷ l)) (b.same) h)
 past_back front q x b m (inr h) = inr (let e = m.open_there in omega (arith, h, e))
 
-past_at : (front q : List Entry) (x : Entry) → IsBack front q → IsBack (front ++ x ∷ []) (x ∷ q) → Past (x ∷ q) → PastAt front x
+past_at : (front q : List Symbol) (x : Symbol) → IsBack front q → IsBack (front ++ x ∷ []) (x ∷ q) → Past (x ∷ q) → PastAt front x
 past_at front q x b m (inl h) = inl (subst (λ l. limit < counted (x ∷ l)) (sym (b.same)) h)
 past_at front q x b m (inr h) = inr (let e = m.open_there in omega (arith, h, e))
 
-abbrev Is : ℕ → List Entry → Entry → Type 0
+abbrev Is : ℕ → List Symbol → Symbol → Type 0
 Is k front x = (number front ≡ k) × PastAt front x
 
-abbrev FrontsOf : (k : ℕ) → List Entry → (List Entry → List Entry) → Type 0
+abbrev FrontsOf : (k : ℕ) → List Symbol → (List Symbol → List Symbol) → Type 0
 FrontsOf k xs f = SomeBehind (λ before. Is k (f before)) xs
 
 -- one more stands in front
-further : (k : ℕ) (front : List Entry) (x : Entry) (xs : List Entry)
+further : (k : ℕ) (front : List Symbol) (x : Symbol) (xs : List Symbol)
     → FrontsOf k xs (λ before. front ++ x ∷ before) → FrontsOf k xs (λ before. (front ++ x ∷ []) ++ before)
 further k front x xs h = subst (FrontsOf k xs) (λ i. λ before. sym (append_assoc front (x ∷ []) before) i) h
 
-back : (k : ℕ) (front : List Entry) (x : Entry) (xs : List Entry)
+back : (k : ℕ) (front : List Symbol) (x : Symbol) (xs : List Symbol)
     → FrontsOf k xs (λ before. (front ++ x ∷ []) ++ before) → FrontsOf k xs (λ before. front ++ x ∷ before)
 back k front x xs h = subst (FrontsOf k xs) (λ i. λ before. append_assoc front (x ∷ []) before i) h
 
-to_behind : (k : ℕ) (front q xs : List Entry) → AreNested (levels_back q) xs → IsBack front q → SomeBehind (λ before. Is k (front ++ before)) xs → OverBehind q xs k
+to_behind : (k : ℕ) (front q xs : List Symbol) → AreNested (levels_back q) xs → IsBack front q
+    → SomeBehind (λ before. Is k (front ++ before)) xs → OverBehind q xs k
 to_behind k front q [] i b h = h
 to_behind k front q (x ∷ xs) i b (inl h) =
     let e = append-nil front in
@@ -174,7 +177,8 @@ to_behind k front q (x ∷ xs) i b (inl h) =
 to_behind k front q (x ∷ xs) i b (inr h) =
     inr (to_behind k (front ++ x ∷ []) (x ∷ q) xs (nested_more x q xs i) (back_more front q x xs i b) (further k front x xs h))
 
-from_behind : (k : ℕ) (front q xs : List Entry) → AreNested (levels_back q) xs → IsBack front q → OverBehind q xs k → SomeBehind (λ before. Is k (front ++ before)) xs
+from_behind : (k : ℕ) (front q xs : List Symbol) → AreNested (levels_back q) xs → IsBack front q
+    → OverBehind q xs k → SomeBehind (λ before. Is k (front ++ before)) xs
 from_behind k front q [] i b h = h
 from_behind k front q (x ∷ xs) i b (inl h) =
     let e = sym (append-nil front) in
@@ -195,7 +199,7 @@ first_as : (o : Option ℕ) (P Q : ℕ → Type 0) → ((k : ℕ) → P k → Q 
 first_as None P Q f g h = λ k q. h k (g k q)
 first_as (Some n) P Q f g h = (f n (h.0), λ k l q. h.1 k l (g k q))
 
-passed : (o : Option ℕ) (x : Entry) (q xs : List Entry) → counted (x ∷ q) ≤ limit → levels_back (x ∷ q) ≤ limit
+passed : (o : Option ℕ) (x : Symbol) (q xs : List Symbol) → counted (x ∷ q) ≤ limit → levels_back (x ∷ q) ≤ limit
     → IsFirst o (OverBehind (x ∷ q) xs) → IsFirst o (OverBehind q (x ∷ xs))
 passed o x q xs c l = first_as o _ _ (λ k h. inr h) (λ k h. go k h)
   where
@@ -204,7 +208,7 @@ passed o x q xs c l = first_as o _ _ (λ k h. inr h) (λ k h. go k h)
     go k (inl (e, inr h)) = absurd (omega (arith, h, l))
     go k (inr h) = h
 
-reached : (x : Entry) (q xs : List Entry) (at : ℕ) → at ≡ number q → Past (x ∷ q) → IsFirst (Some at) (OverBehind q (x ∷ xs))
+reached : (x : Symbol) (q xs : List Symbol) (at : ℕ) → at ≡ number q → Past (x ∷ q) → IsFirst (Some at) (OverBehind q (x ∷ xs))
 reached x q xs at e p = (inl (sym e, p), λ k l h. let m = later q (x ∷ xs) k h in absurd (omega (arith, l, m, e)))
 
 by_limit : (n at : ℕ) (o : Option ℕ) (P : ℕ → Type 0) → (limit < n → IsFirst (Some at) P) → (n ≤ limit → IsFirst o P)
@@ -215,7 +219,7 @@ by_limit n at o P f g = go (nat_lt limit n) refl
     go true e = f (ltb-true limit n e)
     go false e = g (ltb-false limit n e)
 
-first_behind : (xs q : List Entry) (at : ℕ) → at ≡ number q → counted q ≤ limit → levels_back q ≤ limit
+first_behind : (xs q : List Symbol) (at : ℕ) → at ≡ number q → counted q ≤ limit → levels_back q ≤ limit
     → IsFirst (walked_over at (counted q) (levels_back q) xs) (OverBehind q xs)
 first_behind [] q at e c l = λ k h. h
 first_behind (Counted k ∷ xs) q at e c l =
@@ -224,13 +228,13 @@ first_behind (Counted k ∷ xs) q at e c l =
 first_behind (Uncounted k ∷ xs) q at e c l = passed _ (Uncounted k) q xs c l (first_behind xs (Uncounted k ∷ q) (at + 1) (omega (arith, e)) c l)
 first_behind (Outside k ∷ xs) q at e c l =
     passed _ (Outside k) q xs (omega arith) l (first_behind xs (Outside k ∷ q) (at + 1) (omega (arith, e)) (omega arith) l)
-first_behind (Opens ∷ xs) q at e c l =
-    by_limit (levels_back q + 1) at _ (OverBehind q (Opens ∷ xs)) (λ h. reached Opens q xs at e (inr h))
-    (λ h. passed _ Opens q xs c h (first_behind xs (Opens ∷ q) at e c h))
-first_behind (Closes ∷ xs) q at e c l = let m : levels_back q - 1 ≤ limit = omega (arith, l) in passed _ Closes q xs c m (first_behind xs (Closes ∷ q) at e c m)
+first_behind (OpensLevel ∷ xs) q at e c l =
+    by_limit (levels_back q + 1) at _ (OverBehind q (OpensLevel ∷ xs)) (λ h. reached OpensLevel q xs at e (inr h))
+    (λ h. passed _ OpensLevel q xs c h (first_behind xs (OpensLevel ∷ q) at e c h))
+first_behind (EndsLevel ∷ xs) q at e c l = let m : levels_back q - 1 ≤ limit = omega (arith, l) in passed _ EndsLevel q xs c m (first_behind xs (EndsLevel ∷ q) at e c m)
 
 -- what the walk finds is the first token over a limit
-pub walked_first : (xs : List Entry) → AreNested 0 xs → IsFirst (walked_over 0 0 0 xs) (IsOver xs)
+pub walked_first : (xs : List Symbol) → AreNested 0 xs → IsFirst (walked_over 0 0 0 xs) (IsOver xs)
 walked_first xs i =
     let b : IsBack [] [] = record { same = refl; numbers = refl; open_there = refl } in
     let h = first_behind xs [] 0 refl (omega arith) (omega arith) in

@@ -104,7 +104,7 @@ same_violation t pieces xs = program_laws.violation counts_of t (tokens_of piece
 
 pub same_program : (t : List ℕ) (pieces : List Piece) (xs : List Top) → DeriveFile (classes_of t (tokens_of pieces)) xs → (scope : List Identifier) → IsFileScope typed (written t pieces xs) xs scope
     → program_of (file_at counts_of t (tokens_of pieces) (comments_of pieces) xs) xs ≡ program typed (written t pieces xs) scope xs
-same_program t pieces xs derives scope e = program_laws.written counts_of t (tokens_of pieces) (comments_of pieces) derives.entries xs derives.derives scope e
+same_program t pieces xs derives scope e = program_laws.written counts_of t (tokens_of pieces) (comments_of pieces) derives.symbols xs derives.derives scope e
 
 -- with the one typing in the place of another
 pub typed_scope : (t : List ℕ) (pieces : List Piece) (xs : List Top) (typing : Typing) → IsTyping typing → (scope : List Identifier) → IsFileScope typing (written t pieces xs) xs scope → IsFileScope typed (written t pieces xs) xs scope
@@ -122,8 +122,8 @@ violation t refusal pieces x spells derives e =
     let file = file_at counts_of t (tokens_of pieces) (comments_of pieces) xs in
     let v = violated t (tokens_of pieces) (program_of file xs) (violation_of file xs) refusal e in
     let d = source_laws.file t pieces spells x derives in
-    let scope = program_laws.scope (written t pieces xs) d.entries xs d.derives in
-    record { pieces = pieces; spells = spells; file = xs; derives = d; typing = typed; types = typed_typing; scope = scope.0; scopes = scope.1; violation = v.0; least = (file_laws.least (written t pieces xs) d.entries xs d.derives scope.0 scope.1 v.0).0 (sym (same_violation t pieces xs) ∙ v.1); place = v.2 }
+    let scope = program_laws.scope (written t pieces xs) d.symbols xs d.derives in
+    record { pieces = pieces; spells = spells; file = xs; derives = d; typing = typed; types = typed_typing; scope = scope.0; scopes = scope.1; violation = v.0; least = (file_laws.least (written t pieces xs) d.symbols xs d.derives scope.0 scope.1 v.0).0 (sym (same_violation t pieces xs) ∙ v.1); place = v.2 }
 
 -- ---- the whole
 
@@ -175,8 +175,8 @@ program_as t p e =
     let file = file_at counts_of t (tokens_of a.pieces) (comments_of a.pieces) xs in
     let g = answered t (tokens_of a.pieces) (program_of file xs) p (violation_of file xs) a.resolves in
     let d = source_laws.file t a.pieces a.spells a.syntax_of a.derives in
-    let scope = program_laws.scope (written t a.pieces xs) d.entries xs d.derives in
-    record { pieces = a.pieces; spells = a.spells; file = xs; derives = d; typing = typed; types = typed_typing; scope = scope.0; scopes = scope.1; faultless = (file_laws.faultless (written t a.pieces xs) d.entries xs d.derives scope.0 scope.1).0 (sym (same_violation t a.pieces xs) ∙ g.0); is = g.1 ∙ same_program t a.pieces xs d scope.0 scope.1 }
+    let scope = program_laws.scope (written t a.pieces xs) d.symbols xs d.derives in
+    record { pieces = a.pieces; spells = a.spells; file = xs; derives = d; typing = typed; types = typed_typing; scope = scope.0; scopes = scope.1; faultless = (file_laws.faultless (written t a.pieces xs) d.symbols xs d.derives scope.0 scope.1).0 (sym (same_violation t a.pieces xs) ∙ g.0); is = g.1 ∙ same_program t a.pieces xs d scope.0 scope.1 }
 
 -- ---- and back: with such a fault, and with no other, it is refused
 
@@ -211,7 +211,7 @@ refused_back t refusal (inr (inr rule)) =
     let file = file_at counts_of t tokens (comments_of rule.pieces) xs in
     let scopes = typed_scope t rule.pieces xs rule.typing rule.types rule.scope rule.scopes in
     derived_back t rule.pieces xs rule.spells rule.derives
-    ∙ ap (answer t tokens (program_of file xs)) (same_violation t rule.pieces xs ∙ (file_laws.least (written t rule.pieces xs) rule.derives.entries xs rule.derives.derives rule.scope scopes rule.violation).1 (subst (λ (typing : Typing). IsLeast (IsViolation typing (written t rule.pieces xs) rule.scope xs) rule.violation) (sole_typing rule.typing rule.types) rule.least))
+    ∙ ap (answer t tokens (program_of file xs)) (same_violation t rule.pieces xs ∙ (file_laws.least (written t rule.pieces xs) rule.derives.symbols xs rule.derives.derives rule.scope scopes rule.violation).1 (subst (λ (typing : Typing). IsLeast (IsViolation typing (written t rule.pieces xs) rule.scope xs) rule.violation) (sole_typing rule.typing rule.types) rule.least))
     ∙ ap Err (sym rule.place)
 
 -- and the program of a text is what it reads as
@@ -222,7 +222,7 @@ program_back t p h =
     let file = file_at counts_of t tokens (comments_of h.pieces) xs in
     let scopes = typed_scope t h.pieces xs h.typing h.types h.scope h.scopes in
     derived_back t h.pieces xs h.spells h.derives
-    ∙ ap (answer t tokens (program_of file xs)) (same_violation t h.pieces xs ∙ (file_laws.faultless (written t h.pieces xs) h.derives.entries xs h.derives.derives h.scope scopes).1 (subst (λ (typing : Typing). IsFaultless (IsViolation typing (written t h.pieces xs) h.scope xs)) (sole_typing h.typing h.types) h.faultless))
+    ∙ ap (answer t tokens (program_of file xs)) (same_violation t h.pieces xs ∙ (file_laws.faultless (written t h.pieces xs) h.derives.symbols xs h.derives.derives h.scope scopes).1 (subst (λ (typing : Typing). IsFaultless (IsViolation typing (written t h.pieces xs) h.scope xs)) (sole_typing h.typing h.types) h.faultless))
     ∙ ap Ok (same_program t h.pieces xs h.derives h.scope scopes ∙ ap (λ (typing : Typing). program typing (written t h.pieces xs) h.scope xs) (sym (sole_typing h.typing h.types)) ∙ sym h.is)
 
 not_both : {A : Type 0} (o : Result A Refusal) (x : A) (r : Refusal) → o ≡ Ok x → o ≡ Err r → ⊥

@@ -30,12 +30,22 @@ module _ (word : ℕ → List ℕ) (scopes : List (List Identifier)) where
   each_valued f before [] = []
   each_valued f before (e ∷ es) = f before e ∷ each_valued f (value_in before e) es
 
+  -- the identifier and the item of a constant of this number
+  abbrev identifier : Option ℤ → Enumerator → Identifier
+  identifier number e = record { at = e.name; name = word e.name; binding = Constant (or_zero (int_only number)) }
+
+  abbrev item : Option ℤ → Enumerator → EnumItem
+  item number e = record {
+    name = word e.name;
+    given = option_map (constant_at typed (λ t. names_at word scopes e.name)) e.value;
+    value = or_zero (int_only number);
+  }
+
   abbrev pub constants : Option ℤ → List Enumerator → List Identifier
-  constants before es = each_valued (λ before e. record { at = e.name; name = word e.name; binding = Constant (or_zero (value_in before e)) }) before es
+  constants before es = each_valued (λ before e. identifier (number_in before e) e) before es
 
   abbrev pub enum_items : Option ℤ → List Enumerator → List EnumItem
-  enum_items before es =
-      each_valued (λ before e. record { name = word e.name; given = option_map (constant_at typed (λ t. names_at word scopes e.name)) e.value; value = or_zero (value_in before e) }) before es
+  enum_items before es = each_valued (λ before e. item (number_in before e) e) before es
 
   -- ---- by those in front
 
@@ -58,22 +68,22 @@ module _ (word : ℕ → List ℕ) (scopes : List (List Identifier)) where
   pub value_more : (front : List Enumerator) (e : Enumerator) → last_value (front ++ e ∷ []) ≡ value_in (last_value front) e
   value_more front e = ap first_value (reverse-append front (e ∷ [])) ∙ ap int_only (number_is front e)
 
-  each_is : {B : Type 0} (f : List Enumerator → Enumerator → B) (g : Option ℤ → Enumerator → B) → ((front : List Enumerator) (e : Enumerator) → f front e ≡ g (last_value front) e)
+  each_is : {B : Type 0} (f : List Enumerator → Enumerator → B) (g : Option ℤ → Enumerator → B)
+      → ((front : List Enumerator) (e : Enumerator) → f front e ≡ g (last_value front) e)
       → (front es : List Enumerator) → each_behind (λ before. f (front ++ before)) es ≡ each_valued g (last_value front) es
   each_is f g same front [] = refl
   each_is f g same front (e ∷ es) =
       let here = ap (λ l. f l e) (append-nil front) ∙ same front e in
       let more = front ++ e ∷ [] in
-      let rest = (λ i. each_behind (λ before. f (sym (append_assoc front (e ∷ []) before) i)) es) ∙ each_is f g same more es ∙ ap (λ v. each_valued g v es) (value_more front e) in
+      let rest = (λ i. each_behind (λ before. f (sym (append_assoc front (e ∷ []) before) i)) es)
+      ∙ each_is f g same more es
+      ∙ ap (λ v. each_valued g v es) (value_more front e) in
       λ i. here i ∷ rest i
 
   pub constants_are : (es : List Enumerator) → each_behind (enum_constant typed word scopes) es ≡ constants first_before es
   constants_are es =
-      each_is (enum_constant typed word scopes) (λ before e. record { at = e.name; name = word e.name; binding = Constant (or_zero (value_in before e)) })
-      (λ front e i. record { at = e.name; name = word e.name; binding = Constant (or_zero (int_only (number_is front e i))) }) [] es
+      each_is (enum_constant typed word scopes) (λ before e. identifier (number_in before e) e) (λ front e i. identifier (number_is front e i) e) [] es
 
   pub enum_items_are : (es : List Enumerator) → each_behind (enum_item typed word scopes) es ≡ enum_items first_before es
   enum_items_are es =
-      each_is (enum_item typed word scopes)
-      (λ before e. record { name = word e.name; given = option_map (constant_at typed (λ t. names_at word scopes e.name)) e.value; value = or_zero (value_in before e) })
-      (λ front e i. record { name = word e.name; given = option_map (constant_at typed (λ t. names_at word scopes e.name)) e.value; value = or_zero (int_only (number_is front e i)) }) [] es
+      each_is (enum_item typed word scopes) (λ before e. item (number_in before e) e) (λ front e i. item (number_is front e i) e) [] es

@@ -100,14 +100,17 @@ file_last ms ss xs marks h = subst (λ l. FileIn ms ss l (marks ++ [])) (sym (ap
 -- ---- values of constants
 
 module _ (word : ℕ → List ℕ) where
-  number_same : (ms ss : List Scope) → AreMaps ms ss → (t : Option Term) (before : Option ℤ) → number_of (in_scopes word ms) t before ≡ written_or typed (in_scopes word ss) t (next_value before)
+  number_same : (ms ss : List Scope) → AreMaps ms ss → (t : Option Term) (before : Option ℤ)
+      → number_of (in_scopes word ms) t before ≡ written_or typed (in_scopes word ss) t (next_value before)
   number_same ms ss h (Some t) before = λ i. option_map (λ c. c.1) (constant_of (typed_alike word ms ss h t i))
   number_same ms ss h None before = refl
 
-  pub number_alike : (ms : List Scope) (scopes : List (List Identifier)) (e : Enumerator) → AreMaps ms (scopes_at scopes e.name) → (before : Option ℤ) → number_of (in_scopes word ms) e.value before ≡ number_in word scopes before e
+  pub number_alike : (ms : List Scope) (scopes : List (List Identifier)) (e : Enumerator) → AreMaps ms (scopes_at scopes e.name) → (before : Option ℤ)
+      → number_of (in_scopes word ms) e.value before ≡ number_in word scopes before e
   number_alike ms scopes e h before = number_same ms (scopes_at scopes e.name) h e.value before
 
-  pub value_alike : (ms : List Scope) (scopes : List (List Identifier)) (e : Enumerator) → AreMaps ms (scopes_at scopes e.name) → (before : Option ℤ) → value_of (in_scopes word ms) e.value before ≡ value_in word scopes before e
+  pub value_alike : (ms : List Scope) (scopes : List (List Identifier)) (e : Enumerator) → AreMaps ms (scopes_at scopes e.name) → (before : Option ℤ)
+      → value_of (in_scopes word ms) e.value before ≡ value_in word scopes before e
   value_alike ms scopes e h before = ap (option_and_then an_int) (number_alike ms scopes e h before)
 
   -- ---- in front of names
@@ -219,7 +222,8 @@ module _ (file : File) (ss : List (List Identifier)) where
   form_past : (form : Form) (s : State) (zs : List Identifier) (ns : List ℕ) → FileIn s.scopes ss (form_identifiers typed file ss form ++ zs) (form_marks form ++ ns) → Follow ns zs → FileIn (walked.behind_form file form s).scopes ss zs ns
   form_past Line s zs ns h follow = h
   form_past (Enum es) s zs ns h follow =
-      enums_past file.word ss es first_before s.scopes zs ns (subst (λ l. FileIn s.scopes ss (l ++ zs) (each_marks enumerator_marks es ++ ns)) (constants_are file.word ss es) h) follow
+      let valued = subst (λ l. FileIn s.scopes ss (l ++ zs) (each_marks enumerator_marks es ++ ns)) (constants_are file.word ss es) h in
+      enums_past file.word ss es first_before s.scopes zs ns valued follow
   form_past (Globals static d) s zs ns h follow = globals_past file.word ss (kinded file.word d) d.names s.scopes zs ns h follow
   form_past (Defines f) s zs ns h follow = file_behind (function_declared file f s).scopes ss zs _ ns (function_past f s zs _ h)
   form_past Unread s zs ns h follow = h

@@ -3,7 +3,7 @@ use Rattle.std.proofs.Common.{◌+◌, ℕ, List, [], ◌∷◌, ◌++◌, map, 
 use Rattle.c_layers.specs.Items.{Declarator, Start, NoStart, StartValue, StartNames, Item, Declares, States, Plain, From, Statement, Null, Evaluate, If, IfElse, While, DoWhile, For, Switch, Block, Goto, Break, Continue, Return, Unread, Body, Braces, Lone, Items, NoItem, Then}
 use Rattle.c_layers.specs.Tops.{Parameter, Function, Form, Line, Enum, Globals, Defines, Top}
 use Rattle.c_layers.specs.Tops as tops
-use Rattle.c_reading_defs.specs.Entries.{Entry}
+use Rattle.c_reading_defs.specs.Symbols.{Symbol}
 use Rattle.c_reading_defs.specs.DerivedTops.{IsFunction, IsFile}
 use Rattle.c_reading_defs.specs.Variables.{name_tokens, start_variables, item_variables, plain_variables, statement_variables, body_variables, list_variables, variables_within, variables_of}
 use Rattle.c_violation_laws.proofs.Rising.{Rising, rising_ends, parted, Climbing, climbing_wider, climbing_both, Apart, climbing_apart}
@@ -97,7 +97,7 @@ abbrev pub AreApart : List Top → Type 0
 AreApart [] = Unit {0}
 AreApart (tops.From first after form ∷ xs) = IsApart form × AreApart xs
 
-pub function_apart : (at : ℕ) (es : List Entry) (f : Function) → IsFunction at es f → Apart (variables_of f)
+pub function_apart : (at : ℕ) (es : List Symbol) (f : Function) → IsFunction at es f → Apart (variables_of f)
 function_apart at es f h = let r = function at es f h in climbing_apart (f.name + 1) (variables_of f) _ (variables_climb (f.name + 1) f _ r.1.1)
 
 form_apart : (lo : ℕ) (form : Form) (hi : ℕ) → Rising lo (form_marks form) hi → IsApart form
@@ -111,5 +111,5 @@ are_apart : (lo : ℕ) (xs : List Top) (hi : ℕ) → Rising lo (each_marks top_
 are_apart lo [] hi r = tt
 are_apart lo (tops.From first after form ∷ xs) hi r = let s = parted lo (form_marks form) (each_marks top_marks xs) hi r in (form_apart lo form s.0 s.1, are_apart s.0 xs hi s.2)
 
-pub file_apart : (at : ℕ) (es : List Entry) (xs : List Top) → IsFile at es xs → AreApart xs
+pub file_apart : (at : ℕ) (es : List Symbol) (xs : List Top) → IsFile at es xs → AreApart xs
 file_apart at es xs h = are_apart at xs _ (file at es xs h)

@@ -35,7 +35,7 @@ use Rattle.c_violation_laws.proofs.Enumerated.{first_before, value_in, constants
 use Rattle.c_violation_laws.proofs.FileStanding.{in_scopes, file_walk, FileIn, Follow, file_last, value_alike, constant_here, constant_past, global_here, global_values, global_past, function_inside, Before, form_first, tops_rest, file_begins}
 use Rattle.c_violation_laws.proofs.Ordered.{file as ordered_file}
 use Rattle.c_violation_laws.proofs.Marks.{each_marks, enumerator_marks, declarator_marks, form_marks}
-use Rattle.c_reading_defs.specs.Entries.{Entry}
+use Rattle.c_reading_defs.specs.Symbols.{Symbol}
 use Rattle.c_reading_defs.specs.DerivedTops.{IsFile}
 use Rattle.c_violation_laws.proofs.Numbered.{IsApart, AreApart, file_apart}
 use Rattle.c_violation_laws.proofs.Standing.{AreMaps}
@@ -118,8 +118,8 @@ module _ (file : File) (ss : List (List Identifier)) where
   form_same first (Enum es) s a h =
       let marks = each_marks enumerator_marks es in
       let valued = subst (λ l. FileIn s.scopes ss l marks) (constants_are file.word ss es) h in
-      let items = enums_same file.word ss es first_before s.scopes [] [] (file_last s.scopes ss (constants file.word ss first_before es) marks valued) (λ mid hi r. tt)
-      ∙ sym (enum_items_are file.word ss es) in
+      let last = file_last s.scopes ss (constants file.word ss first_before es) marks valued in
+      let items = enums_same file.word ss es first_before s.scopes [] [] last (λ mid hi r. tt) ∙ sym (enum_items_are file.word ss es) in
       λ i. top.Enum (items i) ∷ []
   form_same first (Globals static d) s a h =
       let k = kinded file.word d in
@@ -136,6 +136,6 @@ module _ (file : File) (ss : List (List Identifier)) where
       (λ i. (walked.notes_tops file (anchor.Before first) ++ form_same first form s a.0 (form_first file ss first after form xs s h) i) ++ tops_same xs (walked.behind_form file form s) a.1 (tops_rest file ss first after form xs s h) i)
       ∙ sym (append_assoc (top_tops typed file ss t) (flat_map (top_tops typed file ss) xs) (walked.notes_tops file Last))
 
-pub program_same : (file : File) (entries : List Entry) (xs : List Top) → IsFile 0 entries xs → (scope : List Identifier) → IsFileScope typed file xs scope → program_of file xs ≡ program typed file scope xs
-program_same file entries xs derives scope e =
-    λ i. record { tops = tops_same file (scope ∷ []) xs start (file_apart 0 entries xs derives) (file_begins file xs scope _ e (ordered_file 0 entries xs derives)) i }
+pub program_same : (file : File) (symbols : List Symbol) (xs : List Top) → IsFile 0 symbols xs → (scope : List Identifier) → IsFileScope typed file xs scope → program_of file xs ≡ program typed file scope xs
+program_same file symbols xs derives scope e =
+    λ i. record { tops = tops_same file (scope ∷ []) xs start (file_apart 0 symbols xs derives) (file_begins file xs scope _ e (ordered_file 0 symbols xs derives)) i }

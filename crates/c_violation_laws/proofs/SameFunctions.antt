@@ -14,7 +14,7 @@ use Rattle.c_scopes.specs.FunctionNames.{has_function, with_body, signature_in, 
 use Rattle.c_scopes.specs.Files.{File, State, env_of, start, notes_tops, function_declared, behind_form, form_tops, form_faults, tops_of, file_faults}
 use Rattle.c_scopes.specs.Resolving.{file_at, program_of, violation_of, least}
 use Rattle.c_kinds.specs.Typing.{typed}
-use Rattle.c_reading_defs.specs.Entries.{Entry}
+use Rattle.c_reading_defs.specs.Symbols.{Symbol}
 use Rattle.c_reading_defs.specs.DerivedTops.{IsFile}
 use Rattle.c_reading_defs.specs.Scopes.{Identifier}
 use Rattle.c_reading_defs.specs.FileScopes.{IsFileScope}
@@ -74,9 +74,9 @@ module _ (flat : FlatCounts) (text : List ℕ) (tokens : List Token) (comments :
       ∙ (λ i. violation_of (noted i) xs)
 
   -- and is the same program
-  pub program_written : (entries : List Entry) → IsFile 0 entries xs → (scope : List Identifier) → IsFileScope typed (file_written flat text tokens comments xs) xs scope
+  pub program_written : (symbols : List Symbol) → IsFile 0 symbols xs → (scope : List Identifier) → IsFileScope typed (file_written flat text tokens comments xs) xs scope
       → program_of (file_at flat text tokens comments xs) xs ≡ program typed (file_written flat text tokens comments xs) scope xs
-  program_written entries derives scope e =
+  program_written symbols derives scope e =
       (λ i. record { tops = tops_same (file_at flat text tokens comments xs) (defined (word_of text tokens) xs) (defined_same (word_of text tokens) xs) xs start i })
       ∙ (λ i. program_of (noted i) xs)
-      ∙ program_same (file_written flat text tokens comments xs) entries xs derives scope e
+      ∙ program_same (file_written flat text tokens comments xs) symbols xs derives scope e

@@ -7,7 +7,7 @@ use Rattle.c_kinds.specs.Typing.{typed}
 use Rattle.c_statements.specs.Declarations.{kinded}
 use Rattle.c_scopes.specs.Enums.{next_value, or_zero}
 use Rattle.c_scopes.specs.Files.{File}
-use Rattle.c_reading_defs.specs.Entries.{Entry}
+use Rattle.c_reading_defs.specs.Symbols.{Symbol}
 use Rattle.c_reading_defs.specs.DerivedTops.{IsFile}
 use Rattle.c_reading_defs.specs.Written.{written_or}
 use Rattle.c_reading_defs.specs.Scopes.{Identifier, known_at}
@@ -83,7 +83,8 @@ module _ (file : File) where
       → form_identifiers typed file ((front ++ (form_behind front form ++ later)) ∷ []) form ≡ form_behind front form
   form_fixed front Line later lo hi r f = refl
   form_fixed front (Enum es) later lo hi r f =
-      constants_are file.word ((front ++ (constants_behind file.word front first_before es ++ later)) ∷ []) es ∙ constants_fixed file.word front first_before es later lo hi r f
+      let behind = constants_behind file.word front first_before es in
+      constants_are file.word ((front ++ (behind ++ later)) ∷ []) es ∙ constants_fixed file.word front first_before es later lo hi r f
   form_fixed front (Globals static d) later lo hi r f = refl
   form_fixed front (Defines g) later lo hi r f = refl
   form_fixed front Unread later lo hi r f = refl
@@ -98,5 +99,5 @@ module _ (file : File) where
       let there = ap (λ (l : List Identifier). file_identifiers typed file (l ∷ []) xs) (sym (append_assoc front ds rest)) ∙ tops_fixed (front ++ ds) xs s.0 hi s.2 in
       λ i. here i ++ there i
 
-pub file_scope : (file : File) (entries : List Entry) (xs : List Top) → IsFile 0 entries xs → (scope : List Identifier) × IsFileScope typed file xs scope
-file_scope file entries xs derives = (tops_behind file [] xs, sym (tops_fixed file [] xs 0 _ (ordered_file 0 entries xs derives)))
+pub file_scope : (file : File) (symbols : List Symbol) (xs : List Top) → IsFile 0 symbols xs → (scope : List Identifier) × IsFileScope typed file xs scope
+file_scope file symbols xs derives = (tops_behind file [] xs, sym (tops_fixed file [] xs 0 _ (ordered_file 0 symbols xs derives)))

@@ -15,7 +15,7 @@ use Rattle.c_violation_laws.specs.Finds.{Finds}
 use Rattle.c_violation_laws.proofs.Finding.{finds_none, finds_both}
 use Rattle.c_violation_laws.proofs.Behind.{Behind, finds_behind}
 use Rattle.c_violation_laws.proofs.Least.{the_least, least_back, the_faultless, faultless_back}
-use Rattle.c_reading_defs.specs.Entries.{Entry}
+use Rattle.c_reading_defs.specs.Symbols.{Symbol}
 use Rattle.c_reading_defs.specs.DerivedTops.{IsFile}
 use Rattle.c_violation_laws.proofs.Numbered.{IsApart, AreApart, file_apart}
 use Rattle.c_violation_laws.proofs.Enumerated.{first_before, constants, constants_are}
@@ -59,17 +59,17 @@ module _ (file : File) (ss : List (List Identifier)) where
       finds_both (top_faults file t s) (file_faults file xs (walked.behind_top file t s)) _ _ (form x a.0 before s (form_first file ss first after x xs s h) b)
       (tops xs a.1 (before ++ t ∷ []) (walked.behind_top file t s) (tops_rest file ss first after x xs s h) (bodies t before s b))
 
-violations : (file : File) (entries : List Entry) (xs : List Top) → IsFile 0 entries xs → (scope : List Identifier) → IsFileScope typed file xs scope → Finds (file_faults file xs start) (IsViolation typed file scope xs)
-violations file entries xs derives scope e =
+violations : (file : File) (symbols : List Symbol) (xs : List Top) → IsFile 0 symbols xs → (scope : List Identifier) → IsFileScope typed file xs scope → Finds (file_faults file xs start) (IsViolation typed file scope xs)
+violations file symbols xs derives scope e =
     finds_behind (file_faults file xs start) (λ v b x. TopBreaks typed file (scope ∷ []) b x v) xs
-    (tops file (scope ∷ []) xs (file_apart 0 entries xs derives) [] start (file_begins file xs scope _ e (ordered_file 0 entries xs derives)) (λ q. (λ g. absurd (true≢false (sym g)), λ h. absurd h)))
+    (tops file (scope ∷ []) xs (file_apart 0 symbols xs derives) [] start (file_begins file xs scope _ e (ordered_file 0 symbols xs derives)) (λ q. (λ g. absurd (true≢false (sym g)), λ h. absurd h)))
 
 pub file_laws : FileLaws
 file_laws = record {
-  least = λ file entries xs derives scope e v.
-      let found = violations file entries xs derives scope e in
+  least = λ file symbols xs derives scope e v.
+      let found = violations file symbols xs derives scope e in
       (the_least (file_faults file xs start) (IsViolation typed file scope xs) found v, least_back (file_faults file xs start) (IsViolation typed file scope xs) found v);
-  faultless = λ file entries xs derives scope e.
-      let found = violations file entries xs derives scope e in
+  faultless = λ file symbols xs derives scope e.
+      let found = violations file symbols xs derives scope e in
       (the_faultless (file_faults file xs start) (IsViolation typed file scope xs) found, faultless_back (file_faults file xs start) (IsViolation typed file scope xs) found);
 }

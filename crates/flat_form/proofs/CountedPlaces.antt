@@ -70,7 +70,8 @@ less_one named l (m ∷ ls) = by (m == l) refl (less_one named l ls)
     other false c r k n e = omega (arith, e)
 
     by : (b : Bool) → (m == l) ≡ b → rest + bit (named l && is_one l ls) ≡ labels_named named ls
-        → (bit ((named m && not b) && not (is_one m ls)) + rest) + bit (named l && (b || is_one l ls)) ≡ bit (named m && not (is_one m ls)) + labels_named named ls
+        → (bit ((named m && not b) && not (is_one m ls)) + rest) + bit (named l && (b || is_one l ls))
+        ≡ bit (named m && not (is_one m ls)) + labels_named named ls
     by true q less =
         let e = eqb-true m l q in
         (λ i. (bit ((named (e i) && false) && not (is_one (e i) ls)) + rest) + bit (named l && true))
@@ -79,7 +80,8 @@ less_one named l (m ∷ ls) = by (m == l) refl (less_one named l ls)
     by false q less = other (named m) (not (is_one m ls)) rest (bit (named l && is_one l ls)) (labels_named named ls) less
 
 -- of those that don't stand before
-first_ones : (named : ℕ → Bool) (before ls : List ℕ) → labels_from named (before ++ ls) (length before) ls ≡ labels_named (λ m. named m && not (is_one m before)) ls
+first_ones : (named : ℕ → Bool) (before ls : List ℕ)
+    → labels_from named (before ++ ls) (length before) ls ≡ labels_named (λ m. named m && not (is_one m before)) ls
 first_ones named before [] = refl
 first_ones named before (l ∷ ls) =
     let more = before ++ l ∷ [] in
@@ -93,7 +95,10 @@ first_ones named before (l ∷ ls) =
     ∙ last (new l) (is_one l ls) (labels_named (λ m. new m && not (m == l)) ls) (labels_named new ls) less
   where
     apart : (m : ℕ) → (named m && not (is_one m (before ++ l ∷ []))) ≡ ((named m && not (is_one m before)) && not (m == l))
-    apart m = ap (λ b. named m && not b) (one_last m before l) ∙ ap (λ b. named m && not (is_one m before || b)) (turned l m) ∙ by (named m) (is_one m before) (m == l)
+    apart m =
+        ap (λ b. named m && not b) (one_last m before l)
+        ∙ ap (λ b. named m && not (is_one m before || b)) (turned l m)
+        ∙ by (named m) (is_one m before) (m == l)
       where
         by : (a b c : Bool) → (a && not (b || c)) ≡ ((a && not b) && not c)
         by true true c = refl
