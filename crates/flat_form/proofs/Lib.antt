@@ -10,3 +10,4 @@ pub mod Without
 pub mod CalmLaws
 pub mod Renumbered
 pub mod Numbered
+pub mod Tested

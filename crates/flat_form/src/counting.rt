@@ -1,31 +1,20 @@
 //! Gotos and labels of flat forms, counted.
 
-ghost use Rattle.std.specs.Prelude.{◌≡◌, ◌+◌, [], length, IfOk, OnOk};
+ghost use Rattle.std.specs.Prelude.{◌≡◌, ◌+◌, IfOk, OnOk};
 ghost use Rattle.c_tree.specs.Everywhere.{total, total_of, total_in};
 ghost use Rattle.c_tree.specs.Trees.{trees_of, sections_of};
 ghost use Rattle.c_resolved_laws.specs.Counts.{goto_of, gotos_of, labels_of, bound_counts as the_bound_counts, flat_counts as the_flat_counts};
 ghost use Rattle.c_tree.specs.Views.{tree_at};
 
 use crate::flat_counts_labels::label_count;
-use crate::made::made_labels;
+use crate::labels_in;
+use crate::made::{Counted, count_made};
 use crate::strays::without_strays;
-use crate::{flat_body, labels_in};
-use c_tree::{Function, Item, Section};
-use c_types::{List, Memory, Name};
+use crate::sums::add;
+use c_tree::{Item, Section};
+use c_types::{List, Memory};
 use flat_questions::{has_arrival, has_jumps, named_labels};
 use std::alloc::Global;
-
-fn add_one(count: &mut u64) -> Result<(), Memory>
-    ensures { OnOk result (count.new ≡ count.old + 1) }
-{
-    match count.checked_add(1) {
-        Some(sum) => {
-            *count = sum;
-            Ok(())
-        }
-        None => Err(Memory),
-    }
-}
 
 #[cycle(counting)]
 fn add_list(list: &List<Item>, count: &mut u64) -> Result<(), Memory>
@@ -61,7 +50,7 @@ fn add_item(item: &Item, count: &mut u64) -> Result<(), Memory>
         }
         Item::Block(a) => add_list(a, count),
         Item::Switch(_, sections) => add_sections(sections.as_slice(), count),
-        Item::Goto(_) => add_one(count),
+        Item::Goto(_) => add(count, 1),
         _ => Ok(()),
     }
 }
@@ -85,29 +74,12 @@ pub fn gotos_in(list: &List<Item>) -> Result<u64, Memory>
     Ok(count)
 }
 
-/// A function without variables and labels: neither counts.
-fn frame(alloc: Global) -> Function
-    ensures slots { result.slots ≡ [] }
-{
-    Function {
-        name: Name::from_string(String::new(alloc)),
-        result: None,
-        file_only: false,
-        params: 0,
-        slots: List::new(alloc),
-        labels: List::new(alloc),
-        body: None,
-        flat: false,
-    }
-}
-
-/// How many gotos the flat form of a body has. It is made to be counted.
+/// How many gotos the flat form of a body has.
 fn flat_gotos(alloc: Global, body: &List<Item>) -> Result<u64, Memory>
     ensures { IfOk result (λ it. it ≡ gotos_of (trees_of body.now)) }
 {
-    let frame = frame(alloc);
-    let flat = flat_body(alloc, &frame, body)?;
-    let gotos = gotos_in(&flat.items)?;
+    let named = named_labels(alloc, body)?;
+    let gotos = count_made(alloc, Counted::Gotos, named.as_slice(), body)?;
     Ok(gotos)
 }
 
@@ -117,7 +89,7 @@ fn flat_labels(alloc: Global, body: &List<Item>) -> Result<u64, Memory>
 {
     let named = named_labels(alloc, body)?;
     let labels = labels_in(alloc, body)?;
-    let made = made_labels(alloc, named.as_slice(), body)?;
+    let made = count_made(alloc, Counted::Labels, named.as_slice(), body)?;
     let stay = label_count(alloc, named.as_slice(), labels.as_slice())?;
     match made.checked_add(stay) {
         Some(sum) => Ok(sum),
@@ -140,8 +112,7 @@ fn bound_counts(alloc: Global, body: &List<Item>) -> Result<Option<(u64, u64)>, 
 
 /// How many gotos and how many labels the flat form of a function with this body has, whatever its
 /// variables and labels are; `None` where it has no jumps. A label that stands twice counts once, and
-/// a case label outside of any switch for nothing. Want of memory is the only failure. The flat form
-/// is made to count the gotos, so it takes the time and the memory of that.
+/// a case label outside of any switch for nothing. Want of memory is the only failure.
 pub fn flat_counts(alloc: Global, body: &List<Item>) -> Result<Option<(u64, u64)>, Memory>
     ensures { IfOk result (λ it. it ≡ the_flat_counts (trees_of body.now)) }
 {

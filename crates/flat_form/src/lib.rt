@@ -4,14 +4,18 @@
 mod bodies;
 mod calm;
 mod counting;
+mod exits;
 mod flat_bodies_labels;
 mod flat_counts_labels;
 mod forms;
+mod gotos;
+mod labels;
 mod made;
 mod most;
 mod places;
 mod renumbering;
 mod strays;
+mod sums;
 mod unlabelling;
 
 pub use bodies::{FlatBody, flat_body};

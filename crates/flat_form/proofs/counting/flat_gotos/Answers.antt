@@ -1,10 +1,12 @@
-use Rattle.std.proofs.Common.{length, ap, ◌∙◌}
-use Rattle.c_tree.specs.Everywhere.{total}
+use Rattle.std.proofs.Common.{false, ap, ◌∙◌}
 use Rattle.c_tree.specs.Trees.{trees_of}
-use Rattle.c_resolved_laws.specs.Counts.{goto_of}
-use Rattle.c_resolved_laws.proofs.GotosCounted.{gotos_are}
+use Rattle.flat_questions.specs.Reading.{is_flagged}
+use Rattle.c_resolved_laws.specs.Counts.{gotos_in, summed}
 use Rattle.flat_form.proofs.counting.flat_gotos.Goals as goal
 
 pub returns : goal.returns
 returns c =
-    c.in_ok-gotos.ensures ∙ ap (total goto_of) c.in_ok-flat.ensures.items ∙ gotos_are c.frame-frame.result.slots (length c.frame-frame.result.labels) (trees_of c.args.body.now)
+    let body = trees_of c.args.body.now in
+    let same = c.in_ok-named.ensures in
+    c.in_ok-gotos.ensures ∙ ap (λ z. summed (gotos_in (is_flagged z)) (is_flagged z) false body) c.as_slice.ensures.value
+    ∙ (λ i. summed (gotos_in (λ l. same l i)) (λ l. same l i) false body)
