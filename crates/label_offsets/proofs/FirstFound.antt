@@ -1,5 +1,5 @@
 -- Where the first Leap of a body stands: no Leap stands before it in its list.
-use Rattle.std.proofs.Common.{◌≡◌, ℕ, zero, suc, ◌+◌, List, [], ◌∷◌, ◌++◌, Option, Some, None, length, map, take, option_map, slice_get, inl, inr, refl, sym, ap, subst, ◌∙◌, arith, add-zero}
+use Rattle.std.proofs.Common.{◌≡◌, ℕ, zero, suc, ◌+◌, ◌≤◌, List, [], ◌∷◌, ◌++◌, Option, Some, None, length, map, take, option_map, slice_get, inl, inr, refl, sym, ap, subst, ◌∙◌, arith, add-zero}
 use Rattle.std.specs.Prelude.{◌⊎◌}
 use Rattle.c_tree.specs.declared.tree.Branch.{Branch}
 use Rattle.c_tree.specs.declared.tree.Branch.TheVariants as B
@@ -9,6 +9,7 @@ use Rattle.c_tree.specs.declared.tree.Section.{Section, map-Section, fold-roll-S
 use Rattle.c_tree.specs.declared.tree.Path.{Path}
 use Rattle.c_tree.specs.Paths.{list_of, child_F, child, list_at}
 use Rattle.c_tree.proofs.PathLemmas.{list_step}
+use Rattle.label_offsets.specs.Standing.{outermost}
 use Rattle.label_offsets.specs.Leaps.{under, sections_from, leaps_step, section_step, leaps_of, leaps_from, section_leaps, first}
 use Rattle.label_offsets.proofs.Firsts.{first_some, first_none}
 use Rattle.label_offsets.proofs.LeapCounts.{leaps_in, leaps_in_list, leaps_counted}
@@ -196,3 +197,36 @@ each_is (x ∷ xs) = ap (λ l. x ∷ l) (each_is xs)
 -- the first Leap in text order
 pub first_found : (xs : List Item) (at : Path) → first (leaps_from 0 xs) ≡ Some at → Found xs at
 first_found xs at h = subst (λ l. Found l at) (each_is xs) (found_list (map each xs) at (ap (λ l. first (leaps_from 0 l)) (each_is xs) ∙ h))
+
+-- the items before it in the outermost list
+
+inside_is : (x : Item) (i : ℕ) (at : Path) → FoundIn x i at → outermost at ≡ i
+inside_is x i at (here l is_leap p) = ap outermost p
+inside_is x i at (within b a q is_child f p) = ap outermost p
+
+none_before : (xs : List Item) (at : Path) → first (leaps_from 0 xs) ≡ Some at → leaps_in_list (take (outermost at) xs) ≡ 0
+none_before xs at h =
+    let f = found_among (map each xs) 0 at (ap (λ l. first (leaps_from 0 l)) (each_is xs) ∙ h) in
+    let k : 0 + f.place ≡ f.place = omega arith in
+    let z = subst (λ l. leaps_in_list (take f.place l) ≡ 0) (each_is xs) f.before in
+    subst (λ n. leaps_in_list (take n xs) ≡ 0) (sym (inside_is f.item (0 + f.place) at f.inside ∙ k)) z
+
+no_path : (ps : List Path) → length ps ≡ 0 → ps ≡ []
+no_path [] e = refl
+no_path (p ∷ ps) e = cc
+
+-- a list without Leaps has no paths of them
+no_leaps : (n : ℕ) (xs : List Item) → leaps_in_list xs ≡ 0 → leaps_from n xs ≡ []
+no_leaps n [] e = refl
+no_leaps n (x ∷ xs) e =
+    ap (λ ps. ps ++ leaps_from (n + 1) xs) (no_path (leaps_of x n) (omega (arith, leaps_counted x n, e)))
+    ∙ no_leaps (n + 1) xs (omega (arith, e))
+
+fewer_in_front : (n m : ℕ) (xs : List Item) → n ≤ m → leaps_in_list (take n xs) ≤ leaps_in_list (take m xs)
+fewer_in_front zero m xs h = omega arith
+fewer_in_front (suc n) zero xs h = absurd (omega arith)
+fewer_in_front (suc n) (suc m) [] h = omega arith
+fewer_in_front (suc n) (suc m) (x ∷ xs) h = omega (arith, fewer_in_front n m xs (omega arith))
+
+pub none_in_front : (xs : List Item) (at : Path) (n : ℕ) → first (leaps_from 0 xs) ≡ Some at → n ≤ outermost at → leaps_from 0 (take n xs) ≡ []
+none_in_front xs at n e h = no_leaps 0 (take n xs) (omega (arith, none_before xs at e, fewer_in_front n (outermost at) xs h))

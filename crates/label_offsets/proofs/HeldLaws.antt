@@ -1,5 +1,5 @@
 -- The Lands of a label in an item, as they stand in its lists.
-use Rattle.std.proofs.Common.{◌≡◌, ℕ, zero, suc, ◌+◌, ◌<◌, ◌≤◌, ◌↔◌, List, ◌∷◌, Option, Some, Bool, true, false, cond, length, drop, get_or, refl, sym, ap, ◌∙◌, arith}
+use Rattle.std.proofs.Common.{◌≡◌, ℕ, zero, suc, ◌+◌, ◌<◌, ◌≤◌, ◌↔◌, List, [], ◌∷◌, Option, Some, Bool, true, false, cond, length, take, drop, get_or, refl, sym, ap, ◌∙◌, arith}
 use Rattle.std.proofs.lemmas.List.{at_drop_more, at_drop_all}
 use Rattle.std.proofs.lemmas.Bool.{iff_false, false≢true, eq-eqb, eqb-true}
 use Rattle.c_tree.specs.declared.tree.Item.{Item, Item-F, If, For, Leap, Land, out-Item, roll-Item, out-roll-Item, roll-out-Item}
@@ -56,6 +56,12 @@ lands-more l xs i x h e =
 
 pub lands-all : (l : ℕ) (xs : List Item) (i : ℕ) → length xs ≤ i → lands l (trees_of (drop i xs)) ≡ 0
 lands-all l xs i h = at_drop_all (λ z. lands l (trees_of z)) xs i h ∙ ap (lands l) trees-none
+
+-- the first items of a list, and those behind them
+pub lands-cut : (l n : ℕ) (xs : List Item) → lands l (trees_of (take n xs)) + lands l (trees_of (drop n xs)) ≡ lands l (trees_of xs)
+lands-cut l zero xs = let z = ap (lands l) trees-none in omega (arith, z)
+lands-cut l (suc n) [] = let z = ap (lands l) trees-none in omega (arith, z)
+lands-cut l (suc n) (x ∷ xs) = omega (arith, lands-first l x (take n xs), lands-first l x xs, lands-cut l n xs)
 
 pub section_lands-first : (l : ℕ) (c : Section) (cs : List Section)
     → total_in (land_of l) (sections_of (c ∷ cs)) ≡ lands l (trees_of (list_of c)) + total_in (land_of l) (sections_of cs)

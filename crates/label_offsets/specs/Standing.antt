@@ -1,5 +1,5 @@
 -- The Land of a label at a path, from a list, from an item and from sections on.
-use Rattle.std.specs.Prelude.{◌≡◌, ◌⊎◌, ℕ, List, ◌∷◌, Some, slice_get}
+use Rattle.std.specs.Prelude.{◌≡◌, ◌⊎◌, ℕ, ◌+◌, List, [], ◌∷◌, Some, drop, slice_get}
 use Rattle.c_tree.specs.declared.tree.Item.{Item, Item-F, Land, out-Item}
 use Rattle.c_tree.specs.declared.tree.Item.TheOpen.{If, While, Do, For, Switch, Block}
 use Rattle.c_tree.specs.declared.tree.Section.{Section}
@@ -11,11 +11,24 @@ use Rattle.c_tree.specs.Join.{Holds}
 use Rattle.c_tree.specs.Paths.{item_at, list_of}
 use Rattle.c_tree.specs.Trees.{Nil, trees_of, sections_of}
 use Rattle.c_tree.specs.Everywhere.{Everywhere, EverywhereIn}
+use Rattle.c_tree.specs.Labels.{lands}
 use Rattle.c_tree.specs.WellMade.{IsPlainFor}
 
 -- the path leads to the Land of the label in a list
 abbrev pub IsPlaceOf : ℕ → List Item → Path → Type 0
 IsPlaceOf l xs p = item_at xs p.steps p.item ≡ Some (Land l)
+
+-- the item of the outermost list to which a path leads, or into which
+abbrev pub outermost_of : List Step → ℕ → ℕ
+outermost_of [] i = i
+outermost_of (s ∷ ss) i = s.item
+
+abbrev pub outermost : Path → ℕ
+outermost p = outermost_of p.steps p.item
+
+-- the item at the place k isn't the Land of the label and doesn't hold it, where each `for` has an empty first part
+abbrev pub HasNoLandAt : ℕ → List Item → ℕ → Type 0
+HasNoLandAt l xs k = Everywhere IsPlainFor (trees_of xs) → lands l (trees_of (drop k xs)) ≡ lands l (trees_of (drop (k + 1) xs))
 
 -- the path goes by the branch of the item k into the list a, and leads to the Land there
 pub record IsUnder (l k : ℕ) (b : Branch) (a : List Item) (p : Path) : Type 0 where

@@ -5,7 +5,7 @@ ghost use Rattle.label_offsets.specs.Choice.{IsRuleAt};
 ghost use Rattle.label_offsets.specs.Marks.{label_at as the_label_at};
 
 use crate::marks::label_at;
-use crate::places::{Rule, relation};
+use crate::places::{Rule, outermost, relation};
 use crate::search::place_of;
 use c_tree::{Item, Path};
 use c_types::{List, Memory};
@@ -20,6 +20,6 @@ pub fn rule_at(alloc: Global, body: &List<Item>, at: &Path) -> Result<Rule, Memo
     let Some(label) = label_at(body, at) else {
         unreachable!();
     };
-    let land = place_of(alloc, body, label)?;
+    let land = place_of(alloc, body, outermost(at), label)?;
     Ok(relation(at, &land))
 }

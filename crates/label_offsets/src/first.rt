@@ -1,4 +1,4 @@
-ghost use Rattle.std.specs.Prelude.{◌≡◌, IfOk, length, ◌≤◌, ◌+◌};
+ghost use Rattle.std.specs.Prelude.{◌≡◌, [], IfOk, length, ◌≤◌, ◌+◌, take};
 ghost use Rattle.label_offsets.specs.Leaps.{leaps_of, leaps_from, first, under, sections_leaps};
 
 use c_tree::{Branch, Item, Path, Section, Step};
@@ -12,15 +12,25 @@ use std::alloc::Global;
 pub fn first_leap(alloc: Global, body: &List<Item>) -> Result<Option<Path>, Memory>
     ensures { IfOk result (λ r. r ≡ first (leaps_from 0 body.now)) }
 {
-    first_among(alloc, body.as_slice())
+    first_among(alloc, body.as_slice(), 0)
+}
+
+/// The same where the first items of the body, so many as `from` says, have no Leap. They are not looked
+/// at.
+pub fn first_leap_from(alloc: Global, body: &List<Item>, from: u32) -> Result<Option<Path>, Memory>
+    requires { leaps_from 0 (take from body.now) ≡ [] }
+    ensures { IfOk result (λ r. r ≡ first (leaps_from 0 body.now)) }
+{
+    first_among(alloc, body.as_slice(), from as usize)
 }
 
 #[cycle(find)]
-fn first_among(alloc: Global, items: &[Item]) -> Result<Option<Path>, Memory>
-    requires { length items.now ≤ 4294967295 }
+fn first_among(alloc: Global, items: &[Item], from: usize) -> Result<Option<Path>, Memory>
+    requires bound { length items.now ≤ 4294967295 }
+    requires none { leaps_from 0 (take from items.now) ≡ [] }
     ensures { IfOk result (λ r. r ≡ first (leaps_from 0 items.now)) }
 {
-    for i in 0..items.len() {
+    for i in from..items.len() {
         if let Some(path) = first_of(alloc, &items[i], i as u32)? {
             return Ok(Some(path));
         }

@@ -1,4 +1,5 @@
 ghost use Rattle.std.specs.Prelude.{◌≡◌, [], ◌∷◌, ◌++◌, IfOk, length, min, map, sum, take};
+ghost use Rattle.label_offsets.specs.Standing.{outermost as the_outermost};
 ghost use Rattle.label_offsets.specs.Relation.{same_branch, same_step, relation as the_relation, Means};
 ghost use Rattle.label_offsets.specs.Offset.{count as the_count, counts as the_counts, section_count as the_section_count, section_counts as the_section_counts, before_branch as the_before_branch, before as the_before};
 
@@ -26,6 +27,16 @@ pub fn level(at: &Path) -> u64
     ensures { result ≡ length at.now.steps }
 {
     at.steps.len() as u64
+}
+
+/// The item of the outermost list to which a path leads, or into which.
+pub fn outermost(at: &Path) -> u32
+    ensures { result ≡ the_outermost at.now }
+{
+    match at.steps.as_slice() {
+        [] => at.item,
+        [step, ..] => step.item,
+    }
 }
 
 fn branch_is(a: Branch, b: Branch) -> bool

@@ -1,26 +1,66 @@
-ghost use Rattle.std.specs.Prelude.{◌≡◌, ◌≤◌, ◌<◌, IfOk, IfSome, IfNone, length};
+ghost use Rattle.std.specs.Prelude.{◌≡◌, ◌≤◌, ◌<◌, ◌-◌, IfOk, IfSome, IfNone, length, take};
 ghost use Rattle.c_tree.specs.Trees.{trees_of, sections_of};
 ghost use Rattle.c_tree.specs.Everywhere.{total_in, Everywhere, EverywhereIn};
 ghost use Rattle.c_tree.specs.Labels.{land_of, lands};
 ghost use Rattle.c_tree.specs.WellMade.{IsPlainFor, IsWellMade};
 ghost use Rattle.label_offsets.specs.Marks.{held};
-ghost use Rattle.label_offsets.specs.Standing.{IsPlaceOf, IsUnder, IsInSections, IsInside, HasPlainFors};
+ghost use Rattle.label_offsets.specs.Standing.{IsPlaceOf, IsUnder, IsInSections, IsInside, HasPlainFors, HasNoLandAt};
 
 use crate::marks::is_land;
 use c_tree::{Branch, Item, Path, Section, Step};
 use c_types::{List, Memory};
 use std::alloc::Global;
 
-/// The path of a Land of the label in a well made body that has one (docs/REWRITING).
-pub fn place_of(alloc: Global, body: &List<Item>, label: u32) -> Result<Path, Memory>
+/// The path of a Land of the label in a well made body that has one (docs/REWRITING.md). It is sought
+/// from the item `near` of the body on, to both sides.
+pub fn place_of(alloc: Global, body: &List<Item>, near: u32, label: u32) -> Result<Path, Memory>
     requires well_made { IsWellMade (trees_of body.now) }
     requires land { 0 < lands label (trees_of body.now) }
     ensures { IfOk result (λ p. IsPlaceOf label body.now p) }
 {
-    match place_among(alloc, body.as_slice(), label)? {
+    match place_around(alloc, body.as_slice(), near as usize, label)? {
         Some(path) => Ok(path),
         None => unreachable!(),
     }
+}
+
+/// A Leap mostly stands near its Land, so the items next to `near` come first.
+fn place_around(
+    alloc: Global,
+    items: &[Item],
+    near: usize,
+    label: u32,
+) -> Result<Option<Path>, Memory>
+    requires { length items.now ≤ 4294967295 }
+    ensures found { IfOk result (λ r. IfSome r (λ p. IsPlaceOf label items.now p)) }
+    ensures none { IfOk result (λ r. IfNone r (Everywhere IsPlainFor (trees_of items.now) → lands label (trees_of items.now) ≡ 0)) }
+{
+    let middle = near.min(items.len());
+    for far in 0..items.len() {
+        if let Some(path) = place_at(alloc, items, middle + far, label)? {
+            return Ok(Some(path));
+        }
+        if let Some(path) = place_before(alloc, items, middle.saturating_sub(far), label)? {
+            return Ok(Some(path));
+        }
+    }
+    Ok(None)
+}
+
+fn place_before(
+    alloc: Global,
+    items: &[Item],
+    end: usize,
+    label: u32,
+) -> Result<Option<Path>, Memory>
+    requires { length items.now ≤ 4294967295 }
+    ensures found { IfOk result (λ r. IfSome r (λ p. IsPlaceOf label items.now p)) }
+    ensures none { IfOk result (λ r. IfNone r (Everywhere IsPlainFor (trees_of items.now) → lands label (trees_of (take end items.now)) ≡ lands label (trees_of (take (end - 1) items.now)))) }
+{
+    if end == 0 {
+        return Ok(None);
+    }
+    place_at(alloc, items, end - 1, label)
 }
 
 #[cycle(place)]
@@ -30,18 +70,30 @@ fn place_among(alloc: Global, items: &[Item], label: u32) -> Result<Option<Path>
     ensures none { IfOk result (λ r. IfNone r (Everywhere IsPlainFor (trees_of items.now) → lands label (trees_of items.now) ≡ 0)) }
 {
     for i in 0..items.len() {
-        let item = &items[i];
-        if is_land(item, label) {
-            return Ok(Some(Path {
-                steps: List::new(alloc),
-                item: i as u32,
-            }));
-        }
-        if let Some(path) = place_inside(alloc, item, label, i as u32)? {
+        if let Some(path) = place_at(alloc, items, i, label)? {
             return Ok(Some(path));
         }
     }
     Ok(None)
+}
+
+#[cycle(place)]
+fn place_at(alloc: Global, items: &[Item], at: usize, label: u32) -> Result<Option<Path>, Memory>
+    requires { length items.now ≤ 4294967295 }
+    ensures found { IfOk result (λ r. IfSome r (λ p. IsPlaceOf label items.now p)) }
+    ensures none { IfOk result (λ r. IfNone r (HasNoLandAt label items.now at)) }
+{
+    if at >= items.len() {
+        return Ok(None);
+    }
+    let item = &items[at];
+    if is_land(item, label) {
+        return Ok(Some(Path {
+            steps: List::new(alloc),
+            item: at as u32,
+        }));
+    }
+    place_inside(alloc, item, label, at as u32)
 }
 
 #[cycle(place)]

@@ -45,6 +45,10 @@ pub leap_no : (body : List Item) → IsWellMade (trees_of body) → (o : Option 
 leap_no body w None e h = no_leaps body w (sym e)
 leap_no body w (Some at) e h = absurd (true≢false h)
 
+pub leap_at_path : (f : Function) (body : List Item) (at : Path) (o : Option ℕ) → f.body ≡ Some body → o ≡ label_at body at → IsTrue (is_some o) → 0 < leaps (body_of f)
+leap_at_path f body at None e h t = absurd (true≢false (sym t))
+leap_at_path f body at (Some l) e h t = let p = leap_some l body at (leap_of_label body at l h) in let b = ap leaps (body_is f body e) in omega (arith, p, b)
+
 -- ---- one move of a Leap is of one kind
 
 one_kind : (l : ℕ) (p : Point) → IsWellMade (trees_of p.body) → (to uo : Option Path) (k j : MoveKind) (new other : List Item) → MovesTo to k l p new → MovesTo uo j l p other → k ≡ j

@@ -10,7 +10,7 @@ ghost use Rattle.move_order_laws.specs.Leaps.{leaps};
 ghost use Rattle.replay_laws.specs.Lawful.{IsLeapMoved, IsMovedBy};
 ghost use Rattle.replay_laws.specs.Replayed.{IsTopWellMade};
 
-use c_tree::{Function, Item, Top};
+use c_tree::{Function, Item, Path, Top};
 use c_types::{List, Memory, Name};
 use guard_bodies::apply_one;
 use label_offsets::{first_leap, label_at};
@@ -39,6 +39,16 @@ pub fn has_leap_left(alloc: Global, function: &Function) -> Result<bool, Memory>
     match &function.body {
         Some(body) => has_leap(alloc, body),
         None => Ok(false),
+    }
+}
+
+/// Whether a path leads to a Leap of a function, so that one is left. It is told without a search.
+fn leads_to_leap(function: &Function, at: &Path) -> bool
+    ensures { IsTrue result → 0 < leaps (body_of function.now) }
+{
+    match &function.body {
+        Some(body) => label_at(body, at).is_some(),
+        None => false,
     }
 }
 
@@ -108,6 +118,9 @@ pub fn move_in(alloc: Global, function: &mut Function, step: &Move) -> Result<bo
     ensures yes { IfOk result (λ b. IsTrue b → IsMovedBy step.now function.old function.new) }
     ensures no { IfOk result (λ b. IsFalse b → (g : TheFunction) → ¬ (IsMovedBy step.now function.old g)) }
 {
+    if leads_to_leap(function, &step.path) {
+        return move_leap_of(alloc, function, step);
+    }
     if has_leap_left(alloc, function)? {
         move_leap_of(alloc, function, step)
     } else {

@@ -47,7 +47,7 @@ fn print_rule(alloc: Global, out: &mut String, body: &List<Item>, at: &Path) -> 
         && has_land(body, label)
     {
         out.push_str(" to ")?;
-        print_path(alloc, out, &place_of(alloc, body, label)?)?;
+        print_path(alloc, out, &place_of(alloc, body, 0, label)?)?;
     }
     let rule = rule_at(alloc, body, at)?;
     out.push_str(&format!(in alloc; " {rule:?}")?)?;

@@ -1,34 +1,24 @@
 use Rattle.std.proofs.Common.{sym, ap, subst, ◌∙◌, arith}
+use Rattle.std.proofs.lemmas.Result.{IfOk-weaker}
 use Rattle.c_tree.specs.Trees.{trees_of}
 use Rattle.c_tree.specs.Everywhere.{Everywhere}
 use Rattle.c_tree.specs.Labels.{lands}
 use Rattle.c_tree.specs.Paths.{list_of}
 use Rattle.c_tree.specs.WellMade.{IsPlainFor}
-use Rattle.label_offsets.proofs.HeldLaws.{lands-more, lands-all, section_lands-more, section_lands-all, is_land-none}
-use Rattle.label_offsets.proofs.PlaceLaws.{place_here, place_inside, everywhere_more, everywhere_more_in, plain_inside}
+use Rattle.label_offsets.proofs.HeldLaws.{lands-all, section_lands-more, section_lands-all}
+use Rattle.label_offsets.proofs.PlaceLaws.{place_here, none_inside_at, everywhere_more_in}
 use Rattle.label_offsets.proofs.search.+place.Goals as goal
 
-pub place_among-returns-then-is_land-clause-found : goal.place_among-returns-then-is_land-clause-found
-place_among-returns-then-is_land-clause-found t c =
-    place_here c.args.label c.args.items.now c.loop-i.i c.index-items-i.result c.new.result c.loop-i-test.true c.index-items-i.is (sym c.is_land.ensures ∙ c.if-is_land.true) c.new.ensures
+pub place_at-returns-then-is_land-clause-found : goal.place_at-returns-then-is_land-clause-found
+place_at-returns-then-is_land-clause-found t c =
+    place_here c.args.label c.args.items.now c.args.at c.index-items-at.result c.new.result c.if-at-items.false c.index-items-at.is (sym c.is_land.ensures ∙ c.if-is_land.true) c.new.ensures
 
-pub place_among-returns-in-Some-clause-found : goal.place_among-returns-in-Some-clause-found
-place_among-returns-in-Some-clause-found t c =
-    place_inside c.args.label c.loop-i.i c.index-items-i.result c.args.items.now c.in-Some.path c.loop-i-test.true c.index-items-i.is (rw c.in-Some.is at c.in_ok-path.ensures.found)
-
-pub place_among-loop-i-preserved : goal.place_among-loop-i-preserved
-place_among-loop-i-preserved t c = λ p.
-    let l = c.args.label in
-    let x = c.index-items-i.result in
-    let q = c.loop-i.invariant p in
-    let m = everywhere_more IsPlainFor c.args.items.now c.loop-i.i x c.loop-i-test.true c.index-items-i.is q.0 in
-    let more = lands-more l c.args.items.now c.loop-i.i x c.loop-i-test.true c.index-items-i.is in
-    let none = is_land-none l x (sym c.is_land.ensures ∙ c.if-is_land.false) in
-    let nothing = (rw c.in_default.is at c.in_ok-path.ensures.none) (plain_inside x m.0) in
-    (m.1, omega (arith, q.1))
+pub place_at-returns-clause-none : goal.place_at-returns-clause-none
+place_at-returns-clause-none t c =
+    IfOk-weaker c.place_inside.result _ _ (λ r h. none_inside_at c.args.label c.args.items.now c.args.at c.index-items-at.result r c.if-at-items.false c.index-items-at.is (sym c.is_land.ensures ∙ c.if-is_land.false) h) c.place_inside.ensures.none
 
 pub place_among-returns-clause-none : goal.place_among-returns-clause-none
-place_among-returns-clause-none t c = λ p. (c.loop-i.invariant p).1 ∙ lands-all c.args.label c.args.items.now c.loop-i.i c.loop-i-test.false
+place_among-returns-clause-none t c = λ p. c.loop-i.invariant p ∙ lands-all c.args.label c.args.items.now c.loop-i.i c.loop-i-test.false
 
 pub place_in_sections-loop-k-preserved : goal.place_in_sections-loop-k-preserved
 place_in_sections-loop-k-preserved t c = λ p.

@@ -6,8 +6,7 @@ use Rattle.c_tree.specs.WellMade.{IsPlainFor}
 use Rattle.label_offsets.proofs.search.+place.Given as goal
 
 abbrev pub invariant-place_among-loop-i : goal.invariant-place_among-loop-i
-invariant-place_among-loop-i l =
-    Everywhere IsPlainFor (trees_of l.items) → Everywhere IsPlainFor (trees_of (drop l.i l.items)) × (lands l.label (trees_of l.items) ≡ lands l.label (trees_of (drop l.i l.items)))
+invariant-place_among-loop-i l = Everywhere IsPlainFor (trees_of l.items) → lands l.label (trees_of l.items) ≡ lands l.label (trees_of (drop l.i l.items))
 
 abbrev pub invariant-place_in_sections-loop-k : goal.invariant-place_in_sections-loop-k
 invariant-place_in_sections-loop-k l =
