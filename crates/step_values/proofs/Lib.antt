@@ -1,0 +1,4 @@
+pub mod RunLemmas
+pub mod FormLemmas
+pub mod ReadLemmas
+pub mod StoredLemmas
