@@ -1,0 +1,23 @@
+use Rattle.std.proofs.Common.{◌∷◌, cond, Some, ap, ◌∙◌}
+use Rattle.c_tree.specs.ExpressionTrees.{expression_tree}
+use Rattle.c_tree.specs.Trees.{tree_of, trees_of}
+use Rattle.jump_meaning.specs.Tasks.{Loops, ForLoop, items}
+use Rattle.step_tasks.specs.Tasks.{tasks_of, loop_of, head_of}
+use Rattle.step_tasks.proofs.TopLemmas.{below}
+use Rattle.step_ahead.proofs.AheadLemmas.{stays, reaches_as, head_reaches}
+use Rattle.step_ahead.proofs.loops.turn.Goals as goal
+
+pub returns-in_default-clause-ok : goal.returns-in_default-clause-ok
+returns-in_default-clause-ok c f u i x below q e = stays c.args.store.now (tasks_of c.args.tasks.now)
+
+pub returns-clause-ok : goal.returns-clause-ok
+returns-clause-ok c f u i x below q e =
+    let s = c.args.store.now in
+    let t = expression_tree c.args.e.now in
+    let a = trees_of c.args.a.now in
+    let k = tasks_of below in
+    let r = c.in-Some.asked in
+    let mid = ap tasks_of (c.take_off.ensures x below q) in
+    reaches_as s s r.steps (tasks_of c.args.tasks.now) _ (cond r.holds (items a (Loops (ForLoop (Some t) u a) ∷ k)) k) (tasks_of c.add_body.new.tasks) (ap tasks_of q ∙ e ∙ ap (λ y. head_of y ∷ k) i)
+    (c.in_ok-add_body.ensures.ok ∙ ap (λ m. cond r.holds (items a (loop_of (tree_of c.args.item.now) ∷ m)) m) mid ∙ ap (λ y. cond r.holds (items a (loop_of y ∷ k)) k) i)
+    (head_reaches s t u a k c.args.most r c.in-Some.ensures)
