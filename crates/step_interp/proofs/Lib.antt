@@ -4,3 +4,4 @@ pub mod RunLemmas
 pub mod StartLemmas
 pub mod FileLemmas
 pub mod EntryLemmas
+pub mod SkipLemmas

@@ -36,7 +36,7 @@ input_on P (suc n) c b m w e = last_input P n c b ∙ left_on (run P (suc n) c) 
 goes_on : (r : Beginning) (n : ℕ) (m : Machine) (w : World) → after r n ≡ state_of m w → GoesOnAt r n
 goes_on r n m w e = record { events = w.events; goes = ap shows e }
 
-stands_at : (r : Beginning) (n : ℕ) (m : Machine) (w : World) (written : Written) (l : Option (List ℕ)) → after r n ≡ state_of m w → HasPorts r.told w written l → StandsAt r n written l
+pub stands_at : (r : Beginning) (n : ℕ) (m : Machine) (w : World) (written : Written) (l : Option (List ℕ)) → after r n ≡ state_of m w → HasPorts r.told w written l → StandsAt r n written l
 stands_at r n m w written l e p = record {
   output = p.output ∙ ap (more r.told) (sym (ap output_of e));
   input = p.input ∙ ap Some (sym (input_on r.code n r.first r.input m w e));

@@ -3,3 +3,4 @@ pub mod Files
 pub mod Started
 pub mod Answers
 pub mod Followed
+pub mod Skipped

@@ -4,6 +4,7 @@
 mod entry;
 mod files;
 mod runs;
+mod skipping;
 mod starts;
 mod steps;
 

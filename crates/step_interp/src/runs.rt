@@ -11,6 +11,7 @@ ghost use Rattle.step_interp.specs.Answers.{AgreesOver, Answers, AnswersOver, Be
 ghost use Rattle.step_interp.specs.Followed.{Followed, Follows, HasPorts, IsReadFault, IsWriteFault, ReadsNext};
 
 use crate::entry::Entry;
+use crate::skipping::skip;
 use crate::starts::start;
 use crate::steps::step;
 use c_tree::Program;
@@ -108,10 +109,18 @@ fn run_machine<I: Source, O: Sink>(
     ensures reads { I.faults input.old ≤ I.faults input.new }
     ensures writes { O.faults out.old ≤ O.faults out.new }
 {
-    for done in 0..budget {
-        match step_with(machine, done + 1, input, out) {
-            After::GoesOn => (),
-            After::Over(answer) => return answer,
+    let mut done = 0;
+    while done < budget {
+        let Ok(steps) = skip(machine, budget - done) else {
+            return RunAnswer::Memory;
+        };
+        if steps > 0 {
+            done += steps;
+        } else {
+            match step_with(machine, done + 1, input, out) {
+                After::GoesOn => done += 1,
+                After::Over(answer) => return answer,
+            }
         }
     }
     RunAnswer::Spent
