@@ -63,6 +63,23 @@ def guards(count, part):
     return kind("", lambda n: function(n, declared + each(count, lambda i: part.replace("#", f"g{i}"))))
 
 
+def all_guards(part):
+    """One function with as many guards as fit, of which each has its part."""
+    def declared(i):
+        return f"int g{i} = 0;\n"
+
+    def used(i):
+        return part.replace("#", f"g{i}")
+
+    def text(most):
+        count, size = 0, len(function(0, ""))
+        while size + len(declared(count) + used(count)) <= most:
+            size += len(declared(count) + used(count))
+            count += 1
+        return function(0, each(count, declared) + each(count, used))
+    return text
+
+
 def deep_guards(number):
     """Loops one inside the other, with a guard each, which only the innermost sets."""
     depth = 90
