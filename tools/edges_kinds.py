@@ -103,6 +103,8 @@ KINDS = {
     "printf": main_with("printf(\"%d %x\\n\", a, a);\n", "int a;\n"),
     "one printf": parts.one_printf,
     "a function of many variables that calls itself": parts.called("return f();", "return f();"),
+    "a function of many variables that writes to its last one and calls itself": parts.writing(1 << 30),
+    "a function of many variables that writes to each 1,000th and calls itself": parts.writing(1000),
     "a function of many variables in a loop": parts.called("return 1;", "while (f()); return 0;"),
     "arrays of 1,024 cells": kind("", parts.cells),
     "arrays of 65,536 cells": kind("", lambda n: f"int a{n}[65536];\n", "int main(void) { return 0; }\n"),

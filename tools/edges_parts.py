@@ -174,3 +174,13 @@ def switch(part, behind, before="", first=""):
 def called(first, main):
     """A function with as many variables as fit, behind its first statement, and a main function."""
     return kind("int f(void) {\n" + first + "\n", lambda n: f"int a{n};\n", "}\nint main(void) { " + main + " }\n")
+
+
+def writing(step):
+    """A function with as many variables as fit, which jumps over them, writes to each `step`th and to the last, and calls itself."""
+    def text(most):
+        front = filled(most - 200 - 2 * most // step, "int f(void) {\ngoto L;\n", lambda n: f"int a{n};\n", "L:\n")
+        count = front.count("int a")
+        written = "".join(f"a{i} = 1;\n" for i in [*range(0, count, step), count - 1])
+        return front + written + "return f(); }\nint main(void) { return f(); }\n"
+    return text

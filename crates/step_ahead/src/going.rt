@@ -37,7 +37,9 @@ fn leave<'a>(
     Ok(steps)
 }
 
-/// Makes several steps of a call at once, at most so many, or none.
+/// Makes several steps of a call at once, at most so many, and answers how many: none where the next ones
+/// call something, show something or meet a trap. Want of memory is the only failure, and the tasks and
+/// the values are of no use then.
 pub fn advance<'a>(
     tasks: &mut Tasks<'a>,
     values: &mut Values<'a>,

@@ -1,6 +1,10 @@
 -- The slots of a call, one after the other.
-use Rattle.std.proofs.Common.{ℕ, zero, suc, ◌+◌, ◌<◌, ◌≤◌, nat_lt, true, cond, List, [], ◌∷◌, ◌++◌, length, get_or, drop, ◌≡◌, refl, sym, ap, ◌∙◌, subst, arith}
+use Rattle.std.proofs.Common.{ℕ, zero, suc, ◌+◌, ◌-◌, ◌<◌, ◌≤◌, nat_lt, true, false, cond, pos, List, [], ◌∷◌, ◌++◌, map, replicate, length, get_or, drop, slice_get, Option, Some, None, option_map, inl, inr, ◌≡◌, refl, sym, ap, ◌∙◌, subst, arith}
+use Rattle.std.proofs.lemmas.Bool.{cases_lt}
 use Rattle.std.proofs.lemmas.Bool.Decides.{nat_tests}
+use Rattle.std.proofs.lemmas.List.{length-replicate}
+use Rattle.std.proofs.lemmas.Option.{slice_get-map, slice_get_within}
+use Rattle.c_types.specs.declared.kinds.IntKind.{IntKind}
 use Rattle.c_tree.specs.declared.tree.Slot.{Slot}
 use Rattle.jump_meaning.specs.Values as Meant
 use Rattle.jump_meaning.specs.Values.{Variable}
@@ -9,7 +13,9 @@ use Rattle.jump_meaning.specs.Effects.{top, rest}
 use Rattle.jump_meaning.specs.World.{no_slot, parameter, zeros, slot_at_start}
 use Rattle.jump_meaning.proofs.Memory.{chosen}
 use Rattle.step_memory.specs.declared.room.Room.{Room}
-use Rattle.step_memory.specs.Rooms.{IsRoom, AreSlots}
+use Rattle.step_memory.specs.Pages.{room_at_start, cells_at_start}
+use Rattle.step_memory.specs.Rooms.{IsRoom, AreCells, AreSlots}
+use Rattle.step_memory.proofs.PageLemmas.{get_left, get_right, get_drop}
 
 -- one more slot behind the others
 pub one_slot_more : (ns : List (List ℕ)) (rooms : List Room) (room : Room) (slots : ℕ → Variable) → AreSlots ns rooms slots → IsRoom ns room (slots (length rooms)) → AreSlots ns (rooms ++ room ∷ []) slots
@@ -36,25 +42,58 @@ entry_slot [] i s h e = absurd (omega arith)
 entry_slot (x ∷ ss) zero s h e = sym e
 entry_slot (x ∷ ss) (suc i) s h e = entry_slot ss i s (omega arith) e
 
-under : (i n : ℕ) → nat_lt i n ≡ true → i ≤ n
+under : (i n : ℕ) → i < n → nat_lt i n ≡ true
 under i n h = grind (arith, nat_tests)
 
--- the variable that the next slot is
-pub next_slot : (f : FunctionTree) (vs left : List Meant.Value) (i : ℕ) (s : Slot) → i < length f.slots → s ≡ get_or f.slots i s → (i ≤ f.params → left ≡ drop i vs)
-    → cond (nat_lt i f.params) (parameter s (top left)) (zeros s) ≡ slot_at_start f vs i
-next_slot f vs left i s h e k =
-    chosen (λ x. x ≡ slot_at_start f vs i) (nat_lt i f.params) (parameter s (top left)) (zeros s)
-    (λ t. sym (ap (λ b. cond b (parameter (entry_or no_slot f.slots i) (entry_or Meant.Missing vs i)) (zeros (entry_or no_slot f.slots i))) t
+-- the variable that the next parameter is
+pub next_slot : (f : FunctionTree) (vs left : List Meant.Value) (i : ℕ) (s : Slot) → i < f.params → i < length f.slots → s ≡ get_or f.slots i s → left ≡ drop i vs → parameter s (top left) ≡ slot_at_start f vs i
+next_slot f vs left i s p h e k =
+    sym (ap (λ b. cond b (parameter (entry_or no_slot f.slots i) (entry_or Meant.Missing vs i)) (zeros (entry_or no_slot f.slots i))) (under i f.params p)
     ∙ ap (λ q. parameter q (entry_or Meant.Missing vs i)) (entry_slot f.slots i s h e)
-    ∙ ap (parameter s) (sym (ap top (k (under i f.params t)) ∙ entry_top vs i))))
-    (λ t. sym (ap (λ b. cond b (parameter (entry_or no_slot f.slots i) (entry_or Meant.Missing vs i)) (zeros (entry_or no_slot f.slots i))) t
-    ∙ ap zeros (entry_slot f.slots i s h e)))
+    ∙ ap (parameter s) (sym (ap top k ∙ entry_top vs i)))
 
-pub next_arguments : (f : FunctionTree) (vs left : List Meant.Value) (i : ℕ) → i + 1 ≤ f.params → (i ≤ f.params → left ≡ drop i vs) → cond (nat_lt i f.params) (rest left) left ≡ drop (i + 1) vs
-next_arguments f vs left i h k =
-    ap (λ b. cond b (rest left) left) (below i f.params (omega arith)) ∙ ap rest (k (omega arith)) ∙ entry_rest vs i ∙ ap (λ n. drop n vs) (one i) where
-      one : (i : ℕ) → suc i ≡ i + 1
-      one i = omega arith
+pub next_arguments : (vs left : List Meant.Value) (i : ℕ) → left ≡ drop i vs → rest left ≡ drop (i + 1) vs
+next_arguments vs left i k = let one : suc i ≡ i + 1 = omega arith in ap rest k ∙ entry_rest vs i ∙ ap (λ n. drop n vs) one
 
-      below : (i n : ℕ) → i < n → nat_lt i n ≡ true
-      below i n h = grind (arith, nat_tests)
+-- ---- the slots that are as at the start of a call
+
+zeros_within : (n i : ℕ) → i < n → slice_get (replicate n (pos 0)) i ≡ Some (pos 0)
+zeros_within zero i h = absurd (omega arith)
+zeros_within (suc n) zero h = refl
+zeros_within (suc n) (suc i) h = zeros_within n i (omega arith)
+
+cells_zero : (ns : List (List ℕ)) (k : IntKind) (cells : Option ℕ) → AreCells ns k (cells_at_start cells) (Meant.Holds k cells (λ i. pos 0))
+cells_zero ns k None = (refl, refl)
+cells_zero ns k (Some n) = (refl, sym (length-replicate n (pos 0)), λ i h. zeros_within n i (omega (arith, h, length-replicate n (pos 0))))
+
+pub zero_slot : (ns : List (List ℕ)) (s : Slot) → IsRoom ns (room_at_start s) (zeros s)
+zero_slot ns s = cells_zero ns s.kind s.cells
+
+entry_got : (ss : List Slot) (i : ℕ) (s : Slot) → slice_get ss i ≡ Some s → entry_or no_slot ss i ≡ s
+entry_got [] i s e = cc
+entry_got (x ∷ ss) zero s e = cc
+entry_got (x ∷ ss) (suc i) s e = entry_got ss i s e
+
+not_under : (i n : ℕ) → n ≤ i → nat_lt i n ≡ false
+not_under i n h = grind (arith, nat_tests)
+
+mapped_slot : (ns : List (List ℕ)) (o : Option Slot) (r : Room) (v : Variable) → option_map room_at_start o ≡ Some r → ((s : Slot) → o ≡ Some s → v ≡ zeros s) → IsRoom ns r v
+mapped_slot ns None r v e h = cc
+mapped_slot ns (Some s) r v e h = let same : room_at_start s ≡ r = cc in subst (λ x. IsRoom ns x v) same (subst (IsRoom ns (room_at_start s)) (sym (h s refl)) (zero_slot ns s))
+
+pub rest_slots : (ns : List (List ℕ)) (f : FunctionTree) (vs : List Meant.Value) (first : List Room) (n : ℕ) → length first ≡ n → (n < length f.slots → f.params ≤ n)
+    → AreSlots ns first (slot_at_start f vs) → AreSlots ns (first ++ map room_at_start (drop n f.slots)) (slot_at_start f vs)
+rest_slots ns f vs first n e p a x r h = elim (cases_lt x n) as (λ _. IsRoom ns r (slot_at_start f vs x)) [
+  | inl l ↦ a x r (sym (get_left first (map room_at_start (drop n f.slots)) x (omega (arith, e, l))) ∙ h)
+  | inr l ↦
+      let behind : x ≡ length first + (x - n) = omega (arith, e, l) in
+      let there : n + (x - n) ≡ x = omega (arith, l) in
+      mapped_slot ns (slice_get f.slots x) r (slot_at_start f vs x)
+      (ap (option_map room_at_start) (sym (get_drop f.slots n (x - n) ∙ ap (slice_get f.slots) there))
+      ∙ sym (slice_get-map room_at_start (drop n f.slots) (x - n))
+      ∙ sym (get_right first (map room_at_start (drop n f.slots)) x (x - n) behind) ∙ h)
+      (λ s g.
+      let within : n < length f.slots = omega (arith, l, slice_get_within f.slots x s g) in
+      ap (λ b. cond b (parameter (entry_or no_slot f.slots x) (entry_or Meant.Missing vs x)) (zeros (entry_or no_slot f.slots x))) (not_under x f.params (omega (arith, p within, l)))
+      ∙ ap zeros (entry_got f.slots x s g))
+]

@@ -1,4 +1,4 @@
 pub mod Lookups
 pub mod Functions
-pub mod Zeros
+pub mod Numbers
 pub mod Readings

@@ -1,42 +1,15 @@
-ghost use Rattle.std.specs.Prelude.{◌≡◌, ℕ, List, pos, cond, length, IfOk};
+ghost use Rattle.std.specs.Prelude.{◌≡◌, ◌<◌, ◌≤◌, ℕ, List, length, IfOk};
 ghost use Rattle.jump_meaning.specs.Code.{function_tree};
-ghost use Rattle.jump_meaning.specs.Effects.{top, rest};
-ghost use Rattle.jump_meaning.specs.World.{zeros as the_zeros, parameter as the_parameter, slot_at_start};
+ghost use Rattle.jump_meaning.specs.World.{parameter as the_parameter, slot_at_start};
 ghost use Rattle.step_memory.specs.Rooms.{IsRoom, AreSlots};
 ghost use Rattle.step_memory.specs.Values.{value_of, values_of};
-ghost use Rattle.step_calls.specs.Zeros.{AreZeros, IsNumberRoom};
+ghost use Rattle.step_calls.specs.Numbers.{IsNumberRoom};
 
 use c_tree::{Function, Slot};
 use c_types::{List, Memory, convert};
 use std::alloc::Global;
-use step_memory::{Cells, Room, Value};
+use step_memory::{Cells, FIRST, Room, Rooms, Value};
 use step_tasks::{Values, integer, take};
-
-/// So many numbers, all 0.
-fn zeros(alloc: Global, count: u32) -> Result<List<i128>, Memory>
-    ensures length { IfOk result (λ it. length it ≡ count) }
-    ensures zeros { IfOk result (λ it. AreZeros it) }
-{
-    let mut cells = List::new(alloc);
-    for _at in 0..count {
-        cells.push(0i128)?;
-    }
-    Ok(cells)
-}
-
-/// A slot at the start of a call: 0 everywhere.
-fn zero_room(alloc: Global, slot: &Slot) -> Result<Room, Memory>
-    ensures { IfOk result (λ r. (ns : List (List ℕ)) → IsRoom ns r (the_zeros slot.now)) }
-{
-    let cells = match slot.cells {
-        None => Cells::Number(0),
-        Some(count) => Cells::Array(zeros(alloc, count)?),
-    };
-    Ok(Room {
-        kind: slot.kind,
-        cells,
-    })
-}
 
 /// A number parameter at the start of a call: the argument, converted. An array that no array is
 /// lent to is refused.
@@ -65,36 +38,54 @@ fn parameter(slot: &Slot, value: Value<'_>) -> Result<Room, Memory>
     }
 }
 
-/// A slot at the start of a call; a parameter takes the next argument.
-fn room_at_start<'a>(
+/// The rooms of the first so many slots, which are parameters, at the start of a call with these
+/// arguments, the first one on top.
+fn parameter_rooms<'a>(
     alloc: Global,
-    slot: &Slot,
-    is_parameter: bool,
-    arguments: &mut Values<'a>,
-) -> Result<Room, Memory>
-    ensures room { IfOk result (λ r. (ns : List (List ℕ)) → IsRoom ns r (cond is_parameter (the_parameter slot.now (top (values_of ns arguments.old))) (the_zeros slot.now))) }
-    ensures left { (ns : List (List ℕ)) → values_of ns arguments.new ≡ cond is_parameter (rest (values_of ns arguments.old)) (values_of ns arguments.old) }
+    function: &Function,
+    count: usize,
+    arguments: Values<'a>,
+) -> Result<List<Room>, Memory>
+    requires slots { count ≤ length function.now.slots }
+    requires parameters { count ≤ function.now.params }
+    ensures count { IfOk result (λ rooms. length rooms ≡ count) }
+    ensures slots { IfOk result (λ rooms. (ns : List (List ℕ)) → AreSlots ns rooms (slot_at_start (function_tree function.now) (values_of ns arguments.entry))) }
 {
-    if is_parameter {
-        return parameter(slot, take(arguments));
+    let slots = function.slots.as_slice();
+    let mut arguments = arguments;
+    let mut rooms = List::from_vec(Vec::with_capacity(alloc, slots.len().min(FIRST))?);
+    for slot in &slots[..count] {
+        rooms.push(parameter(slot, take(&mut arguments))?)?;
     }
-    zero_room(alloc, slot)
+    Ok(rooms)
+}
+
+/// How many parameters a function has, none of which is missing among its slots.
+fn parameter_count(function: &Function) -> usize
+    ensures slots { result ≤ length function.now.slots }
+    ensures parameters { result ≤ function.now.params }
+    ensures all { result < length function.now.slots → function.now.params ≤ result }
+{
+    let slots = function.slots.len();
+    let parameters = function.params as usize;
+    if slots < parameters {
+        slots
+    } else {
+        parameters
+    }
 }
 
 /// The slots of a function at the start of a call with these arguments, the first one on top.
 pub fn rooms_at_start<'a>(
     alloc: Global,
-    function: &Function,
+    function: &'a Function,
     arguments: Values<'a>,
-) -> Result<List<Room>, Memory>
+) -> Result<Rooms<'a>, Memory>
     ensures count { IfOk result (λ rooms. length rooms ≡ length function.now.slots) }
     ensures slots { IfOk result (λ rooms. (ns : List (List ℕ)) → AreSlots ns rooms (slot_at_start (function_tree function.now) (values_of ns arguments.entry))) }
 {
-    let mut arguments = arguments;
-    let mut rooms = List::new(alloc);
-    for (at, slot) in function.slots.as_slice().iter().enumerate() {
-        let is_parameter = at < function.params as usize;
-        rooms.push(room_at_start(alloc, slot, is_parameter, &mut arguments)?)?;
-    }
-    Ok(rooms)
+    let count = parameter_count(function);
+    let rooms = parameter_rooms(alloc, function, count, arguments)?;
+    let slots = function.slots.as_slice();
+    Rooms::new(alloc, rooms, &slots[count..])
 }

@@ -11,7 +11,7 @@ use c_tree::{Expression, GlobalVariable, Program, Top};
 use c_types::{IntKind, List, Memory, Name, convert};
 use std::alloc::Global;
 use std::collections::BTreeMap;
-use step_memory::{Cells, Room, Store};
+use step_memory::{Cells, Room, Rooms, Store};
 
 /// The value of an initialiser, converted, where that of one that traps is 0.
 fn initial_number(kind: IntKind, initialiser: &Expression) -> i128
@@ -106,8 +106,10 @@ pub fn store_at_start<'a>(alloc: Global, program: &'a Program) -> Result<Store<'
     for top in program.tops.as_slice() {
         add_top(alloc, &mut names, &mut places, &mut file, top)?;
     }
+    let none = List::new(alloc);
+    let rooms = Rooms::new(alloc, none, &[])?;
     let mut calls = List::new(alloc);
-    calls.push(List::new(alloc))?;
+    calls.push(rooms)?;
     Ok(Store {
         names,
         places,

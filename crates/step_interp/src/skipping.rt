@@ -5,7 +5,8 @@ use c_types::Memory;
 use step_ahead::advance;
 use step_machine::Machine;
 
-/// Makes several steps at once, at most so many, or none. They show nothing.
+/// Makes several steps at once, at most so many, and answers how many. They show nothing. Want of memory is
+/// the only failure, and the machine is of no use then.
 pub fn skip(machine: &mut Machine<'_, '_>, most: u64) -> Result<u64, Memory>
     ensures program { machine.new.program ≡ machine.old.program }
     ensures most { IfOk result (λ n. n ≤ most) }

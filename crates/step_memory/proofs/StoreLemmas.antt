@@ -1,5 +1,5 @@
 -- The variables of the machine: which of them are one, and what they are after one of them changes.
-use Rattle.std.proofs.Common.{ℕ, zero, suc, map, get_or, ◌∷◌, ◌++◌, ◌<◌, List, [], slice_set, slice_get, length, Some, None, option_and_then, eqb, ◌≡◌, ◌≢◌, ◌⊎◌, inl, inr, refl, sym, ap, ◌∙◌, subst, true≢false, arith}
+use Rattle.std.proofs.Common.{ℕ, zero, suc, map, get_or, ◌∷◌, ◌++◌, ◌<◌, List, [], slice_set, slice_get, length, Option, Some, None, option_and_then, eqb, ◌≡◌, ◌≢◌, ◌⊎◌, inl, inr, refl, sym, ap, ◌∙◌, subst, true≢false, arith}
 use Rattle.std.proofs.lemmas.Bool.Decides.{Decides-eqb}
 use Rattle.std.proofs.lemmas.List.{length-set}
 use Rattle.std.proofs.lemmas.Option.{slice_get_within}
@@ -20,6 +20,7 @@ use Rattle.step_memory.specs.declared.store.Store.{Store}
 use Rattle.step_memory.specs.declared.value.Owner.{Owner}
 use Rattle.step_memory.specs.declared.value.Owner.TheVariants.{File, Call}
 use Rattle.step_memory.specs.Values.{owner_of}
+use Rattle.step_memory.specs.Pages.{cells_at_start}
 use Rattle.step_memory.specs.Rooms.{AreCells, IsRoom, Becomes, BecomesAt, HasSlots, AreSlots}
 use Rattle.step_memory.specs.Stores.{names_of, room_at, HoldsWorld, ClearsIn, EntersCall, Names, Reaches}
 
@@ -170,6 +171,10 @@ holder_own ns k (Number z) (Meant.Lent o) q off h = absurd h
 holder_own ns k (Array xs) (Meant.Holds j n c) q off h = refl
 holder_own ns k (Array xs) (Meant.Lent o) q off h = absurd h
 holder_own ns k (Lent p) v q off h = absurd (off p refl)
+
+pub own_at_start : (cells : Option ℕ) (p : Owner) → cells_at_start cells ≡ Lent p → ⊥
+own_at_start None p e = cc
+own_at_start (Some n) p e = cc
 
 pub reaches_lent : (s : Store) (h : Home) (o p : Owner) (r : Room) → Names s h o → room_at s o ≡ Some r → r.cells ≡ Lent p → Reaches s h p
 reaches_lent s h o p r n a e w hw =

@@ -2,9 +2,13 @@
 #![tactic(auto)]
 
 mod room;
+mod rooms;
+mod seen;
 mod store;
 mod value;
 
 pub use room::{Cells, Room};
+pub use rooms::{FIRST, Rooms};
+pub use seen::Seen;
 pub use store::Store;
 pub use value::{Owner, Value};

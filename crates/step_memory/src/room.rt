@@ -1,7 +1,7 @@
 ghost use Rattle.std.specs.Prelude.{◌≡◌, ◌<◌, length, slice_set, FitsSigned, IfOk, OnOk, OnErr};
 ghost use Rattle.std.specs.Int.{w128};
 ghost use Rattle.jump_meaning.specs.World.{with_number, with_zeros};
-ghost use Rattle.step_memory.specs.Rooms.{IsKindOf, IsCountOf, IsNumberAt, IsArrayIf, LacksCell, Becomes, KeptBelow, ZeroFrom};
+ghost use Rattle.step_memory.specs.Rooms.{IsKindOf, IsCountOf, IsNumberAt, IsArrayIf, LacksCell, Becomes, BecomesAt, KeptBelow, ZeroFrom};
 
 use crate::value::Owner;
 use c_types::{IntKind, List, Memory, convert};
@@ -130,4 +130,29 @@ fn put(cells: &mut List<i128>, at: usize, value: i128)
     ensures { cells.new ≡ slice_set cells.old at value }
 {
     cells.set(at, value);
+}
+
+/// Stores the number, converted, in a cell of a room.
+pub fn set_in(rooms: &mut List<Room>, place: usize, at: u32, value: i128) -> Result<(), Memory>
+    ensures length { length rooms.new ≡ length rooms.old }
+    ensures ok { OnOk result (BecomesAt (with_number at value) place rooms.old rooms.new) }
+    ensures err { OnErr result (rooms.new ≡ rooms.old) }
+{
+    if place >= rooms.len() {
+        return Err(Memory);
+    }
+    rooms.at_mut(place).set(at, value)
+}
+
+/// The cells of a room from one on become 0.
+pub fn clear_in(rooms: &mut List<Room>, place: usize, from: u32) -> Result<(), Memory>
+    ensures length { length rooms.new ≡ length rooms.old }
+    ensures ok { OnOk result (BecomesAt (with_zeros from) place rooms.old rooms.new) }
+    ensures err { OnErr result (rooms.new ≡ rooms.old) }
+{
+    if place >= rooms.len() {
+        return Err(Memory);
+    }
+    rooms.at_mut(place).clear(from);
+    Ok(())
 }

@@ -1,11 +1,15 @@
-ghost use Rattle.std.specs.Prelude.{◌≡◌, [], map, Some, None, FitsSigned, IfOk, OnOk, OnErr};
+ghost use Rattle.std.specs.Prelude.{◌≡◌, [], map, Some, None, FitsSigned, IfOk, IfSome, OnOk, OnErr};
 ghost use Rattle.std.specs.Int.{w128};
+ghost use Rattle.c_tree.specs.declared.tree.Home.{Home as TheHome};
 ghost use Rattle.jump_meaning.specs.Code.{entry_or};
-ghost use Rattle.jump_meaning.specs.World.{with_number, with_zeros};
-ghost use Rattle.step_memory.specs.Rooms.{BecomesAt, HasSlots};
+ghost use Rattle.step_memory.specs.Rooms.{HasSlots};
+ghost use Rattle.step_memory.specs.Seen.{room_seen};
+ghost use Rattle.step_memory.specs.declared.store.Store.{Store as TheStore};
 ghost use Rattle.step_memory.specs.Stores.{room_at, Names, Reaches, HasKind, HasCount, HasNumber, HasNoCell, HasArray, StoresIn, ClearsIn, EntersCall, LeavesCall};
 
-use crate::room::{Cells, Room};
+use crate::room::{Cells, Room, clear_in, set_in};
+use crate::rooms::Rooms;
+use crate::seen::Seen;
 use crate::value::Owner;
 use c_tree::Home;
 use c_types::{IntKind, List, Memory, Name};
@@ -20,7 +24,7 @@ pub struct Store<'a> {
     pub file: List<Room>,
     /// The slots of each call, whose numbers begin at 1. What an ended call held stays until the
     /// next call of its number.
-    pub calls: List<List<Room>>,
+    pub calls: List<Rooms<'a>>,
     /// The number of the newest call.
     pub newest: u32,
 }
@@ -50,21 +54,47 @@ fn place_of(names: &[&Name], places: &BTreeMap<&str, u32>, name: &Name) -> Resul
     }
 }
 
+/// The variable whose cells a room has.
+fn holder(room: &Room, owner: Owner) -> Owner
+    ensures { (s : TheStore) (h : TheHome) → Names s h owner → room_at s owner ≡ Some room.now → Reaches s h result }
+{
+    match room.cells {
+        Cells::Lent(other) => other,
+        _ => owner,
+    }
+}
+
 impl<'a> Store<'a> {
-    /// The room of a variable. One that isn't there is refused.
-    pub fn room(&self, owner: Owner) -> Result<&Room, Memory>
-        ensures ok { IfOk result (λ r. room_at self.now owner ≡ Some r.now) }
+    /// The room of a variable of the file, or of one of the first slots of a call.
+    fn first_room(&self, owner: Owner) -> Option<&Room>
+        ensures { IfSome result (λ r. room_at self.now owner ≡ Some r.now) }
+    {
+        match owner {
+            Owner::File(at) => self.file.get(at as usize),
+            Owner::Call(call, at) => match self.calls.get(call as usize) {
+                Some(slots) => slots.first_room(at as usize),
+                None => None,
+            },
+        }
+    }
+
+    /// What is seen of a variable. One that isn't there is refused.
+    pub fn room(&self, owner: Owner) -> Result<Seen<'_>, Memory>
+        ensures ok { IfOk result (λ r. room_at self.now owner ≡ Some (room_seen r)) }
         ensures err { OnErr result (room_at self.now owner ≡ None) }
     {
-        let room = match owner {
-            Owner::File(at) => self.file.get(at as usize),
+        let seen = match owner {
+            Owner::File(at) => match self.file.get(at as usize) {
+                Some(room) => Some(Seen::Made(room)),
+                None => None,
+            },
             Owner::Call(call, at) => match self.calls.get(call as usize) {
                 Some(slots) => slots.get(at as usize),
                 None => None,
             },
         };
-        match room {
-            Some(room) => Ok(room),
+        match seen {
+            Some(seen) => Ok(seen),
             None => Err(Memory),
         }
     }
@@ -89,14 +119,39 @@ impl<'a> Store<'a> {
         ensures { IfOk result (λ o. Reaches self.now home.now o) }
     {
         let owner = self.named(home)?;
-        match self.room(owner)?.cells {
-            Cells::Lent(other) => Ok(other),
-            _ => Ok(owner),
+        match self.first_room(owner) {
+            Some(room) => Ok(holder(room, owner)),
+            None => self.holder_behind(owner),
+        }
+    }
+
+    /// The variable whose cells one has that is none of the first slots of a call.
+    #[cold]
+    #[inline(never)]
+    fn holder_behind(&self, owner: Owner) -> Result<Owner, Memory>
+        ensures { IfOk result (λ o. (h : TheHome) → Names self.now h owner → Reaches self.now h o) }
+    {
+        match self.room(owner)? {
+            Seen::Made(room) => Ok(holder(room, owner)),
+            Seen::Start(_) => Ok(owner),
         }
     }
 
     /// The kind of a variable's cells. A variable that isn't there is refused.
     pub fn kind(&self, owner: Owner) -> Result<IntKind, Memory>
+        ensures ok { IfOk result (λ k. HasKind self.now owner k) }
+        ensures err { OnErr result (room_at self.now owner ≡ None) }
+    {
+        match self.first_room(owner) {
+            Some(room) => Ok(room.kind()),
+            None => self.kind_behind(owner),
+        }
+    }
+
+    /// `kind` of a variable that is none of the first slots of a call.
+    #[cold]
+    #[inline(never)]
+    fn kind_behind(&self, owner: Owner) -> Result<IntKind, Memory>
         ensures ok { IfOk result (λ k. HasKind self.now owner k) }
         ensures err { OnErr result (room_at self.now owner ≡ None) }
     {
@@ -108,11 +163,38 @@ impl<'a> Store<'a> {
         ensures ok { IfOk result (λ n. HasCount self.now owner n) }
         ensures err { OnErr result (room_at self.now owner ≡ None) }
     {
+        match self.first_room(owner) {
+            Some(room) => Ok(room.count()),
+            None => self.count_behind(owner),
+        }
+    }
+
+    /// `count` of a variable that is none of the first slots of a call.
+    #[cold]
+    #[inline(never)]
+    fn count_behind(&self, owner: Owner) -> Result<usize, Memory>
+        ensures ok { IfOk result (λ n. HasCount self.now owner n) }
+        ensures err { OnErr result (room_at self.now owner ≡ None) }
+    {
         Ok(self.room(owner)?.count())
     }
 
     /// The number in a cell of a variable. A cell that isn't there is refused.
     pub fn number(&self, owner: Owner, at: u32) -> Result<i128, Memory>
+        ensures ok { IfOk result (λ z. HasNumber self.now owner at z) }
+        ensures fits { IfOk result (λ z. FitsSigned w128 z) }
+        ensures err { OnErr result (HasNoCell self.now owner at) }
+    {
+        match self.first_room(owner) {
+            Some(room) => room.number(at),
+            None => self.number_behind(owner, at),
+        }
+    }
+
+    /// `number` of a variable that is none of the first slots of a call.
+    #[cold]
+    #[inline(never)]
+    fn number_behind(&self, owner: Owner, at: u32) -> Result<i128, Memory>
         ensures ok { IfOk result (λ z. HasNumber self.now owner at z) }
         ensures fits { IfOk result (λ z. FitsSigned w128 z) }
         ensures err { OnErr result (HasNoCell self.now owner at) }
@@ -142,7 +224,7 @@ impl<'a> Store<'a> {
                 if call >= self.calls.len() {
                     return Err(Memory);
                 }
-                set_in(self.calls.at_mut(call), slot as usize, at, value)
+                self.calls.at_mut(call).set(slot as usize, at, value)
             }
         }
     }
@@ -162,15 +244,15 @@ impl<'a> Store<'a> {
                 if call >= self.calls.len() {
                     return Err(Memory);
                 }
-                clear_in(self.calls.at_mut(call), slot as usize, from)
+                self.calls.at_mut(call).clear(slot as usize, from)
             }
         }
     }
 
     /// One more call, with these slots. Nothing changes where memory is refused.
-    pub fn enter(&mut self, slots: List<Room>) -> Result<(), Memory>
+    pub fn enter(&mut self, slots: Rooms<'a>) -> Result<(), Memory>
         ensures names { self.new.names ≡ self.old.names }
-        ensures ok { OnOk result (EntersCall slots self.old self.new) }
+        ensures ok { OnOk result (EntersCall slots.entry self.old self.new) }
         ensures err { OnErr result (self.new ≡ self.old) }
     {
         if self.newest >= 4294967295 {
@@ -193,8 +275,8 @@ impl<'a> Store<'a> {
 
 /// Puts the slots of a call in the place of those that an ended call of its number left, or behind
 /// the last. Nothing changes where memory is refused.
-fn put_slots(calls: &mut List<List<Room>>, call: usize, slots: List<Room>) -> Result<(), Memory>
-    ensures ok { OnOk result (HasSlots call slots calls.old calls.new) }
+fn put_slots<'a>(calls: &mut List<Rooms<'a>>, call: usize, slots: Rooms<'a>) -> Result<(), Memory>
+    ensures ok { OnOk result (HasSlots call slots.entry calls.old calls.new) }
     ensures err { OnErr result (calls.new ≡ calls.old) }
 {
     if call < calls.len() {
@@ -205,27 +287,4 @@ fn put_slots(calls: &mut List<List<Room>>, call: usize, slots: List<Room>) -> Re
         return Err(Memory);
     }
     calls.push(slots)
-}
-
-/// Stores the number, converted, in a cell of a room.
-fn set_in(rooms: &mut List<Room>, place: usize, at: u32, value: i128) -> Result<(), Memory>
-    ensures ok { OnOk result (BecomesAt (with_number at value) place rooms.old rooms.new) }
-    ensures err { OnErr result (rooms.new ≡ rooms.old) }
-{
-    if place >= rooms.len() {
-        return Err(Memory);
-    }
-    rooms.at_mut(place).set(at, value)
-}
-
-/// The cells of a room from one on become 0.
-fn clear_in(rooms: &mut List<Room>, place: usize, from: u32) -> Result<(), Memory>
-    ensures ok { OnOk result (BecomesAt (with_zeros from) place rooms.old rooms.new) }
-    ensures err { OnErr result (rooms.new ≡ rooms.old) }
-{
-    if place >= rooms.len() {
-        return Err(Memory);
-    }
-    rooms.at_mut(place).clear(from);
-    Ok(())
 }

@@ -1,5 +1,5 @@
 -- What the run of a program comes to when it has taken all steps of an expression.
-use Rattle.std.specs.Prelude.{ℕ, ◌≡◌, ℤ, List, ◌∷◌, Result, Ok}
+use Rattle.std.specs.Prelude.{ℕ, ◌≡◌, ℤ, List, ◌∷◌, slice_get, Some, Result, Ok}
 use Rattle.c_types.specs.declared.trap.Trap.{Trap}
 use Rattle.c_tree.specs.ExpressionTrees.{ExpressionTree, PlaceTree}
 use Rattle.jump_meaning.specs.Values as Meant
@@ -9,6 +9,8 @@ use Rattle.jump_meaning.specs.Effects.{Op, Computes, Finds, Drops}
 use Rattle.jump_meaning.specs.Tasks.{Task, Works}
 use Rattle.jump_meaning.specs.Step.{Guards, Frame, At}
 use Rattle.jump_meaning.specs.Runs.{run}
+use Rattle.step_memory.specs.declared.room.Room.{Room}
+use Rattle.step_memory.specs.declared.room.Cells.TheVariants.{Number}
 use Rattle.step_memory.specs.declared.store.Store.{Store}
 use Rattle.step_memory.specs.Stores.{names_of, HoldsWorld}
 use Rattle.step_memory.specs.Values.{owner_of}
@@ -36,3 +38,7 @@ pub record IsEvaluated (s t : Store) (e : ExpressionTree) (n : ℕ) : Type 0 whe
 -- a number after so many steps
 abbrev pub IsAfter : Result ℤ Trap → ℕ → Computed → Type 0
 IsAfter number n r = (number ≡ Ok r.number) × (r.steps ≡ n)
+
+-- the number that the room of a slot is, which takes three steps to read
+abbrev pub IsSlotNumber : List Room → ℕ → Computed → Type 0
+IsSlotNumber rooms x r = (it : Room) × (z : ℤ) × (slice_get rooms x ≡ Some it) × (it.cells ≡ Number z) × IsAfter (Ok z) 3 r

@@ -103,8 +103,9 @@ fn of_both(
     }
 }
 
-/// The number of an expression, if it calls nothing, changes nothing, meets no trap and is at most
-/// so deep.
+/// The number of an expression, and how many steps of the run it takes. `None` where it calls or changes
+/// something, meets a trap, is deeper than so many levels, or needs what the store lacks; it promises
+/// nothing then, and the run takes single steps.
 pub fn computed(store: &Store<'_>, e: &Expression, depth: u32) -> Option<Computed>
     ensures ok { IfSome result (λ r. IsComputed store.now (expression_tree e.now) r) }
     ensures fits { IfSome result (λ r. FitsSigned w128 r.number) }

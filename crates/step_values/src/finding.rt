@@ -4,12 +4,12 @@ ghost use Rattle.c_types.specs.declared.kinds.IntKind.{IntKind as TheKind};
 ghost use Rattle.c_tree.specs.ExpressionTrees.{ExpressionTree, PlaceTree, Typed, Read, Var, Cell};
 ghost use Rattle.c_tree.specs.declared.tree.Home.TheVariants as H;
 ghost use Rattle.step_values.specs.Marks.{has_cell as the_cell};
-ghost use Rattle.step_values.specs.Taken.{IsComputed, IsFound};
+ghost use Rattle.step_values.specs.Taken.{IsComputed, IsFound, IsSlotNumber};
 
 use crate::marks::{Computed, constant, sum};
 use c_tree::Home;
 use c_types::Memory;
-use step_memory::{Cells, Owner, Store};
+use step_memory::{Cells, Owner, Rooms, Seen, Store};
 
 /// A cell of a variable, and how many steps of the run it takes to find it.
 #[derive(Clone, Copy)]
@@ -81,6 +81,28 @@ pub fn number_in(store: &Store<'_>, found: Found) -> Option<Computed>
     }
 }
 
+/// The number of a slot that is none of the first ones, if that is a number.
+#[cold]
+#[inline(never)]
+fn number_behind(slots: &Rooms<'_>, slot: usize) -> Option<Computed>
+    ensures ok { IfSome result (λ r. IsSlotNumber slots.now slot r) }
+    ensures fits { IfSome result (λ r. FitsSigned w128 r.number) }
+{
+    let Some(seen) = slots.get(slot) else {
+        return None;
+    };
+    match seen {
+        Seen::Made(room) => match &room.cells {
+            Cells::Number(number) => constant(number, 3),
+            _ => None,
+        },
+        Seen::Start(slot) => match slot.cells {
+            None => constant(&0, 3),
+            Some(_) => None,
+        },
+    }
+}
+
 /// The number of a slot of the newest call, if that is a number.
 fn slot_number(store: &Store<'_>, slot: u32) -> Option<Computed>
     ensures ok { (k : Option TheKind) → IfSome result (λ r. IsComputed store.now (Typed k (Read (Var (H.Slot slot)))) r) }
@@ -89,12 +111,12 @@ fn slot_number(store: &Store<'_>, slot: u32) -> Option<Computed>
     let Some(slots) = store.calls.get(store.newest as usize) else {
         return None;
     };
-    let Some(room) = slots.get(slot as usize) else {
-        return None;
-    };
-    match &room.cells {
-        Cells::Number(number) => constant(number, 3),
-        _ => None,
+    match slots.first_room(slot as usize) {
+        Some(room) => match &room.cells {
+            Cells::Number(number) => constant(number, 3),
+            _ => None,
+        },
+        None => number_behind(slots, slot as usize),
     }
 }
 

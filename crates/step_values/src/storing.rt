@@ -115,7 +115,9 @@ fn counted(store: &mut Store<'_>, e: &Expression, place: &Place, up: bool, most:
     stored(store, found, number, found.steps as u64 + 3, most)
 }
 
-/// An expression whose value is dropped, where that takes at most so many steps.
+/// Evaluates an expression whose value is dropped, and answers how many steps of the run that takes, at
+/// most so many. `None` where these are not enough, or where `computed` has no answer: nothing changes
+/// then, and the run takes single steps.
 pub fn evaluated(store: &mut Store<'_>, e: &Expression, most: u64) -> Option<u64>
     ensures names { store.new.names ≡ store.old.names }
     ensures done { MatchOption result (store.new ≡ store.old) (λ n. (n ≤ most) × IsEvaluated store.old store.new (expression_tree e.now) n) }

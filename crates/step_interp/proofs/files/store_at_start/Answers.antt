@@ -30,4 +30,4 @@ loop-top-preserved c =
 pub returns : goal.returns
 returns c input =
     first_holds c.args.program.now (record { names = c.loop-top.names; places = c.loop-top.places; file = c.loop-top.file; calls = c.push.new.self; newest = 0 }) input (drop c.loop-top.top-index c.args.program.now.tops) c.loop-top.invariant.file
-    (c.in_ok-push.ensures.ok ∙ ap (λ cs. cs ++ c.new.result ∷ []) c.new-calls.ensures ∙ ap (λ x. x ∷ []) c.new.ensures) (omega arith)
+    (c.in_ok-push.ensures.ok ∙ ap (λ cs. cs ++ c.in_ok-rooms.rooms ∷ []) c.new-calls.ensures ∙ ap (λ x. x ∷ []) (c.in_ok-rooms.ensures ∙ ap (λ x. x ++ []) c.new-none.ensures)) (omega arith)

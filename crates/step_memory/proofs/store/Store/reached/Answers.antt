@@ -1,8 +1,12 @@
-use Rattle.step_memory.proofs.StoreLemmas.{reaches_lent, reaches_own}
+use Rattle.std.proofs.lemmas.Result.{IfOk-weaker}
+use Rattle.c_tree.specs.declared.tree.Home.{Home}
+use Rattle.step_memory.specs.Stores.{Names, Reaches}
 use Rattle.step_memory.proofs.store.Store.reached.Goals as goal
 
-pub returns-in-Lent : goal.returns-in-Lent
-returns-in-Lent c = reaches_lent c.args.self.now c.args.home.now c.in_ok-owner.owner c.in-Lent.other c.in_ok-other.field-0.now c.in_ok-owner.ensures c.in_ok-other.ensures.ok c.in-Lent.is
+pub returns-in-Some : goal.returns-in-Some
+returns-in-Some c = c.holder.ensures c.args.self.now c.args.home.now c.in_ok-owner.ensures c.in-Some.ensures
 
-pub returns-in_default : goal.returns-in_default
-returns-in_default c = reaches_own c.args.self.now c.args.home.now c.in_ok-owner.owner c.in_ok-other.field-0.now c.in_ok-owner.ensures c.in_ok-other.ensures.ok c.in_default.not-Lent
+pub returns-in-None : goal.returns-in-None
+returns-in-None c =
+    IfOk-weaker c.holder_behind.result (λ o. (h : Home) → Names c.args.self.now h c.in_ok-owner.owner → Reaches c.args.self.now h o) (λ o. Reaches c.args.self.now c.args.home.now o)
+    (λ o k. k c.args.home.now c.in_ok-owner.ensures) c.holder_behind.ensures

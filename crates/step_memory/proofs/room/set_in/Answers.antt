@@ -1,7 +1,7 @@
 use Rattle.std.proofs.Common.{slice_set, ap, ◌∙◌}
 use Rattle.std.proofs.lemmas.Result.{on_err_weaker}
 use Rattle.c_tree.proofs.PathLemmas.{set_same}
-use Rattle.step_memory.proofs.store.set_in.Goals as goal
+use Rattle.step_memory.proofs.room.set_in.Goals as goal
 
 pub returns-clause-err : goal.returns-clause-err
 returns-clause-err c =

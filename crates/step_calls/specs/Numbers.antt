@@ -1,12 +1,9 @@
 -- Numbers at the start of a call.
-use Rattle.std.specs.Prelude.{ℕ, ◌<◌, ◌≡◌, ℤ, pos, List, length, slice_get, Some, None}
+use Rattle.std.specs.Prelude.{◌≡◌, ℤ, None}
 use Rattle.c_types.specs.Numbers.{converted}
 use Rattle.c_tree.specs.declared.tree.Slot.{Slot}
 use Rattle.step_memory.specs.declared.room.Room.{Room}
 use Rattle.step_memory.specs.declared.room.Cells.TheVariants.{Number}
-
-abbrev pub AreZeros : List ℤ → Type 0
-AreZeros xs = (i : ℕ) → i < length xs → slice_get xs i ≡ Some (pos 0)
 
 -- a number that is no array, converted
 abbrev pub IsNumberRoom : Slot → ℤ → Room → Type 0
