@@ -129,6 +129,7 @@ KINDS = {
     "guards of loops, 100 in a function": guards(100, SET),
     "guards of loops, 1,000 in a function": guards(1000, SET),
     "guards of loops, all in one function": parts.all_guards(SET),
+    "guards of loops, all in one block of a function": parts.all_guards(SET, "{\n", "}\n"),
     "guards of turns, 1,000 in a function": guards(1000, "while (a) { # = a == 3; if (!#) { a--; } # = 0; }\n"),
     "guards that stay, 1,000 in a function": guards(1000, "while (!# && a) { # = a == 3; a--; }\n# = 0;\n"),
     "guards of loops one inside the other": kind("", parts.deep_guards),

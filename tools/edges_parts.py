@@ -63,8 +63,8 @@ def guards(count, part):
     return kind("", lambda n: function(n, declared + each(count, lambda i: part.replace("#", f"g{i}"))))
 
 
-def all_guards(part):
-    """One function with as many guards as fit, of which each has its part."""
+def all_guards(part, before="", behind=""):
+    """One function with as many guards as fit, of which each has its part; these parts stand between two texts."""
     def declared(i):
         return f"int g{i} = 0;\n"
 
@@ -72,11 +72,11 @@ def all_guards(part):
         return part.replace("#", f"g{i}")
 
     def text(most):
-        count, size = 0, len(function(0, ""))
+        count, size = 0, len(function(0, before + behind))
         while size + len(declared(count) + used(count)) <= most:
             size += len(declared(count) + used(count))
             count += 1
-        return function(0, each(count, declared) + each(count, used))
+        return function(0, each(count, declared) + before + each(count, used) + behind)
     return text
 
 

@@ -1,5 +1,5 @@
 -- A function changed with the old numbers, which then gets the new ones.
-use Rattle.std.proofs.Common.{ℕ, zero, suc, ◌+◌, ◌<◌, ◌≤◌, arith, Bool, true, false, List, [], ◌∷◌, ◌++◌, length, replicate, slice_set, Option, Some, option_map, ◌≡◌, refl, sym, ap, subst, ◌∙◌}
+use Rattle.std.proofs.Common.{ℕ, zero, suc, ◌+◌, ◌<◌, ◌≤◌, arith, Bool, true, false, List, [], ◌∷◌, ◌++◌, length, replicate, slice_set, Option, Some, None, option_map, ◌≡◌, refl, sym, ap, subst, ◌∙◌}
 use Rattle.c_tree.specs.declared.tree.Item.{Item}
 use Rattle.c_tree.specs.declared.tree.Function.{Function}
 use Rattle.c_tree.specs.Trees.{trees_of}
@@ -10,7 +10,8 @@ use Rattle.tidy_loops.specs.Slots.{Tells}
 use Rattle.tidy_search.specs.Underway.{TreeChangedTimes, Underway}
 use Rattle.tidy_search.proofs.RealTrees.{real_body}
 use Rattle.tidy_search.proofs.Underway.{starts, goes_on, settles, numbered}
-use Rattle.break_recovery.specs.Ends.{IsBodyChanged, WentOn, AreMade, IsNumbered, FunctionChangedTimes, IsFunctionTidied}
+use Rattle.break_recovery.specs.Ends.{with_body, IsBodyChanged, WentOn, AreMade, IsNumbered, FunctionChangedTimes, IsFunctionTidied}
+use Rattle.break_recovery.proofs.Undeclared.{no_body}
 
 pub set_past : {A : Type 0} (xs : List A) (i : ℕ) (x : A) → length xs ≤ i → xs ≡ slice_set xs i x
 set_past [] i x h = refl
@@ -66,6 +67,24 @@ all_made n f gone gone_then counts counts_then h k w g =
       underway = g.underway;
       settled = w.0 g.underway.told;
     }))
+
+-- nothing is made where there is no body
+pub none_made : (f : Function) (gone : List Bool) (counts : List ℕ) (b : Option (List Item)) → f.body ≡ None → b ≡ None → gone ≡ replicate (length f.slots) false → Tells counts (function_tree f)
+    → AreMade 0 f gone (record f { body = b })
+none_made f gone counts b e h k t =
+    subst (λ z. AreMade 0 f gone (record f { body = z })) (e ∙ sym h) (record {
+      kept = refl;
+      same = λ e. refl;
+      counts = counts;
+      underway = starts (function_tree f) gone counts k t;
+      settled = no_body (function_tree f) (ap (option_map trees_of) e);
+    })
+
+-- the body was taken out of the function, and put back
+pub made_in : (n : ℕ) (f : Function) (gone : List Bool) (a b c d : List Item) → f.body ≡ Some a → b ≡ a → d ≡ c → AreMade n (with_body f b) gone (with_body f c) → AreMade n f gone (with_body f d)
+made_in n f gone a b c d e h k m =
+    subst (λ z. AreMade n f gone (with_body f z)) (sym k)
+    (subst (λ (z : Function). AreMade n z gone (with_body f c)) (ap (with_body f) h ∙ sym (ap (λ z. record f { body = z }) e)) m)
 
 -- ---- with the new numbers
 

@@ -21,9 +21,9 @@ use Rattle.c_tree.specs.Views.{layer_at, tree_at, before}
 use Rattle.c_tree.proofs.Views.{trees-first, trees-at, trees-end, trees-push, section-first, sections-at, sections-end, at-If, at-While, at-Do, at-For, at-Switch, at-Block}
 use Rattle.c_tree.specs.Paths.{list_of}
 use Rattle.c_tree.specs.Paths as Paths
-use Rattle.tidy_loops.specs.Slots.{counts_of, broken, continued, but_first}
+use Rattle.tidy_loops.specs.Slots.{broken, continued, but_first}
 use Rattle.tidy_tails.proofs.Made.{join_join}
-use Rattle.tidy_search.specs.Next.{or_else, put, next_list, next_sections, next_at, next_here, next_item, next_either, with_list, behind_sections, break_first, continue_first, broken_first, continued_first, changed_to}
+use Rattle.tidy_search.specs.Next.{or_else, put, next_list, next_sections, next_at, next_here, next_item, next_either, with_list, behind_sections, broken_first, continued_first, changed_to}
 use Rattle.tidy_search.proofs.NextLaws.{more, in_if, in_while, in_do, in_for, in_switch, in_block, more_sections}
 
 put_all : {A : Type 0} (F : A → A) → ((x : A) → F x ≡ x) → (o : Option (ℕ × A)) → put F o ≡ o
@@ -208,22 +208,6 @@ module _ (xs : List Item) (i : ℕ) (x : Item) (h : i < length xs) (e : x ≡ ge
       ∙ ap (put (λ z. join (trees_of (take i xs)) (Then z rest))) k
       ∙ sym (put_put (join (trees_of (take i xs))) (λ z. Then z rest) (λ z. join (trees_of (take i xs)) (Then z rest)) (λ z. refl) (next_item f n (tree_at x)))
       ∙ sym (ap (put (join (trees_of (take i xs)))) (ap (next_at f n) t ∙ ap (λ z. or_else z (put (λ y. Then y rest) (next_item f n (tree_at x)))) (ap (next_here f n) (sym t) ∙ o)))
-
--- ---- the change at a loop
-
-module _ (f : FunctionTree) (n : ℕ) (a : Forest) (F : Forest → Forest) (c : ℕ → ℕ) (k : c ≡ counts_of f) where
-  pub here_break : (g : ℕ) (b : Forest) → Some g ≡ break_first c n a → b ≡ F (broken_first g a) → changed_to (Some g) b ≡ put F (next_here f n a)
-  here_break g b h e =
-      ap (λ z. Some (g, z)) e
-      ∙ ap (λ s. put F (or_else (option_map (λ g. (g, broken_first g a)) s) (option_map (λ g. (g, continued_first g a)) (continue_first (counts_of f) n a)))) (h ∙ ap (λ c. break_first c n a) k)
-
-  pub here_continue : (g : ℕ) (b : Forest) → None ≡ break_first c n a → Some g ≡ continue_first c n a → b ≡ F (continued_first g a) → changed_to (Some g) b ≡ put F (next_here f n a)
-  here_continue g b o h e =
-      ap (λ z. Some (g, z)) e
-      ∙ ap₂ (λ r s. put F (or_else (option_map (λ g. (g, broken_first g a)) r) (option_map (λ g. (g, continued_first g a)) s))) (o ∙ ap (λ c. break_first c n a) k) (h ∙ ap (λ c. continue_first c n a) k)
-
-  pub here_none : (b : Forest) → None ≡ break_first c n a → None ≡ continue_first c n a → changed_to None b ≡ put F (next_here f n a)
-  here_none b o h = ap₂ (λ r s. put F (or_else (option_map (λ g. (g, broken_first g a)) r) (option_map (λ g. (g, continued_first g a)) s))) (o ∙ ap (λ c. break_first c n a) k) (h ∙ ap (λ c. continue_first c n a) k)
 
 -- ---- sections
 

@@ -1,6 +1,7 @@
 -- The changes of a function, of what stands at file scope, and of a program, one after another.
 use Rattle.std.specs.Prelude.{ℕ, zero, suc, ◌-◌, ◌≡◌, Bool, true, false, List, [], ◌∷◌, length, All, Option, Some, None, option_map}
 use Rattle.c_tree.specs.declared.tree.Function.{Function}
+use Rattle.c_tree.specs.declared.tree.Item.{Item}
 use Rattle.c_tree.specs.declared.tree.Top.{Top}
 use Rattle.c_tree.specs.Trees.{Forest, trees_of}
 use Rattle.jump_meaning.specs.Code.{FunctionTree, function_tree}
@@ -10,6 +11,10 @@ use Rattle.tidy_laws.specs.Gone.{gone_before, left}
 use Rattle.tidy_loops.specs.Slots.{Tells}
 use Rattle.tidy_search.specs.Underway.{Underway}
 use Rattle.tidy_laws.specs.Ends.{IsChangedFirst, TopIsChangedFirst, TopIsSettled, AreChangedTimes}
+
+-- the function with this body
+abbrev pub with_body : Function → List Item → Function
+with_body f a = record f { body = Some a }
 
 -- the body of the function after its first change, with the declaration gone and the old numbers, if it has a change
 abbrev pub IsBodyChanged : FunctionTree → Option ℕ → Option Forest → Type 0

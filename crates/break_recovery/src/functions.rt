@@ -2,35 +2,20 @@ ghost use Rattle.std.specs.Prelude.{◌≡◌, ◌+◌, ℕ, suc, false, true, l
 ghost use Rattle.c_tree.specs.Trees.{trees_of};
 ghost use Rattle.jump_meaning.specs.Code.{FunctionTree, function_tree};
 ghost use Rattle.tidy_loops.specs.Slots.{Tells, counts_of};
-ghost use Rattle.tidy_search.specs.Places.{removed_at, AreQuietBut, Fewer};
+ghost use Rattle.tidy_search.specs.Places.{AreQuietBut, Fewer};
 ghost use Rattle.tidy_laws.specs.Renamed.{renamed_list};
 ghost use Rattle.tidy_renumber.specs.Numbers.{number};
-ghost use Rattle.tidy_laws.specs.Changes.{undeclared};
-ghost use Rattle.break_recovery.specs.Starts.{StartsAt, IsStart};
-ghost use Rattle.break_recovery.specs.Ends.{IsBodyChanged, WentOn, AreMade, IsNumbered, IsFunctionTidied, TopTidied, AreTidied};
+ghost use Rattle.break_recovery.specs.Starts.{IsStart};
+ghost use Rattle.break_recovery.specs.Ends.{with_body, IsBodyChanged, WentOn, AreMade, IsNumbered, IsFunctionTidied, TopTidied, AreTidied};
 
+use crate::boxes::{boxed, unboxed, undeclare};
 use crate::places::{Start, behind_change, change_from};
 use c_tree::{Function, Item, Top};
-use c_types::{List, Memory};
+use c_types::{Boxed, List, Memory};
 use std::alloc::Global;
-use tidy_loops::{guard_counts, is_declaration};
+use std::mem;
+use tidy_loops::guard_counts;
 use tidy_renumber::{Numbers, new_numbers, remove_gone, renumber_list};
-
-/// Takes the first `int g = 0;` out, and answers where it stood.
-fn undeclare(slot: u32, list: &mut List<Item>) -> Option<usize>
-    ensures gone { trees_of list.new ≡ undeclared slot (trees_of list.old) }
-    ensures place { trees_of list.new ≡ removed_at result (trees_of list.old) }
-{
-    let mut i = 0;
-    while i < list.len() {
-        if is_declaration(slot, &list.as_slice()[i]) {
-            drop(list.remove(i));
-            return Some(i);
-        }
-        i += 1;
-    }
-    None
-}
 
 /// Makes the next change of a body, if one applies, and answers its slot: the declaration goes too. Each slot
 /// keeps its number. Else the body stays. The counts are those of the function. The search starts where no
@@ -39,7 +24,7 @@ fn change_list_of(
     alloc: Global,
     counts: &List<u64>,
     start: &mut Start,
-    list: &mut List<Item>,
+    list: &mut List<Boxed<Item>>,
 ) -> Result<Option<u32>, Memory>
     ensures made { IfOk result (λ it. (f : FunctionTree) → Tells counts.now f → AreQuietBut f 2 start.old.doubt start.old.from (trees_of list.old) → f.body ≡ Some (trees_of list.old) → IsBodyChanged f it (Some (trees_of list.new))) }
     ensures kept { IfOk result (λ it. it ≡ None → list.new ≡ list.old) }
@@ -52,22 +37,6 @@ fn change_list_of(
             *start = behind_change(place, gone);
             Ok(Some(slot))
         }
-        None => Ok(None),
-    }
-}
-
-fn change_body(
-    alloc: Global,
-    counts: &List<u64>,
-    start: &mut Start,
-    body: &mut Option<List<Item>>,
-) -> Result<Option<u32>, Memory>
-    ensures made { IfOk result (λ it. (f : FunctionTree) → Tells counts.now f → StartsAt f start.old (option_map trees_of body.old) → f.body ≡ option_map trees_of body.old → IsBodyChanged f it (option_map trees_of body.new)) }
-    ensures kept { IfOk result (λ it. it ≡ None → body.new ≡ body.old) }
-    ensures start { IfOk result (λ it. (g : ℕ) → it ≡ Some g → (f h : FunctionTree) → Tells counts.now f → Fewer (counts_of f) (counts_of h) → StartsAt f start.old (option_map trees_of body.old) → StartsAt h start.new (option_map trees_of body.new)) }
-{
-    match body {
-        Some(list) => change_list_of(alloc, counts, start, list),
         None => Ok(None),
     }
 }
@@ -96,12 +65,12 @@ fn change_once(
     start: &mut Start,
     gone: &mut List<bool>,
     counts: &mut List<u64>,
-    function: &mut Function,
+    list: &mut List<Boxed<Item>>,
 ) -> Result<bool, Memory>
-    ensures went { IfOk result (λ went. IsStart counts.old start.old function.old → WentOn went gone.old counts.old function.old gone.new counts.new function.new) }
-    ensures start { IfOk result (λ went. went ≡ true → Tells counts.old (function_tree function.old) → IsStart counts.old start.old function.old → IsStart counts.new start.new function.new) }
+    ensures went { IfOk result (λ went. (f : Function) → IsStart counts.old start.old (trees_of list.old) → WentOn went gone.old counts.old (with_body f list.old) gone.new counts.new (with_body f list.new)) }
+    ensures start { IfOk result (λ went. went ≡ true → (f : Function) → Tells counts.old (function_tree (with_body f list.old)) → IsStart counts.old start.old (trees_of list.old) → IsStart counts.new start.new (trees_of list.new)) }
 {
-    let change = change_body(alloc, counts, start, &mut function.body)?;
+    let change = change_list_of(alloc, counts, start, list)?;
     match change {
         Some(slot) => {
             mark(slot, gone);
@@ -132,19 +101,45 @@ fn none_gone(alloc: Global, count: usize) -> Result<List<bool>, Memory>
     Ok(gone)
 }
 
-/// Makes one change after another until none applies, with the old numbers. Says how many, and which slots
-/// are gone.
-fn change_all(alloc: Global, function: &mut Function) -> Result<(u64, List<bool>), Memory>
-    ensures { IfOk result (λ r. AreMade r.0 function.old r.1 function.new) }
+/// Makes one change after another in the body of a function until none applies, with the old numbers. Says how many,
+/// and which slots are gone. The counts are those of the function.
+fn change_boxes(
+    alloc: Global,
+    counts: List<u64>,
+    function: &Function,
+    list: &mut List<Boxed<Item>>,
+) -> Result<(u64, List<bool>), Memory>
+    requires { Tells counts (function_tree (with_body function.now list.old)) }
+    ensures { IfOk result (λ r. AreMade r.0 (with_body function.now list.old) r.1 (with_body function.now list.new)) }
 {
-    let mut counts = guard_counts(alloc, function)?;
+    let mut counts = counts;
     let mut gone = none_gone(alloc, function.slots.len())?;
     let mut start = Start { doubt: 0, from: 0 };
     let mut count = 0;
-    'changes: while change_once(alloc, &mut start, &mut gone, &mut counts, function)? {
+    'changes: while change_once(alloc, &mut start, &mut gone, &mut counts, list)? {
         count = one_more(count)?;
     }
     Ok((count, gone))
+}
+
+/// The same of a function. The items of its outermost list are boxed meanwhile. After `Memory` its body is gone.
+fn change_all(alloc: Global, function: &mut Function) -> Result<(u64, List<bool>), Memory>
+    ensures { IfOk result (λ r. AreMade r.0 function.old r.1 function.new) }
+{
+    let counts = guard_counts(alloc, function)?;
+    match mem::replace(&mut function.body, None) {
+        Some(list) => {
+            let mut boxes = boxed(alloc, list)?;
+            let made = change_boxes(alloc, counts, function, &mut boxes)?;
+            let items = unboxed(alloc, boxes)?;
+            function.body = Some(items);
+            Ok(made)
+        }
+        None => {
+            let gone = none_gone(alloc, function.slots.len())?;
+            Ok((0, gone))
+        }
+    }
 }
 
 fn renumber_body(numbers: &Numbers, body: &mut Option<List<Item>>)
@@ -188,7 +183,7 @@ fn change_top(alloc: Global, top: &mut Top) -> Result<u64, Memory>
     }
 }
 
-/// The same of each function in file order. After `Memory` some changes are made.
+/// The same of each function in file order. After `Memory` some changes are made, and a body may be gone.
 pub fn change_tops(alloc: Global, tops: &mut List<Top>) -> Result<u64, Memory>
     ensures { IfOk result (λ n. AreTidied n tops.old tops.new) }
 {

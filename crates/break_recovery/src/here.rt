@@ -1,60 +1,104 @@
-ghost use Rattle.std.specs.Prelude.{◌≡◌, ◌<◌, ◌+◌, length, take, drop, get_or, None, IfOk, OnOk};
-ghost use Rattle.c_tree.specs.Trees.{Then, trees_of, join};
+//! The change at a loop: which one applies, and what it makes.
+
+ghost use Rattle.std.specs.Prelude.{◌≡◌, ◌<◌, length, take, drop, None, IfOk, OnOk};
+ghost use Rattle.c_tree.specs.Trees.{trees_of, join};
+ghost use Rattle.c_tree.specs.Views.{tree_at};
 ghost use Rattle.jump_meaning.specs.Code.{FunctionTree};
-ghost use Rattle.tidy_loops.specs.Slots.{Tells, count_in, break_slot as the_break_slot, continue_slot as the_continue_slot};
-ghost use Rattle.tidy_search.specs.Next.{put, next_here, broken_first, continued_first, break_first, continue_first, changed_to};
+ghost use Rattle.tidy_loops.specs.Slots.{Tells, count_in};
+ghost use Rattle.tidy_search.specs.Next.{put, next_here, changed_to};
+ghost use Rattle.break_recovery.specs.Loops.{continue_there, change_there, change_first, loop_after, list_after, slot_of as the_slot_of, keeps_next as the_keeps_next};
 
 use c_tree::Item;
 use c_types::{List, Memory};
 use std::alloc::Global;
 use tidy_loops::{break_slot, broken, continue_slot, continued};
 
-fn break_at(
+/// A change at a loop, with its slot.
+#[derive(Clone, Copy)]
+pub enum Change {
+    /// By `break`: the item behind the loop goes.
+    Break(u32),
+    /// By `continue`.
+    Continue(u32),
+}
+
+/// The slot of the change.
+pub fn slot_of(change: Change) -> u32
+    ensures { result ≡ the_slot_of change }
+{
+    match change {
+        Change::Break(slot) | Change::Continue(slot) => slot,
+    }
+}
+
+/// Whether the item behind the loop stays.
+pub fn keeps_next(change: Change) -> bool
+    ensures { result ≡ the_keeps_next change }
+{
+    matches!(change, Change::Continue(_))
+}
+
+fn change_by_continue(counts: &List<u64>, level: u32, item: &Item) -> Result<Option<Change>, Memory>
+    ensures { IfOk result (λ it. it ≡ continue_there (count_in counts.now) level (tree_at item.now)) }
+{
+    match continue_slot(counts, level, item)? {
+        Some(slot) => Ok(Some(Change::Continue(slot))),
+        None => Ok(None),
+    }
+}
+
+/// The change at an item before these, if it is a loop whose body stands at this level and that allows one.
+/// Of these it reads the first alone.
+pub fn change_of(
+    counts: &List<u64>,
+    level: u32,
+    item: &Item,
+    rest: &[Item],
+) -> Result<Option<Change>, Memory>
+    ensures { IfOk result (λ it. it ≡ change_there (count_in counts.now) level (tree_at item.now) (trees_of rest.now)) }
+{
+    match break_slot(counts, level, item, rest)? {
+        Some(slot) => Ok(Some(Change::Break(slot))),
+        None => change_by_continue(counts, level, item),
+    }
+}
+
+/// What the loop becomes.
+pub fn changed_loop(alloc: Global, change: Change, item: &Item) -> Result<Item, Memory>
+    ensures { IfOk result (λ it. tree_at it ≡ loop_after change (tree_at item.now)) }
+{
+    match change {
+        Change::Break(slot) => broken(alloc, slot, item),
+        Change::Continue(slot) => continued(alloc, slot, item),
+    }
+}
+
+fn find(
     counts: &List<u64>,
     level: u32,
     list: &List<Item>,
     at: usize,
-) -> Result<Option<u32>, Memory>
+) -> Result<Option<Change>, Memory>
     requires { at < length list.now }
-    ensures { IfOk result (λ it. it ≡ break_first (count_in counts.now) level (trees_of (drop at list.now))) }
+    ensures { IfOk result (λ it. it ≡ change_first (count_in counts.now) level (trees_of (drop at list.now))) }
 {
     let items = list.as_slice();
     let (_, rest) = items.split_at(at + 1);
-    break_slot(counts, level, &items[at], rest)
+    change_of(counts, level, &items[at], rest)
 }
 
-fn continue_at(
-    counts: &List<u64>,
-    level: u32,
-    list: &List<Item>,
-    at: usize,
-) -> Result<Option<u32>, Memory>
-    requires { at < length list.now }
-    ensures { IfOk result (λ it. it ≡ continue_first (count_in counts.now) level (trees_of (drop at list.now))) }
-{
-    continue_slot(counts, level, &list.as_slice()[at])
-}
-
-/// Makes the change by `break` at a loop: the item behind it goes.
-fn make_break(alloc: Global, slot: u32, list: &mut List<Item>, at: usize) -> Result<(), Memory>
+fn make(alloc: Global, change: Change, list: &mut List<Item>, at: usize) -> Result<(), Memory>
     requires { at < length list.old }
-    ensures { OnOk result (trees_of list.new ≡ join (trees_of (take at list.old)) (broken_first slot (trees_of (drop at list.old)))) }
+    ensures { OnOk result (trees_of list.new ≡ join (trees_of (take at list.old)) (list_after change (trees_of (drop at list.old)))) }
 {
-    let made = broken(alloc, slot, &list.as_slice()[at])?;
+    let made = changed_loop(alloc, change, &list.as_slice()[at])?;
     list.set(at, made);
+    if keeps_next(change) {
+        return Ok(());
+    }
     if at + 1 < list.len() {
         drop(list.remove(at + 1));
     }
-    Ok(())
-}
-
-/// Makes the change by `continue` at a loop.
-fn make_continue(alloc: Global, slot: u32, list: &mut List<Item>, at: usize) -> Result<(), Memory>
-    requires { at < length list.old }
-    ensures { OnOk result (trees_of list.new ≡ join (trees_of (take at list.old)) (continued_first slot (trees_of (drop at list.old)))) }
-{
-    let made = continued(alloc, slot, &list.as_slice()[at])?;
-    list.set(at, made);
     Ok(())
 }
 
@@ -71,21 +115,11 @@ pub fn change_here(
     ensures made { IfOk result (λ it. (f : FunctionTree) → Tells counts.now f → changed_to it (trees_of list.new) ≡ put (join (trees_of (take at list.old))) (next_here f level (trees_of (drop at list.old)))) }
     ensures kept { IfOk result (λ it. it ≡ None → list.new ≡ list.old) }
 {
-    let by_break = break_at(counts, level, list, at)?;
-    match by_break {
-        Some(slot) => {
-            make_break(alloc, slot, list, at)?;
-            Ok(Some(slot))
+    match find(counts, level, list, at)? {
+        Some(change) => {
+            make(alloc, change, list, at)?;
+            Ok(Some(slot_of(change)))
         }
-        None => {
-            let by_continue = continue_at(counts, level, list, at)?;
-            match by_continue {
-                Some(slot) => {
-                    make_continue(alloc, slot, list, at)?;
-                    Ok(Some(slot))
-                }
-                None => Ok(None),
-            }
-        }
+        None => Ok(None),
     }
 }

@@ -1,6 +1,7 @@
 //! Guards turned back into `break` and `continue`, one change after another.
 #![tactic(auto)]
 
+mod boxes;
 mod functions;
 mod here;
 mod places;

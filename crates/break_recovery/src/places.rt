@@ -7,9 +7,9 @@ ghost use Rattle.tidy_loops.specs.Slots.{Tells};
 ghost use Rattle.tidy_search.specs.Next.{put, next_at, changed_to};
 ghost use Rattle.tidy_search.specs.Places.{behind, replaced, AreQuiet, AreQuietBut, IsFoundAt, GoesOn};
 
-use crate::search::change_at;
+use crate::boxes::change_at;
 use c_tree::Item;
-use c_types::{List, Memory};
+use c_types::{Boxed, List, Memory};
 use std::alloc::Global;
 
 /// Where the search for the next change goes on: at one place that is in doubt, and from another on.
@@ -24,7 +24,7 @@ fn change_place(
     alloc: Global,
     counts: &List<u64>,
     level: u32,
-    list: &mut List<Item>,
+    list: &mut List<Boxed<Item>>,
     place: usize,
 ) -> Result<Option<u32>, Memory>
     ensures made { IfOk result (λ it. (f : FunctionTree) → Tells counts.now f → changed_to it (trees_of list.new) ≡ put (λ c. replaced place c (trees_of list.old)) (next_at f level (behind place (trees_of list.old)))) }
@@ -41,7 +41,7 @@ fn change_behind(
     alloc: Global,
     counts: &List<u64>,
     level: u32,
-    list: &mut List<Item>,
+    list: &mut List<Boxed<Item>>,
     from: usize,
 ) -> Result<Option<(u32, usize)>, Memory>
     ensures made { IfOk result (λ it. (f : FunctionTree) → Tells counts.now f → AreQuiet f level from (trees_of list.old) → IsFoundAt f level it (trees_of list.old) (trees_of list.new)) }
@@ -63,7 +63,7 @@ fn change_doubt(
     alloc: Global,
     counts: &List<u64>,
     level: u32,
-    list: &mut List<Item>,
+    list: &mut List<Boxed<Item>>,
     start: Start,
 ) -> Result<Option<(u32, usize)>, Memory>
     requires { start.doubt < start.from }
@@ -82,7 +82,7 @@ pub fn change_from(
     alloc: Global,
     counts: &List<u64>,
     level: u32,
-    list: &mut List<Item>,
+    list: &mut List<Boxed<Item>>,
     start: Start,
 ) -> Result<Option<(u32, usize)>, Memory>
     ensures made { IfOk result (λ it. (f : FunctionTree) → Tells counts.now f → AreQuietBut f level start.doubt start.from (trees_of list.old) → IsFoundAt f level it (trees_of list.old) (trees_of list.new)) }

@@ -38,7 +38,7 @@ fn change_list(
 }
 
 #[cycle(search)]
-pub fn change_at(
+fn change_at(
     alloc: Global,
     counts: &List<u64>,
     level: u32,
@@ -56,8 +56,9 @@ pub fn change_at(
     change_item(alloc, counts, level, list.at_mut(at))
 }
 
+/// The same in an item, whose lists stand at this level.
 #[cycle(search)]
-fn change_item(
+pub fn change_item(
     alloc: Global,
     counts: &List<u64>,
     level: u32,

@@ -1,0 +1,133 @@
+//! Changes in the outermost list of a function. Its items are boxed meanwhile, so that those behind an item that is
+//! taken out move by 8 bytes each.
+
+ghost use Rattle.std.specs.Prelude.{◌≡◌, ◌<◌, length, take, drop, None, IfOk, OnOk};
+ghost use Rattle.c_tree.specs.Trees.{trees_of, join};
+ghost use Rattle.jump_meaning.specs.Code.{FunctionTree};
+ghost use Rattle.tidy_laws.specs.Changes.{undeclared};
+ghost use Rattle.tidy_loops.specs.Slots.{Tells, count_in};
+ghost use Rattle.tidy_search.specs.Next.{put, next_at, next_here, changed_to};
+ghost use Rattle.tidy_search.specs.Places.{removed_at};
+ghost use Rattle.break_recovery.specs.Loops.{change_first, list_after};
+
+use crate::here::{Change, change_of, changed_loop, keeps_next, slot_of};
+use crate::search::change_item;
+use c_tree::Item;
+use c_types::{Boxed, List, Memory};
+use std::alloc::Global;
+use std::slice;
+use tidy_loops::is_declaration;
+
+/// The items in boxes. After `Memory` they are given up.
+pub fn boxed(alloc: Global, items: List<Item>) -> Result<List<Boxed<Item>>, Memory>
+    ensures { IfOk result (λ it. it ≡ items) }
+{
+    let mut boxes = List::from_vec(Vec::with_capacity(alloc, items.len())?);
+    for item in items.into_vec() {
+        boxes.push(Boxed::new(alloc, item)?)?;
+    }
+    Ok(boxes)
+}
+
+/// The items out of their boxes. After `Memory` they are given up.
+pub fn unboxed(alloc: Global, boxes: List<Boxed<Item>>) -> Result<List<Item>, Memory>
+    ensures { IfOk result (λ it. it ≡ boxes) }
+{
+    let mut items = List::from_vec(Vec::with_capacity(alloc, boxes.len())?);
+    for item in boxes.into_vec() {
+        items.push(item.into_inner())?;
+    }
+    Ok(items)
+}
+
+fn find(
+    counts: &List<u64>,
+    level: u32,
+    list: &List<Boxed<Item>>,
+    at: usize,
+) -> Result<Option<Change>, Memory>
+    requires { at < length list.now }
+    ensures { IfOk result (λ it. it ≡ change_first (count_in counts.now) level (trees_of (drop at list.now))) }
+{
+    let items = list.as_slice();
+    match list.get(at + 1) {
+        Some(next) => change_of(counts, level, items[at].get(), slice::from_ref(next.get())),
+        None => change_of(counts, level, items[at].get(), &[]),
+    }
+}
+
+fn make(
+    alloc: Global,
+    change: Change,
+    list: &mut List<Boxed<Item>>,
+    at: usize,
+) -> Result<(), Memory>
+    requires { at < length list.old }
+    ensures { OnOk result (trees_of list.new ≡ join (trees_of (take at list.old)) (list_after change (trees_of (drop at list.old)))) }
+{
+    let made = changed_loop(alloc, change, list.as_slice()[at].get())?;
+    list.at_mut(at).set(made);
+    if keeps_next(change) {
+        return Ok(());
+    }
+    if at + 1 < list.len() {
+        drop(list.remove(at + 1));
+    }
+    Ok(())
+}
+
+fn change_here(
+    alloc: Global,
+    counts: &List<u64>,
+    level: u32,
+    list: &mut List<Boxed<Item>>,
+    at: usize,
+) -> Result<Option<u32>, Memory>
+    requires { at < length list.old }
+    ensures made { IfOk result (λ it. (f : FunctionTree) → Tells counts.now f → changed_to it (trees_of list.new) ≡ put (join (trees_of (take at list.old))) (next_here f level (trees_of (drop at list.old)))) }
+    ensures kept { IfOk result (λ it. it ≡ None → list.new ≡ list.old) }
+{
+    match find(counts, level, list, at)? {
+        Some(change) => {
+            make(alloc, change, list, at)?;
+            Ok(Some(slot_of(change)))
+        }
+        None => Ok(None),
+    }
+}
+
+/// Makes the change at an item or in it, if one applies, and answers its slot. Else the list stays. The counts are
+/// those of the function.
+pub fn change_at(
+    alloc: Global,
+    counts: &List<u64>,
+    level: u32,
+    list: &mut List<Boxed<Item>>,
+    at: usize,
+) -> Result<Option<u32>, Memory>
+    requires { at < length list.old }
+    ensures made { IfOk result (λ it. (f : FunctionTree) → Tells counts.now f → changed_to it (trees_of list.new) ≡ put (join (trees_of (take at list.old))) (next_at f level (trees_of (drop at list.old)))) }
+    ensures kept { IfOk result (λ it. it ≡ None → list.new ≡ list.old) }
+{
+    let here = change_here(alloc, counts, level, list, at)?;
+    if here.is_some() {
+        return Ok(here);
+    }
+    change_item(alloc, counts, level, list.at_mut(at).get_mut())
+}
+
+/// Takes the first `int g = 0;` out, and answers where it stood.
+pub fn undeclare(slot: u32, list: &mut List<Boxed<Item>>) -> Option<usize>
+    ensures gone { trees_of list.new ≡ undeclared slot (trees_of list.old) }
+    ensures place { trees_of list.new ≡ removed_at result (trees_of list.old) }
+{
+    let mut i = 0;
+    while i < list.len() {
+        if is_declaration(slot, list.as_slice()[i].get()) {
+            drop(list.remove(i));
+            return Some(i);
+        }
+        i += 1;
+    }
+    None
+}
