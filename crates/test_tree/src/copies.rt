@@ -1,128 +1,162 @@
-use c_copies::*;
-use c_tree::{Expression, Function, GlobalVariable, Item, Node, Program, Slot, Top};
-use c_types::{IntKind, List, Memory, Name};
-use std::alloc::Global;
-use std::test::Fail;
+//! Names of a program, and copies of bodies.
 
-fn name(alloc: Global, text: &str) -> Result<Name, Memory> {
-    Ok(Name::from_string(String::from_str(alloc, text)?))
-}
+use crate::guards::{are_names, name};
+use c_copies::{copy_items, file_names, names};
+use c_tree::{Expression, Function, GlobalVariable, Item, Node, Program, Slot, Top};
+use c_types::{IntKind, List, Memory};
+use std::alloc::Global;
+use std::mem;
 
 fn variable(alloc: Global, text: &str) -> Result<Slot, Memory> {
-    let name = name(alloc, text)?;
     Ok(Slot {
-        name,
+        name: name(alloc, text)?,
         kind: IntKind::Int,
         cells: None,
         constant: false,
     })
 }
 
+/// `getchar();`
+fn call(alloc: Global) -> Result<Item, Memory> {
+    let callee = name(alloc, "getchar")?;
+    Ok(Item::Evaluate(Expression {
+        kind: Some(IntKind::Int),
+        node: Node::Call(callee, List::new(alloc)),
+    }))
+}
+
 fn body(alloc: Global) -> Result<List<Item>, Memory> {
     let mut body = List::new(alloc);
-    let callee = name(alloc, "getchar")?;
-    let node = Node::Call(callee, List::new(alloc));
-    body.push(Item::Evaluate(Expression {
-        kind: Some(IntKind::Int),
-        node,
-    }))?;
+    body.push(call(alloc)?)?;
     Ok(body)
 }
 
-fn function(alloc: Global) -> Result<Function, Memory> {
-    let mut slots = List::new(alloc);
-    slots.push(variable(alloc, "")?)?;
-    slots.push(variable(alloc, "x")?)?;
-    let mut labels = List::new(alloc);
-    labels.push(name(alloc, "end")?)?;
-    let body = body(alloc)?;
+/// `main` without parameters, variables and labels.
+fn main_of(alloc: Global) -> Result<Function, Memory> {
     let name = name(alloc, "main")?;
     Ok(Function {
         name,
         result: Some(IntKind::Int),
         file_only: false,
         params: 1,
-        slots,
-        labels,
-        body: Some(body),
+        slots: List::new(alloc),
+        labels: List::new(alloc),
+        body: None,
         flat: false,
+    })
+}
+
+/// Gives a function a parameter without a name, a variable `x`, a label `end` and a call.
+fn fill(alloc: Global, function: &mut Function) -> Result<(), Memory> {
+    function.slots.push(variable(alloc, "")?)?;
+    function.slots.push(variable(alloc, "x")?)?;
+    function.labels.push(name(alloc, "end")?)?;
+    let body = body(alloc)?;
+    drop(mem::replace(&mut function.body, Some(body)));
+    Ok(())
+}
+
+fn filled(alloc: Global) -> Result<Function, Memory> {
+    let mut function = main_of(alloc)?;
+    fill(alloc, &mut function)?;
+    Ok(function)
+}
+
+fn global(alloc: Global) -> Result<GlobalVariable, Memory> {
+    Ok(GlobalVariable {
+        slot: variable(alloc, "x")?,
+        init: None,
+        file_only: false,
     })
 }
 
 fn program(alloc: Global) -> Result<Program, Memory> {
     let mut tops = List::new(alloc);
-    let slot = variable(alloc, "x")?;
-    tops.push(Top::Global(GlobalVariable {
-        slot,
-        init: None,
-        file_only: false,
-    }))?;
-    tops.push(Top::Function(function(alloc)?))?;
+    tops.push(Top::Global(global(alloc)?))?;
+    tops.push(Top::Function(filled(alloc)?))?;
     Ok(Program { tops })
 }
 
-#[test]
-fn names_of_file_scope(rt: HostRuntime) -> Result<(), Fail> {
-    let program = program(rt.alloc())?;
-    let names = file_names(rt.alloc(), &program)?;
-    assert_eq!(rt; names.len(), 2);
-    assert_eq!(rt; names.as_slice()[0].as_str(), "main");
-    assert_eq!(rt; names.as_slice()[1].as_str(), "x");
-    Ok(())
+fn has_file_names(alloc: Global, program: &Program) -> Result<bool, Memory> {
+    let names = file_names(alloc, program)?;
+    let met = are_names(&names, &["main", "x"]);
+    drop(names);
+    Ok(met)
+}
+
+fn has_names(alloc: Global, program: &Program) -> Result<bool, Memory> {
+    let names = names(alloc, program)?;
+    let met = are_names(&names, &["end", "getchar", "main", "x"]);
+    drop(names);
+    Ok(met)
+}
+
+fn has_all_names(alloc: Global) -> Result<bool, Memory> {
+    let program = program(alloc)?;
+    let of_file = has_file_names(alloc, &program);
+    let of_all = has_names(alloc, &program);
+    drop(program);
+    Ok(of_file == Ok(true) && of_all == Ok(true))
 }
 
 #[test]
-fn names_of_a_program(rt: HostRuntime) -> Result<(), Fail> {
-    let program = program(rt.alloc())?;
-    let names = names(rt.alloc(), &program)?;
-    assert_eq!(rt; names.len(), 4);
-    assert_eq!(rt; names.as_slice()[0].as_str(), "end");
-    assert_eq!(rt; names.as_slice()[1].as_str(), "getchar");
-    assert_eq!(rt; names.as_slice()[2].as_str(), "main");
-    assert_eq!(rt; names.as_slice()[3].as_str(), "x");
-    Ok(())
+fn names_of_a_program(rt: HostRuntime) {
+    assert!(rt; has_all_names(rt.alloc()) == Ok(true));
 }
 
-/// A `break` in so many blocks, each in the one before.
-fn nested(alloc: Global, levels: u32) -> Result<List<Item>, Memory> {
-    let mut list = List::new(alloc);
+/// Puts a `break` into so many blocks, each in the one before.
+fn nest(alloc: Global, list: &mut List<Item>, levels: u32) -> Result<(), Memory> {
     list.push(Item::Break)?;
     for _ in 0..levels {
-        let mut outer = List::new(alloc);
-        outer.push(Item::Block(list))?;
-        list = outer;
+        let inner = mem::replace(list, List::new(alloc));
+        list.push(Item::Block(inner))?;
     }
-    Ok(list)
+    Ok(())
 }
 
-/// Labels, each with another number.
-fn labels(alloc: Global, count: u32) -> Result<List<Item>, Memory> {
+/// Puts labels into a list, each with another number.
+fn label(list: &mut List<Item>, count: u32) -> Result<(), Memory> {
+    for number in 0..count {
+        list.push(Item::Mark(number))?;
+    }
+    Ok(())
+}
+
+fn is_copied(alloc: Global, list: &List<Item>) -> Result<bool, Memory> {
+    let copy = copy_items(alloc, list)?;
+    let same = copy.len() == list.len() && copy == *list;
+    drop(copy);
+    Ok(same)
+}
+
+/// Whether a `break` in so many blocks is copied.
+fn copies_nested(alloc: Global, levels: u32) -> Result<bool, Memory> {
     let mut list = List::new(alloc);
-    for label in 0..count {
-        list.push(Item::Mark(label))?;
-    }
-    Ok(list)
+    nest(alloc, &mut list, levels)?;
+    let met = is_copied(alloc, &list);
+    drop(list);
+    met
+}
+
+/// Whether so many labels are copied.
+fn copies_labels(alloc: Global, count: u32) -> Result<bool, Memory> {
+    let mut list = List::new(alloc);
+    label(&mut list, count)?;
+    let met = list.len() == count as usize && is_copied(alloc, &list)?;
+    drop(list);
+    Ok(met)
+}
+
+fn copies_call(alloc: Global) -> Result<bool, Memory> {
+    let body = body(alloc)?;
+    let met = is_copied(alloc, &body);
+    drop(body);
+    met
 }
 
 #[test]
-fn copies_are_equal(rt: HostRuntime) -> Result<(), Fail> {
-    let body = body(rt.alloc())?;
-    assert!(rt; copy_items(rt.alloc(), &body)? == body);
-    Ok(())
-}
-
-#[test]
-fn deep_lists_are_copied(rt: HostRuntime) -> Result<(), Fail> {
-    let list = nested(rt.alloc(), 399)?;
-    assert!(rt; copy_items(rt.alloc(), &list)? == list);
-    Ok(())
-}
-
-#[test]
-fn long_lists_are_copied(rt: HostRuntime) -> Result<(), Fail> {
-    let list = labels(rt.alloc(), 150000)?;
-    let copy = copy_items(rt.alloc(), &list)?;
-    assert_eq!(rt; copy.len(), 150000);
-    assert!(rt; copy == list);
-    Ok(())
+fn copies_are_equal(rt: HostRuntime) {
+    assert!(rt; copies_call(rt.alloc()) == Ok(true));
+    assert!(rt; copies_nested(rt.alloc(), 399) == Ok(true));
+    assert!(rt; copies_labels(rt.alloc(), 150000) == Ok(true));
 }

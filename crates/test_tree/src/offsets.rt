@@ -1,8 +1,69 @@
+//! The relations of a jump to its label.
+
 use c_tree::{Branch, Path, Step};
 use c_types::{List, Memory};
 use label_offsets::{Rule, level, relation};
 use std::alloc::Global;
-use std::test::Fail;
+
+/// Where a Leap stands, where its Land, and the rule that applies.
+struct Related {
+    leap: (&'static [Step], u32),
+    land: (&'static [Step], u32),
+    rule: Rule,
+}
+
+const THEN: Step = Step {
+    item: 3,
+    branch: Branch::Then,
+};
+
+const ELSE: Step = Step {
+    item: 3,
+    branch: Branch::Else,
+};
+
+const LATER: Step = Step {
+    item: 6,
+    branch: Branch::Body,
+};
+
+const EARLIER: Step = Step {
+    item: 1,
+    branch: Branch::Body,
+};
+
+static RELATED: [Related; 6] = [
+    Related {
+        leap: (&[], 2),
+        land: (&[], 5),
+        rule: Rule::SiblingBefore,
+    },
+    Related {
+        leap: (&[], 5),
+        land: (&[], 1),
+        rule: Rule::SiblingAfter,
+    },
+    Related {
+        leap: (&[], 4),
+        land: (&[LATER], 2),
+        rule: Rule::InwardOf,
+    },
+    Related {
+        leap: (&[], 4),
+        land: (&[EARLIER], 0),
+        rule: Rule::LiftOf,
+    },
+    Related {
+        leap: (&[THEN], 1),
+        land: (&[], 8),
+        rule: Rule::Outward,
+    },
+    Related {
+        leap: (&[THEN], 1),
+        land: (&[ELSE], 0),
+        rule: Rule::Outward,
+    },
+];
 
 fn path(alloc: Global, steps: &[Step], item: u32) -> Result<Path, Memory> {
     Ok(Path {
@@ -11,30 +72,19 @@ fn path(alloc: Global, steps: &[Step], item: u32) -> Result<Path, Memory> {
     })
 }
 
-fn step(item: u32, branch: Branch) -> Step {
-    Step { item, branch }
+fn is_related(alloc: Global, it: &Related) -> Result<bool, Memory> {
+    let from = path(alloc, it.leap.0, it.leap.1)?;
+    let to = path(alloc, it.land.0, it.land.1)?;
+    let rule = relation(&from, &to);
+    let depth = level(&from);
+    drop(to);
+    drop(from);
+    Ok(rule == it.rule && depth == it.leap.0.len() as u64)
 }
 
 #[test]
-fn relations(rt: HostRuntime) -> Result<(), Fail> {
-    let in_then = [step(3, Branch::Then)];
-    let in_else = [step(3, Branch::Else)];
-    let in_later = [step(6, Branch::Body)];
-    let in_earlier = [step(1, Branch::Body)];
-    let none = [].as_slice();
-    let rows = [
-        (none, 2, none, 5, Rule::SiblingBefore),
-        (none, 5, none, 1, Rule::SiblingAfter),
-        (none, 4, in_later.as_slice(), 2, Rule::InwardOf),
-        (none, 4, in_earlier.as_slice(), 0, Rule::LiftOf),
-        (in_then.as_slice(), 1, none, 8, Rule::Outward),
-        (in_then.as_slice(), 1, in_else.as_slice(), 0, Rule::Outward),
-    ];
-    for (leap_steps, leap, land_steps, land, rule) in rows {
-        let from = path(rt.alloc(), leap_steps, leap)?;
-        let to = path(rt.alloc(), land_steps, land)?;
-        assert_eq!(rt; relation(&from, &to), rule, "{leap} and {land}");
-        assert_eq!(rt; level(&from), leap_steps.len() as u64);
+fn relations(rt: HostRuntime) {
+    for (number, it) in RELATED.iter().enumerate() {
+        assert!(rt; is_related(rt.alloc(), it) == Ok(true), "{number}");
     }
-    Ok(())
 }
