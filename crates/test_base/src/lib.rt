@@ -5,6 +5,8 @@
 #[cfg(test)]
 mod demo;
 #[cfg(test)]
+mod lists;
+#[cfg(test)]
 mod numbers;
 #[cfg(test)]
 mod pieces;

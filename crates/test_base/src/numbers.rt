@@ -9,7 +9,6 @@ use c_types::ArithOp::*;
 use c_types::IntKind::*;
 use c_types::Trap::*;
 use c_types::*;
-use std::test::Fail;
 
 static KINDS: [IntKind; 6] = [Char, UChar, Int, UInt, Long, ULong];
 
@@ -284,24 +283,39 @@ fn computes_as_c(rt: HostRuntime) {
     }
 }
 
+/// Whether the value is what it is to be in each kind.
+fn converts(value: i128, wanted: &[i128; 6]) -> bool {
+    for (kind, want) in KINDS.iter().zip(wanted) {
+        if convert(*kind, value) != *want {
+            return false;
+        }
+    }
+    true
+}
+
 #[test]
 fn converts_as_c(rt: HostRuntime) {
     for (value, wanted) in &CONVERTED {
-        for (kind, want) in KINDS.iter().zip(wanted) {
-            assert_eq!(rt; convert(*kind, *value), *want, "{value} to {kind:?}");
+        assert!(rt; converts(*value, wanted), "{value}");
+    }
+}
+
+/// Whether a sum with each kind has the kind that it is to have.
+fn sums(a: IntKind, row: &[IntKind; 6]) -> bool {
+    for (b, want) in KINDS.iter().zip(row) {
+        if usual(a, *b) != *want {
+            return false;
         }
     }
+    true
 }
 
 #[test]
 fn names_kinds_as_c(rt: HostRuntime) {
     for (a, row) in KINDS.iter().zip(&USUAL) {
-        for (b, want) in KINDS.iter().zip(row) {
-            assert_eq!(rt; usual(*a, *b), *want, "{a:?} {b:?}");
-        }
+        assert!(rt; sums(*a, row), "{a:?}");
     }
-    assert_eq!(rt; promote(Char), Int);
-    assert_eq!(rt; promote(ULong), ULong);
+    assert!(rt; promote(Char) == Int && promote(ULong) == ULong);
 }
 
 static CONSTANTS: [(Base, Suffix, u128, Option<IntKind>); 24] = [
@@ -352,34 +366,27 @@ fn gives_constants_kinds_as_c(rt: HostRuntime) {
     }
 }
 
-#[test]
-fn knows_words(rt: HostRuntime) {
-    assert!(rt; is_word(b"_x1") && is_word(b"while") && !is_word(b"1x") && !is_word(b""));
-    assert!(rt; !is_word(b"a-b") && !is_word(b"a\xc3"));
-    assert!(rt; is_keyword(b"_Static_assert") && is_keyword(b"if") && !is_keyword(b"If"));
-    assert!(rt; is_known(b"printf") && !is_known(b"puts") && !is_known(b"print"));
-    assert_eq!(rt; Shift.number(), 3);
-    assert_eq!(rt; NoAnswer.text(), "no answer left");
+fn are_known() -> bool {
+    is_word(b"_x1")
+        && is_word(b"while")
+        && is_keyword(b"_Static_assert")
+        && is_keyword(b"if")
+        && is_known(b"printf")
+}
+
+fn are_not_known() -> bool {
+    !is_word(b"1x")
+        && !is_word(b"")
+        && !is_word(b"a-b")
+        && !is_word(b"a\xc3")
+        && !is_keyword(b"If")
+        && !is_known(b"puts")
+        && !is_known(b"print")
 }
 
 #[test]
-fn keeps_lists(rt: HostRuntime) -> Result<(), Fail> {
-    let mut list = List::from_slice(rt.alloc(), &[5u8, 6])?;
-    list.push(7)?;
-    assert_eq!(rt; list.as_slice(), [5, 6, 7].as_slice());
-    assert!(rt; list == List::from_slice(rt.alloc(), &[5, 6, 7])?);
-    assert!(rt; list != List::new(rt.alloc()));
-    assert_eq!(rt; list.get(3), None);
-    let name = Name::from_string(String::from_str(rt.alloc(), "ab")?);
-    assert!(rt; name == name.copy(rt.alloc())?);
-    let mut boxed = Boxed::new(rt.alloc(), 1u8)?;
-    boxed.set(2);
-    assert!(rt; boxed == Boxed::new(rt.alloc(), 2)?);
-    let mut stack = Stack::new(rt.alloc());
-    stack.push(1u8)?;
-    stack.push(2)?;
-    assert_eq!(rt; stack.top(), Some(&2));
-    assert_eq!(rt; stack.pop(), Some(2));
-    assert_eq!(rt; stack.len(), 1);
-    Ok(())
+fn knows_words(rt: HostRuntime) {
+    assert!(rt; are_known());
+    assert!(rt; are_not_known());
+    assert!(rt; Shift.number() == 3 && NoAnswer.text() == "no answer left");
 }
