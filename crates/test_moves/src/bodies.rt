@@ -1,303 +1,112 @@
-//! Converted bodies. Each expression is a variable of its own, numbered in text order, and case
-//! labels are numbers: no rule looks at more.
+//! Texts, and what is told of the body of their function once it has no goto.
 
-ghost use Rattle.std.specs.Prelude.{◌≡◌, IfOk, [], ◌∷◌, Some, None, false, true};
-ghost use Rattle.c_tree.specs.Trees.{section_tree, trees_of};
+ghost use Rattle.std.specs.Prelude.{IfOk, OnOk};
+ghost use Rattle.c_tree.specs.InRange.{body_of};
 ghost use Rattle.c_tree.specs.WellMade.{IsWellMade};
-ghost use Rattle.test_moves.specs.Leaves.{variable as the_variable, number_tree};
+ghost use Rattle.c_resolved_laws.specs.Counts.{IsResolved};
+ghost use Rattle.flat_function.specs.Behaviour.{IsOfResolved};
 
-use c_tree::{Expression, Home, Item, Node, Place, Section, Selector, Test};
-use c_types::{IntKind, List, MOST, Memory};
+use crate::cases::{Asked, CASES};
+use crate::moves::tell_moves;
+use crate::reports::tell_report;
+use crate::single_steps::{tell_neighbours, tell_unread};
+use c_text::read;
+use c_tree::{Function, Program, Top};
+use c_types::{List, Memory};
+use flat_function::flatten;
+use guard_vars::convert;
 use std::alloc::Global;
 
-fn variable(n: u32) -> Expression
-    ensures { result ≡ the_variable n }
+/// The program of a text.
+pub fn program_of(alloc: Global, text: &str) -> Result<Program, Memory>
+    ensures { IfOk result IsResolved }
 {
-    Expression {
-        kind: Some(IntKind::Int),
-        node: Node::Read(Place::Var(Home::Slot(n))),
+    match read(alloc, text.as_bytes()) {
+        Ok(program) => Ok(program),
+        Err(_) => Err(Memory),
     }
 }
 
-fn evaluate(n: u32) -> Item
-    ensures { result ≡ Item.Evaluate (the_variable n) }
+/// Makes a function flat, and its gotos Leaps. Each of the texts has jumps.
+fn make_leaps(alloc: Global, function: &mut Function) -> Result<(), Memory>
+    requires { IsOfResolved function.old }
+    ensures { OnOk result (IsWellMade (body_of function.new)) }
 {
-    Item::Evaluate(variable(n))
-}
-
-fn answer(n: u32) -> Item
-    ensures { result ≡ Item.Return (Some (the_variable n)) }
-{
-    Item::Return(Some(variable(n)))
-}
-
-/// Sets the guard of the label to whether a variable isn't 0.
-fn arm(label: u32, n: u32) -> Item
-    ensures { result ≡ Item.Arm label (Some (the_variable n)) }
-{
-    Item::Arm(label, Some(variable(n)))
-}
-
-fn repeat(n: u32, body: List<Item>) -> Item
-    ensures { result ≡ Item.While (Test.Source (the_variable n)) body }
-{
-    Item::While(Test::Source(variable(n)), body)
-}
-
-fn choose(n: u32, then: List<Item>, otherwise: List<Item>) -> Item
-    ensures { result ≡ Item.If (Test.Source (the_variable n)) then otherwise }
-{
-    Item::If(Test::Source(variable(n)), then, otherwise)
-}
-
-fn list<T: Drop, const N: usize>(alloc: Global, items: [T; N]) -> Result<List<T>, Memory>
-    ensures { IfOk result (λ l. l ≡ items) }
-{
-    if N > MOST {
+    let none = List::new(alloc);
+    flatten(alloc, &none, &none, function)?;
+    if !function.flat {
         return Err(Memory);
     }
-    Ok(List::from_vec(Vec::from_array(alloc, items)?))
+    convert(alloc, function)
 }
 
-/// `case` with the number, and a list; `ends` where a `break` ends it.
-fn case(alloc: Global, number: i128, list: List<Item>, ends: bool) -> Result<Section, Memory>
-    ensures { IfOk result (λ c. section_tree c ≡ record { cases = number_tree number ∷ []; default = false; list = trees_of list; ends = ends }) }
+fn tell_body(
+    alloc: Global,
+    asked: Asked,
+    function: &mut Function,
+    out: &mut String,
+) -> Result<(), Memory>
+    requires { IsWellMade (body_of function.old) }
 {
-    let mut cases = List::new(alloc);
-    cases.push(Expression {
-        kind: Some(IntKind::Int),
-        node: Node::Number(number),
-    })?;
-    Ok(Section {
-        cases,
-        default: false,
-        list,
-        ends,
-    })
-}
-
-fn default(alloc: Global, list: List<Item>) -> Section
-    ensures { section_tree result ≡ record { cases = []; default = true; list = trees_of list; ends = false } }
-{
-    Section {
-        cases: List::new(alloc),
-        default: true,
-        list,
-        ends: false,
+    match asked {
+        Asked::Unread => return tell_unread(alloc, function, out),
+        Asked::Neighbours => return tell_neighbours(alloc, function, out),
+        _ => {}
+    }
+    match (asked, &mut function.body) {
+        (Asked::Moves, Some(body)) => tell_moves(alloc, body, out),
+        (Asked::Report, Some(body)) => tell_report(alloc, body, out),
+        _ => Err(Memory),
     }
 }
 
-fn select(n: u32, sections: List<Section>) -> Item
-    ensures { result ≡ Item.Switch (Selector.Source (the_variable n)) sections }
+fn tell_function(
+    alloc: Global,
+    asked: Asked,
+    function: &mut Function,
+    out: &mut String,
+) -> Result<(), Memory>
+    requires { IsOfResolved function.old }
 {
-    Item::Switch(Selector::Source(variable(n)), sections)
+    make_leaps(alloc, function)?;
+    tell_body(alloc, asked, function, out)
 }
 
-/// Into a `while`.
-pub fn into_while(alloc: Global) -> Result<List<Item>, Memory>
-    ensures { IfOk result (λ b. IsWellMade (trees_of b)) }
+/// Tells of the function that stands first.
+fn tell_first(
+    alloc: Global,
+    asked: Asked,
+    program: &mut Program,
+    out: &mut String,
+) -> Result<(), Memory>
+    requires { IsResolved program.old }
 {
-    let body = list(
-        alloc,
-        [evaluate(2), Item::Land(0), evaluate(3), evaluate(4)],
-    )?;
-    list(
-        alloc,
-        [
-            evaluate(0),
-            Item::Arm(0, None),
-            Item::Leap(0),
-            repeat(1, body),
-            answer(5),
-        ],
-    )
+    if program.tops.is_empty() {
+        return Err(Memory);
+    }
+    match program.tops.at_mut(0) {
+        Top::Function(function) => tell_function(alloc, asked, function, out),
+        _ => Err(Memory),
+    }
 }
 
-/// Into an else-list.
-pub fn into_else(alloc: Global) -> Result<List<Item>, Memory>
-    ensures { IfOk result (λ b. IsWellMade (trees_of b)) }
-{
-    let then = list(alloc, [evaluate(1)])?;
-    let otherwise = list(alloc, [evaluate(2), Item::Land(0), evaluate(3)])?;
-    list(
-        alloc,
-        [
-            Item::Arm(0, None),
-            Item::Leap(0),
-            choose(0, then, otherwise),
-            answer(4),
-        ],
-    )
+fn tell(alloc: Global, asked: Asked, text: &str, out: &mut String) -> Result<(), Memory> {
+    let mut program = program_of(alloc, text)?;
+    let told = tell_first(alloc, asked, &mut program, out);
+    drop(program);
+    told
 }
 
-/// Out of an `if` and two loops.
-pub fn out_of_loops(alloc: Global) -> Result<List<Item>, Memory>
-    ensures { IfOk result (λ b. IsWellMade (trees_of b)) }
-{
-    let then = list(alloc, [evaluate(5), Item::Arm(0, None), Item::Leap(0)])?;
-    let inner = list(alloc, [choose(4, then, List::new(alloc)), evaluate(6)])?;
-    let outer = list(alloc, [evaluate(2), repeat(3, inner), evaluate(7)])?;
-    list(
-        alloc,
-        [evaluate(0), repeat(1, outer), Item::Land(0), answer(8)],
-    )
+fn is_told(alloc: Global, asked: Asked, text: &str, want: &str) -> bool {
+    let mut out = String::new(alloc);
+    let told = tell(alloc, asked, text, &mut out).is_ok() && out.as_str() == want;
+    drop(out);
+    told
 }
 
-/// Two jumps to one label, out of a loop.
-pub fn two_jumps(alloc: Global) -> Result<List<Item>, Memory>
-    ensures { IfOk result (λ b. IsWellMade (trees_of b)) }
-{
-    let body = list(
-        alloc,
-        [
-            evaluate(1),
-            arm(0, 2),
-            Item::Leap(0),
-            arm(0, 3),
-            Item::Leap(0),
-            evaluate(4),
-        ],
-    )?;
-    list(alloc, [repeat(0, body), Item::Land(0), answer(5)])
-}
-
-/// From one section of a `switch` to another, past one that is fallen into.
-pub fn between_sections(alloc: Global) -> Result<List<Item>, Memory>
-    ensures { IfOk result (λ b. IsWellMade (trees_of b)) }
-{
-    let first = list(alloc, [arm(0, 1), Item::Leap(0), evaluate(2)])?;
-    let second = list(alloc, [evaluate(3)])?;
-    let third = list(alloc, [evaluate(4), Item::Land(0), evaluate(5)])?;
-    let last = list(alloc, [evaluate(6)])?;
-    let sections = list(
-        alloc,
-        [
-            case(alloc, 1, first, false)?,
-            case(alloc, 2, second, false)?,
-            case(alloc, 3, third, true)?,
-            default(alloc, last),
-        ],
-    )?;
-    list(alloc, [select(0, sections), answer(7)])
-}
-
-/// Into the section of a `switch` that has the default alone.
-pub fn into_default(alloc: Global) -> Result<List<Item>, Memory>
-    ensures { IfOk result (λ b. IsWellMade (trees_of b)) }
-{
-    let first = list(alloc, [evaluate(1)])?;
-    let second = list(alloc, [evaluate(2)])?;
-    let last = list(alloc, [evaluate(3), Item::Land(0), evaluate(4)])?;
-    let sections = list(
-        alloc,
-        [
-            case(alloc, 0, first, true)?,
-            case(alloc, 1, second, true)?,
-            default(alloc, last),
-        ],
-    )?;
-    list(
-        alloc,
-        [
-            Item::Arm(0, None),
-            Item::Leap(0),
-            select(0, sections),
-            answer(5),
-        ],
-    )
-}
-
-/// A loop left by `break`, continued by `continue` and begun again by a jump, as jumps to the labels
-/// 2, 1 and 0.
-pub fn break_and_continue(alloc: Global) -> Result<List<Item>, Memory>
-    ensures { IfOk result (λ b. IsWellMade (trees_of b)) }
-{
-    let body = list(
-        alloc,
-        [
-            Item::Land(0),
-            arm(1, 2),
-            Item::Leap(1),
-            arm(2, 3),
-            Item::Leap(2),
-            evaluate(4),
-            arm(0, 5),
-            Item::Leap(0),
-            Item::Land(1),
-            evaluate(6),
-        ],
-    )?;
-    list(
-        alloc,
-        [evaluate(0), repeat(1, body), Item::Land(2), answer(7)],
-    )
-}
-
-/// Back into an earlier loop.
-pub fn back_into_loop(alloc: Global) -> Result<List<Item>, Memory>
-    ensures { IfOk result (λ b. IsWellMade (trees_of b)) }
-{
-    let body = list(alloc, [Item::Land(0), evaluate(2), evaluate(3)])?;
-    list(
-        alloc,
-        [
-            evaluate(0),
-            repeat(1, body),
-            evaluate(4),
-            arm(0, 5),
-            Item::Leap(0),
-            answer(6),
-        ],
-    )
-}
-
-/// To a label right behind the jump.
-pub fn to_the_next(alloc: Global) -> Result<List<Item>, Memory>
-    ensures { IfOk result (λ b. IsWellMade (trees_of b)) }
-{
-    list(alloc, [Item::Arm(0, None), Item::Leap(0), Item::Land(0)])
-}
-
-/// Two labels out of one loop, from one `if`.
-pub fn two_labels(alloc: Global) -> Result<List<Item>, Memory>
-    ensures { IfOk result (λ b. IsWellMade (trees_of b)) }
-{
-    let then = list(
-        alloc,
-        [arm(0, 3), Item::Leap(0), Item::Arm(1, None), Item::Leap(1)],
-    )?;
-    let body = list(
-        alloc,
-        [evaluate(1), choose(2, then, List::new(alloc)), evaluate(4)],
-    )?;
-    list(
-        alloc,
-        [
-            repeat(0, body),
-            Item::Land(0),
-            evaluate(5),
-            Item::Land(1),
-            answer(6),
-        ],
-    )
-}
-
-/// Three jumps to one label, out of a loop.
-pub fn three_jumps(alloc: Global) -> Result<List<Item>, Memory>
-    ensures { IfOk result (λ b. IsWellMade (trees_of b)) }
-{
-    let body = list(
-        alloc,
-        [
-            evaluate(1),
-            arm(0, 2),
-            Item::Leap(0),
-            arm(0, 3),
-            Item::Leap(0),
-            arm(0, 4),
-            Item::Leap(0),
-            evaluate(5),
-        ],
-    )?;
-    list(alloc, [repeat(0, body), Item::Land(0), answer(6)])
+#[test]
+fn bodies_move_as_they_are_to(rt: HostRuntime) {
+    for (asked, text, want) in &CASES {
+        assert!(rt; is_told(rt.alloc(), *asked, text, want), "{text}");
+    }
 }

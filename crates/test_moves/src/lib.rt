@@ -1,23 +1,21 @@
-//! Worked examples of flat forms, of the four movements, each from the body that the conversion gives to the last
-//! join, of the simplifications after it, and of items that name slots. This crate holds tests alone, so that what
-//! they call is not proved twice for them.
+//! Texts, and what becomes of their functions: flat forms, the four movements, each from the body that the conversion
+//! gives to the last join, the simplifications after it, and items that name slots. This crate holds tests alone, so
+//! that what they call is not proved twice for them.
 #![tactic(auto)]
 
 #[cfg(test)]
 mod bodies;
 #[cfg(test)]
+mod cases;
+#[cfg(test)]
+mod flat_forms;
+#[cfg(test)]
+mod moves;
+#[cfg(test)]
+mod printed;
+#[cfg(test)]
 mod reports;
 #[cfg(test)]
-mod steps;
+mod single_steps;
 #[cfg(test)]
-mod test_flat_printed;
-#[cfg(test)]
-mod test_flat_worked;
-#[cfg(test)]
-mod test_moves_printed;
-#[cfg(test)]
-mod test_slots_worked;
-#[cfg(test)]
-mod tests;
-#[cfg(test)]
-mod walk;
+mod slots;

@@ -1,11 +1,11 @@
 //! The moves of a body in the order of the text, in lines.
 
-ghost use Rattle.std.specs.Prelude.{IsSome, IfOk, OnOk};
+ghost use Rattle.std.specs.Prelude.{IsSome, OnOk};
 ghost use Rattle.c_tree.specs.Trees.{trees_of};
 ghost use Rattle.c_tree.specs.WellMade.{IsWellMade};
 ghost use Rattle.label_offsets.specs.Marks.{label_at as the_label_at};
 
-use crate::test_moves_printed::{is_text, print_items, print_path};
+use crate::printed::{print_items, print_path};
 use c_tree::{Item, Path};
 use c_types::{List, Memory};
 use goto_lifting::lift;
@@ -54,44 +54,47 @@ fn print_rule(alloc: Global, out: &mut String, body: &List<Item>, at: &Path) -> 
     Ok(())
 }
 
-/// Moves the first Leap until it is joined, then the next, and writes a line for each move: where
-/// the Leap and its Land stand, the rule, where the Leap then stands, and the body then.
-fn moves_of(alloc: Global, body: List<Item>) -> Result<String, Memory>
-    requires { IsWellMade (trees_of body) }
+/// Moves the Leap at the path once, and writes a line: where the Leap and its Land stand, the rule, where the Leap then
+/// stands, and the body then. Answers which Leap is moved next: this one, or once it was joined, the first.
+fn tell_move(
+    alloc: Global,
+    body: &mut List<Item>,
+    at: &Path,
+    out: &mut String,
+) -> Result<Option<Path>, Memory>
+    requires well_made { IsWellMade (trees_of body.old) }
+    requires leap { IsSome (the_label_at body.old at.now) }
+    ensures { OnOk result (IsWellMade (trees_of body.new)) }
 {
-    let mut body = body;
-    let mut out = String::new(alloc);
-    print_items(alloc, &mut out, body.as_slice())?;
-    let mut next = first_leap(alloc, &body)?;
-    for _ in 0..9 {
-        let Some(at) = next else {
-            return Ok(out);
-        };
-        if label_at(&body, &at).is_none() {
-            return Ok(out);
+    out.push_str("\n")?;
+    print_rule(alloc, out, body, at)?;
+    let next = match move_by_rule(alloc, body, at)? {
+        Some(to) => {
+            out.push_str(" ")?;
+            print_path(alloc, out, &to)?;
+            Some(to)
         }
-        out.push_str("\n")?;
-        print_rule(alloc, &mut out, &body, &at)?;
-        next = match move_by_rule(alloc, &mut body, &at)? {
-            Some(to) => {
-                out.push_str(" ")?;
-                print_path(alloc, &mut out, &to)?;
-                Some(to)
-            }
-            None => first_leap(alloc, &body)?,
-        };
-        out.push_str(": ")?;
-        print_items(alloc, &mut out, body.as_slice())?;
-    }
-    Ok(out)
+        None => first_leap(alloc, body)?,
+    };
+    out.push_str(": ")?;
+    print_items(alloc, out, body.as_slice())?;
+    Ok(next)
 }
 
-/// Whether a body was made, and has these moves.
-pub fn has_moves(alloc: Global, body: Result<List<Item>, Memory>, want: &str) -> bool
-    requires { IfOk body (λ b. IsWellMade (trees_of b)) }
+/// Writes the body, then moves the first Leap until it is joined, then the next, until none is left.
+pub fn tell_moves(alloc: Global, body: &mut List<Item>, out: &mut String) -> Result<(), Memory>
+    requires { IsWellMade (trees_of body.old) }
 {
-    match body {
-        Ok(body) => is_text(moves_of(alloc, body), want),
-        Err(_) => false,
+    print_items(alloc, out, body.as_slice())?;
+    let mut next = first_leap(alloc, body)?;
+    for _ in 0..9 {
+        let Some(at) = next else {
+            return Ok(());
+        };
+        if label_at(body, &at).is_none() {
+            return Err(Memory);
+        }
+        next = tell_move(alloc, body, &at, out)?;
     }
+    Err(Memory)
 }
