@@ -5,6 +5,8 @@
 #![tactic(auto)]
 
 #[cfg(test)]
+mod edges_of_refusals;
+#[cfg(test)]
 mod lexer;
 #[cfg(test)]
 mod parser;
@@ -15,8 +17,6 @@ mod reading;
 #[cfg(test)]
 mod refusal_texts;
 #[cfg(test)]
+mod refusals;
+#[cfg(test)]
 mod resolving;
-#[cfg(test)]
-mod test_reading_edges_refusals;
-#[cfg(test)]
-mod test_reading_refusals;

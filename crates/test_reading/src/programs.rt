@@ -57,7 +57,6 @@ static PRINTED: [(&[u8], &[u8]); 14] = [
 #[test]
 fn printed(rt: HostRuntime) {
     for (number, (text, printed)) in PRINTED.iter().enumerate() {
-        let met = is_printed(rt.alloc(), text, printed);
-        assert!(rt; met, "{number}");
+        assert!(rt; is_printed(rt.alloc(), text, printed), "{number}");
     }
 }

@@ -6,7 +6,7 @@ use c_types::{Bytes, List, Memory, ReadStop};
 use std::alloc::Global;
 
 /// Counts no jumps, so that no function is too tangled.
-struct NoJumps;
+pub struct NoJumps;
 
 impl FlatCounter for NoJumps {
     ghost use Rattle.std.specs.Prelude.{None};

@@ -1,30 +1,13 @@
 //! Texts that are read step by step: their tokens, their syntax, their program.
 
-use crate::test_reading_refusals::refused;
+use crate::reading::NoJumps;
+use crate::refusals::{Place, is_at};
 use c_lexer::tokens;
 use c_parser::parse;
-use c_scopes::{FlatCounter, resolve};
-use c_tree::{Item, Program, Top};
-use c_types::{List, Memory, ReadStop};
+use c_scopes::resolve;
+use c_tree::{Program, Top};
+use c_types::ReadStop;
 use std::alloc::Global;
-use std::test::Fail;
-
-/// Counts no jumps, so that no function is too tangled.
-struct NoJumps;
-
-impl FlatCounter for NoJumps {
-    ghost use Rattle.std.specs.Prelude.{None};
-
-    ghost flat = { λ s items. None };
-
-    fn most(&self, _body: &List<Item>) -> Result<Option<(u64, u64)>, Memory> {
-        Ok(None)
-    }
-
-    fn count(&self, _body: &List<Item>) -> Result<Option<(u64, u64)>, Memory> {
-        Ok(None)
-    }
-}
 
 fn program(alloc: Global, text: &[u8]) -> Result<Program, ReadStop> {
     let tokens = tokens(alloc, text)?;
@@ -32,24 +15,47 @@ fn program(alloc: Global, text: &[u8]) -> Result<Program, ReadStop> {
     resolve(alloc, &NoJumps, text, &tokens, syntax)
 }
 
-#[test]
-fn resolves_names(rt: HostRuntime) -> Result<(), Fail> {
-    let found = program(rt.alloc(), b"/* x */ int x; int f(void) { return x; }")?;
-    match found.tops.as_slice() {
-        [
-            Top::Note(note),
-            Top::Global(variable),
-            Top::Function(function),
-        ] => {
-            assert_eq!(rt; note.as_slice(), b"/* x */".as_slice());
-            assert_eq!(rt; variable.slot.name.as_str(), "x");
-            assert_eq!(rt; function.name.as_str(), "f");
+const TEXT: &[u8] = b"/* x */ int x; int f(void) { return x; }";
+
+/// Whether this stands in the place of the TEXT that it is to stand in.
+fn is_in_place(at: usize, top: &Top) -> bool {
+    match top {
+        Top::Note(note) => at == 0 && note.as_slice() == b"/* x */".as_slice(),
+        Top::Global(variable) => at == 1 && variable.slot.name.as_str() == "x",
+        Top::Function(function) => at == 2 && function.name.as_str() == "f",
+        _ => false,
+    }
+}
+
+/// Whether the program is that of the TEXT.
+fn has_three(program: &Program) -> bool {
+    for (at, top) in program.tops.as_slice().iter().enumerate() {
+        if !is_in_place(at, top) {
+            return false;
         }
-        _ => assert!(rt; false),
     }
-    match program(rt.alloc(), b"int f(void) { return x; }") {
-        Ok(_) => assert!(rt; false),
-        Err(stop) => assert_eq!(rt; stop, refused(20, 1, 22, 21)),
+    program.tops.len() == 3
+}
+
+fn resolves(alloc: Global) -> Result<bool, ReadStop> {
+    let found = program(alloc, TEXT)?;
+    let met = has_three(&found);
+    drop(found);
+    Ok(met)
+}
+
+fn stops(alloc: Global, text: &[u8], place: Place) -> bool {
+    match program(alloc, text) {
+        Ok(found) => {
+            drop(found);
+            false
+        }
+        Err(stop) => is_at(stop, place),
     }
-    Ok(())
+}
+
+#[test]
+fn resolves_names(rt: HostRuntime) {
+    assert!(rt; resolves(rt.alloc()) == Ok(true));
+    assert!(rt; stops(rt.alloc(), b"int f(void) { return x; }", (20, 1, 22, 21)));
 }

@@ -263,7 +263,9 @@ static REFUSED: [Refused; 50] = [
 #[test]
 fn refuses(rt: HostRuntime) {
     for (number, case) in REFUSED.iter().enumerate() {
-        let met = is_refused(rt.alloc(), case.text, case.reason, case.at);
-        assert!(rt; met, "{number}");
+        assert!(rt;
+            is_refused(rt.alloc(), case.text, case.reason, case.at),
+            "{number}"
+        );
     }
 }
