@@ -3,12 +3,8 @@
 #![tactic(auto)]
 
 #[cfg(test)]
-mod listings;
-#[cfg(test)]
 mod pieces;
 #[cfg(test)]
 mod plain_forms;
-#[cfg(test)]
-mod postfix;
 #[cfg(test)]
 mod printing;
