@@ -1,6 +1,6 @@
 //! Devices that fail: each call that a command makes of its ports fails in turn.
 
-use crate::ports::{Failing, Given, Outcome, SOUND, on, run, run_with};
+use crate::ports::{Failing, Outcome, SOUND, run_with};
 use c_types::Memory;
 use std::alloc::Global;
 use test_texts::{LOOP_BY_HAND, ONE_LABEL_TWO_JUMPS, SECTION_TO_SECTION, Worked};
@@ -356,37 +356,11 @@ fn fail_in_turn(alloc: Global, it: &Try) -> bool {
 fn fail_in_turn_on_worked_texts(rt: HostRuntime) {
     for case in &TEXTS {
         for command in &COMMANDS {
-            let met = fail_in_turn(rt.alloc(), &Try { command, case });
-            assert!(rt; met, "{} on {}", command.words.len(), case.source);
+            assert!(rt;
+                fail_in_turn(rt.alloc(), &Try { command, case }),
+                "{}",
+                case.source
+            );
         }
-    }
-}
-
-/// Whether a write failed behind these bytes.
-fn is_cut(found: &Outcome, written: &str) -> bool {
-    tells_fault(found, 5) && found.out.bytes() == written.as_bytes()
-}
-
-fn writes_before(alloc: Global, call: &'static [u64], written: &str) -> bool {
-    let given = Given {
-        failing: failing_at(Port::Out, call),
-        ..on(LOOP_BY_HAND.source)
-    };
-    match run(alloc, &["run", "a.c"], &given) {
-        Ok(found) => {
-            let met = is_cut(&found, written);
-            drop(found);
-            met
-        }
-        Err(_) => false,
-    }
-}
-
-/// A run that writes a byte in each step of its loop, and what it wrote before the write with each number failed.
-#[test]
-fn writes_byte_by_byte(rt: HostRuntime) {
-    for (call, written) in CALLS.iter().zip(["", "a", "ab"]) {
-        let met = writes_before(rt.alloc(), call, written);
-        assert!(rt; met, "{written}");
     }
 }

@@ -3,17 +3,17 @@
 #![tactic(auto)]
 
 #[cfg(test)]
-mod demos;
-#[cfg(test)]
 mod devices;
 #[cfg(test)]
 mod example_texts;
 #[cfg(test)]
 mod limits;
 #[cfg(test)]
-mod lowering;
-#[cfg(test)]
 mod more_example_texts;
+#[cfg(test)]
+mod parts;
+#[cfg(test)]
+mod plain_texts;
 #[cfg(test)]
 mod ports;
 #[cfg(test)]
@@ -23,8 +23,8 @@ mod results;
 #[cfg(test)]
 mod runs;
 #[cfg(test)]
-mod statuses;
-#[cfg(test)]
-mod tidying;
+mod undone;
 #[cfg(test)]
 mod worked;
+#[cfg(test)]
+mod written;

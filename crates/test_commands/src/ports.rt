@@ -25,53 +25,59 @@ pub struct Failing {
 }
 
 /// No call fails.
-pub static SOUND: Failing = Failing {
+pub const SOUND: Failing = Failing {
     shelf: &[],
     input: &[],
     out: &[],
     err: &[],
 };
 
-/// What a command finds: the texts of `a.c` and `r.txt`, the input, and the calls that fail.
+/// A command, what it finds, and what it is to leave.
 #[derive(Clone, Copy)]
-pub struct Given<'a> {
+pub struct Case<'a> {
+    pub words: &'a [&'a str],
+    /// The texts of `a.c` and `r.txt`, the input, and the calls that fail.
     pub source: &'a str,
     pub report: &'a str,
     pub input: &'a str,
     pub failing: Failing,
-}
-
-/// A text in `a.c`; no input, and no call fails.
-pub fn on<'a>(source: &'a str) -> Given<'a> {
-    Given {
-        source,
-        report: "kept",
-        input: "",
-        failing: SOUND,
-    }
-}
-
-/// What a command is to leave: the exit status, the texts of `a.c`, `b.c` and `r.txt`, the output, and the line on the
-/// standard error; where that is empty, nothing is told.
-#[derive(Clone, Copy)]
-pub struct Left<'a> {
+    /// The exit status.
     pub code: u8,
-    pub source: &'a str,
+    /// The texts that are put into `a.c`, `b.c` and `r.txt`. Else the first and the last stay, and there is no `b.c`.
+    pub put: Option<&'a str>,
     pub text: Option<&'a str>,
-    pub report: &'a str,
+    pub moves: Option<&'a str>,
+    /// The output, and what is left of the input, where that is looked at.
     pub out: &'a str,
+    pub rest: Option<&'a str>,
+    /// The front of the line on the standard error and the rest of it. Where that is empty, nothing is told.
+    pub front: &'a str,
     pub line: &'a str,
 }
 
-/// What a command that is done leaves of `on(source)`, where it writes nothing.
-pub fn unchanged<'a>(source: &'a str) -> Left<'a> {
-    Left {
-        code: 0,
+/// A command that does its job, and writes and tells nothing.
+pub const CASE: Case<'static> = Case {
+    words: &[],
+    source: "",
+    report: "kept",
+    input: "",
+    failing: SOUND,
+    code: 0,
+    put: None,
+    text: None,
+    moves: None,
+    out: "",
+    rest: None,
+    front: "",
+    line: "",
+};
+
+/// `restructure a.c b.c` of a text.
+pub fn restructuring<'a>(source: &'a str) -> Case<'a> {
+    Case {
+        words: &["restructure", "a.c", "b.c"],
         source,
-        text: None,
-        report: "kept",
-        out: "",
-        line: "",
+        ..CASE
     }
 }
 
@@ -165,8 +171,8 @@ fn carry_out(alloc: Global, words: &[String], ports: &mut Outcome) {
     );
 }
 
-fn strings(alloc: Global, words: &[&str]) -> Result<Vec<String>, Memory> {
-    let mut made = Vec::new(alloc);
+fn strings(alloc: Global, words: &[&str]) -> Result<List<String>, Memory> {
+    let mut made = List::new(alloc);
     for word in words {
         made.push(String::from_str(alloc, word)?)?;
     }
@@ -184,7 +190,7 @@ pub fn run_with(
     let words = strings(alloc, words)?;
     match start(alloc, texts, input, failing) {
         Ok(mut ports) => {
-            carry_out(alloc, &words, &mut ports);
+            carry_out(alloc, words.as_slice(), &mut ports);
             drop(words);
             Ok(ports)
         }
@@ -196,9 +202,9 @@ pub fn run_with(
 }
 
 /// Runs a command on what it finds.
-pub fn run(alloc: Global, words: &[&str], given: &Given) -> Result<Outcome, Memory> {
-    let texts = [("a.c", given.source), ("r.txt", given.report)];
-    run_with(alloc, words, &texts, given.input, &given.failing)
+pub fn run(alloc: Global, case: &Case) -> Result<Outcome, Memory> {
+    let texts = [("a.c", case.source), ("r.txt", case.report)];
+    run_with(alloc, case.words, &texts, case.input, &case.failing)
 }
 
 /// Whether the shelf holds this text under the name, or nothing.
@@ -210,28 +216,39 @@ fn holds(shelf: &MemShelf, name: &str, text: Option<&str>) -> bool {
 }
 
 /// Whether this line was told, or nothing where it is empty.
-fn is_told(told: &[u8], line: &str) -> bool {
+fn is_told(told: &[u8], front: &str, line: &str) -> bool {
     if line.is_empty() {
-        told.is_empty()
-    } else {
-        told.strip_suffix(b"\n".as_slice()) == Some(line.as_bytes())
+        return told.is_empty();
+    }
+    match told.strip_prefix(front.as_bytes()) {
+        Some(rest) => rest.strip_suffix(b"\n".as_slice()) == Some(line.as_bytes()),
+        None => false,
     }
 }
 
-fn is_left(ran: &Outcome, left: &Left) -> bool {
-    ran.status.code() == left.code
-        && holds(&ran.shelf, "a.c", Some(left.source))
-        && holds(&ran.shelf, "b.c", left.text)
-        && holds(&ran.shelf, "r.txt", Some(left.report))
-        && ran.out.bytes() == left.out.as_bytes()
-        && is_told(ran.err.bytes(), left.line)
+/// Whether this is left of the input, where that is looked at.
+fn is_rest(left: &[u8], rest: Option<&str>) -> bool {
+    match rest {
+        Some(rest) => left == rest.as_bytes(),
+        None => true,
+    }
 }
 
-/// Whether a command leaves this.
-pub fn leaves(alloc: Global, words: &[&str], given: &Given, left: &Left) -> bool {
-    match run(alloc, words, given) {
+fn is_left(ran: &Outcome, case: &Case) -> bool {
+    ran.status.code() == case.code
+        && holds(&ran.shelf, "a.c", Some(case.put.unwrap_or(case.source)))
+        && holds(&ran.shelf, "b.c", case.text)
+        && holds(&ran.shelf, "r.txt", Some(case.moves.unwrap_or(case.report)))
+        && ran.out.bytes() == case.out.as_bytes()
+        && is_rest(ran.input.rest(), case.rest)
+        && is_told(ran.err.bytes(), case.front, case.line)
+}
+
+/// Whether a command leaves what it is to.
+pub fn leaves(alloc: Global, case: &Case) -> bool {
+    match run(alloc, case) {
         Ok(ran) => {
-            let met = is_left(&ran, left);
+            let met = is_left(&ran, case);
             drop(ran);
             met
         }

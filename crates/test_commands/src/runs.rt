@@ -1,274 +1,249 @@
 //! Programs that are run.
 
-use crate::ports::{Failing, Given, Left, Outcome, leaves, on, run, unchanged};
-use std::alloc::Global;
+use crate::ports::{CASE, Case, Failing, SOUND, leaves};
+use crate::written::{LETTERS, LOWERED};
 
-/// A run: its words, the text of `a.c`, the input, the exit status, the output, and the line on the standard error.
-struct Run {
-    words: &'static [&'static str],
-    source: &'static str,
-    input: &'static str,
-    code: u8,
-    out: &'static str,
-    line: &'static str,
-}
+const LOOP: &str =
+    "int main(void) { int i = 0; loop: if (i >= 3) goto done; putchar('a' + i); i++; goto loop; done: return 0; }";
 
-static RUNS: [Run; 20] = [
-    Run {
+const ECHO: &str = "int main(void) { while (1) { putchar(getchar()); } }";
+
+static RUNS: [Case<'static>; 22] = [
+    Case {
         words: &["run", "a.c"],
-        source: "int main(void) { int i = 0; loop: if (i >= 3) goto done; putchar('a' + i); i++; goto loop; done: return 0; }",
-        input: "",
-        code: 0,
+        source: LOOP,
         out: "abc",
         line: "regoto: ended with 0",
+        ..CASE
     },
-    Run {
+    Case {
         words: &["run", "a.c", "--steps", "007"],
-        source: "int main(void) { int i = 0; loop: if (i >= 3) goto done; putchar('a' + i); i++; goto loop; done: return 0; }",
-        input: "",
+        source: LOOP,
         code: 7,
-        out: "",
         line: "regoto: stopped after 7 steps",
+        ..CASE
     },
-    Run {
+    Case {
         words: &["run", "a.c"],
         source: "int main(void) { int c; while (1) { c = getchar(); if (c == -1) goto end; if (c == 'q') goto end; putchar(c); } end: return 0; }",
         input: "abq",
-        code: 0,
         out: "ab",
         line: "regoto: ended with 0",
+        ..CASE
     },
-    Run {
+    Case {
         words: &["run", "a.c"],
         source: "int main(void) { int c; while (1) { c = getchar(); if (c == -1) goto end; if (c == 'q') goto end; putchar(c); } end: return 0; }",
         input: "ab",
-        code: 0,
         out: "ab",
         line: "regoto: ended with 0",
+        ..CASE
     },
-    Run {
+    Case {
         words: &["run", "a.c"],
         source: "int main(void) { int i = 2147483647; putchar('a'); goto up; putchar('x'); up: i = i + 1; return 0; }",
-        input: "",
         code: 6,
         out: "a",
         line: "regoto: trap 1: signed overflow",
+        ..CASE
     },
-    Run {
+    Case {
         words: &["run", "a.c"],
         source: "",
-        input: "",
         code: 1,
-        out: "",
         line: "a.c:1:1: error 41: no main",
+        ..CASE
     },
-    Run {
+    Case {
         words: &["run", "a.c"],
         source: "int p(int x); int main(void) { return p(1); }",
-        input: "",
         code: 1,
-        out: "",
         line: "a.c:1:1: error 42: call of a function without body",
+        ..CASE
     },
-    Run {
+    Case {
         words: &["run", "a.c"],
         source: "int p(int x); int q(int x) { return p(x); } int main(void) { return 0; }",
-        input: "",
         code: 1,
-        out: "",
         line: "a.c:1:1: error 42: call of a function without body",
+        ..CASE
     },
-    Run {
+    Case {
         words: &["run", "a.c"],
         source: "int p(int x); int main(void) { return 7; } int p(int x) { return x; }",
-        input: "",
-        code: 0,
-        out: "",
         line: "regoto: ended with 7",
+        ..CASE
     },
-    Run {
+    Case {
         words: &["run", "a.c"],
         source: "int p(int x); int main(void) { return 7; }",
-        input: "",
-        code: 0,
-        out: "",
         line: "regoto: ended with 7",
+        ..CASE
     },
-    Run {
+    Case {
         words: &["run", "a.c"],
         source: "int main(void); int f(void) { return 1; }",
-        input: "",
         code: 1,
-        out: "",
         line: "a.c:1:1: error 41: no main",
+        ..CASE
     },
-    Run {
+    Case {
         words: &["run", "a.c", "--steps", "1000"],
         source: "int main(void) { L: goto L; }",
-        input: "",
         code: 7,
-        out: "",
         line: "regoto: stopped after 1000 steps",
+        ..CASE
     },
-    Run {
+    Case {
         words: &["run", "a.c", "--steps", "0"],
         source: "int main(void) { }",
-        input: "",
         code: 7,
-        out: "",
         line: "regoto: stopped after 0 steps",
+        ..CASE
     },
-    Run {
+    Case {
         words: &["run", "a.c", "--steps", "1"],
         source: "int main(void) { }",
-        input: "",
-        code: 0,
-        out: "",
         line: "regoto: ended with 0",
+        ..CASE
     },
-    Run {
+    Case {
         words: &["run", "a.c"],
         source: "int main(void) { exit(-5); }",
-        input: "",
-        code: 0,
-        out: "",
         line: "regoto: ended with -5",
+        ..CASE
     },
-    Run {
+    Case {
         words: &["run", "a.c"],
         source: "int main(void) { putchar('x'); abort(); }",
-        input: "",
         code: 6,
         out: "x",
         line: "regoto: trap 8: abort",
+        ..CASE
     },
-    Run {
+    Case {
         words: &["run", "a.c"],
         source: "int a[65536]; int main(void) { printf(\"%d%%%c\", 12, 65); return a[2] - 2147483647 - 1; }",
-        input: "",
-        code: 0,
         out: "12%A",
         line: "regoto: ended with -2147483648",
+        ..CASE
     },
-    Run {
+    Case {
         words: &["run", "a.c"],
         source: "int main(void) { return x; }",
-        input: "",
         code: 1,
-        out: "",
         line: "a.c:1:25: error 20: not declared",
+        ..CASE
     },
-    Run {
+    Case {
         words: &["run", "c.c"],
         source: "int main(void) { }",
-        input: "",
         code: 8,
-        out: "",
         line: "regoto: no file c.c",
+        ..CASE
     },
-    Run {
+    Case {
         words: &["run", "a.c", "--steps", "x"],
         source: "int main(void) { }",
-        input: "",
         code: 2,
-        out: "",
         line: "regoto: unknown use, try help",
+        ..CASE
+    },
+    Case {
+        words: &["run", "a.c"],
+        source: LETTERS,
+        out: "abc",
+        line: "regoto: ended with 0",
+        ..CASE
+    },
+    Case {
+        words: &["run", "a.c"],
+        source: LOWERED,
+        out: "abc",
+        line: "regoto: ended with 0",
+        ..CASE
     },
 ];
 
-/// Whether a command ends and tells as it is to, and changes no file.
-fn is_met(alloc: Global, case: &Run) -> bool {
-    let given = Given {
-        input: case.input,
-        ..on(case.source)
-    };
-    let left = Left {
-        code: case.code,
-        out: case.out,
-        line: case.line,
-        ..unchanged(case.source)
-    };
-    leaves(alloc, case.words, &given, &left)
-}
+/// Runs of which a call of a port fails.
+static BROKEN: [Case<'static>; 6] = [
+    Case {
+        words: &["run", "a.c"],
+        source: ECHO,
+        input: "abc",
+        failing: Failing {
+            input: &[1],
+            ..SOUND
+        },
+        code: 4,
+        out: "a",
+        rest: Some("bc"),
+        line: "regoto: read failed",
+        ..CASE
+    },
+    Case {
+        words: &["run", "a.c"],
+        source: ECHO,
+        input: "abc",
+        failing: Failing { out: &[2], ..SOUND },
+        code: 5,
+        out: "ab",
+        rest: Some(""),
+        line: "regoto: write failed",
+        ..CASE
+    },
+    Case {
+        words: &["run", "a.c"],
+        source: ECHO,
+        input: "abc",
+        failing: Failing {
+            shelf: &[0],
+            ..SOUND
+        },
+        code: 4,
+        rest: Some("abc"),
+        line: "regoto: read failed",
+        ..CASE
+    },
+    // a write of each byte
+    Case {
+        words: &["run", "a.c"],
+        source: LOOP,
+        failing: Failing { out: &[0], ..SOUND },
+        code: 5,
+        line: "regoto: write failed",
+        ..CASE
+    },
+    Case {
+        words: &["run", "a.c"],
+        source: LOOP,
+        failing: Failing { out: &[1], ..SOUND },
+        code: 5,
+        out: "a",
+        line: "regoto: write failed",
+        ..CASE
+    },
+    Case {
+        words: &["run", "a.c"],
+        source: LOOP,
+        failing: Failing { out: &[2], ..SOUND },
+        code: 5,
+        out: "ab",
+        line: "regoto: write failed",
+        ..CASE
+    },
+];
 
 #[test]
 fn runs(rt: HostRuntime) {
     for case in &RUNS {
-        let met = is_met(rt.alloc(), case);
-        assert!(rt; met, "{}", case.source);
-    }
-}
-
-const ECHO: &str = "int main(void) { while (1) { putchar(getchar()); } }";
-
-/// A run of ECHO on `abc` of which a call fails: the status, what was written, and what is left of the input.
-struct Broken {
-    shelf: &'static [u64],
-    input: &'static [u64],
-    out: &'static [u64],
-    code: u8,
-    written: &'static str,
-    left: &'static str,
-}
-
-static BROKEN: [Broken; 3] = [
-    Broken {
-        shelf: &[],
-        input: &[1],
-        out: &[],
-        code: 4,
-        written: "a",
-        left: "bc",
-    },
-    Broken {
-        shelf: &[],
-        input: &[],
-        out: &[2],
-        code: 5,
-        written: "ab",
-        left: "",
-    },
-    Broken {
-        shelf: &[0],
-        input: &[],
-        out: &[],
-        code: 4,
-        written: "",
-        left: "abc",
-    },
-];
-
-fn is_broken(case: &Broken, ran: &Outcome) -> bool {
-    ran.status.code() == case.code
-        && ran.out.bytes() == case.written.as_bytes()
-        && ran.input.rest() == case.left.as_bytes()
-}
-
-fn breaks(alloc: Global, case: &Broken) -> bool {
-    let given = Given {
-        input: "abc",
-        failing: Failing {
-            shelf: case.shelf,
-            input: case.input,
-            out: case.out,
-            err: &[],
-        },
-        ..on(ECHO)
-    };
-    match run(alloc, &["run", "a.c"], &given) {
-        Ok(ran) => {
-            let met = is_broken(case, &ran);
-            drop(ran);
-            met
-        }
-        Err(_) => false,
+        assert!(rt; leaves(rt.alloc(), case), "{}", case.source);
     }
 }
 
 #[test]
 fn stops_at_a_failed_call(rt: HostRuntime) {
     for case in &BROKEN {
-        let met = breaks(rt.alloc(), case);
-        assert!(rt; met, "{}", case.written);
+        assert!(rt; leaves(rt.alloc(), case), "{}", case.out);
     }
 }
