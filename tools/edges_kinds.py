@@ -106,7 +106,8 @@ KINDS = {
     "a function of many variables that writes to its last one and calls itself": parts.writing(1 << 30),
     "a function of many variables that writes to each 1,000th and calls itself": parts.writing(1000),
     "a function of many variables in a loop": parts.called("return 1;", "while (f()); return 0;"),
-    "arrays of 1,024 cells": kind("", parts.cells),
+    # 390 bytes are written for each that is read, so a quarter of a text is written as 100 MB
+    "arrays of 1,024 cells, a quarter of a text": parts.quarter(kind("", parts.cells)),
     "arrays of 65,536 cells": kind("", lambda n: f"int a{n}[65536];\n", "int main(void) { return 0; }\n"),
     # jumps
     "66 labels, 132 gotos": kind("", parts.tangled),

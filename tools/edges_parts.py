@@ -141,6 +141,11 @@ def cells(number):
     return function(number, "L: if (a > 3) goto L;\n" + "{ int b[1024] = {1}; a = b[3]; }\n" * 4)
 
 
+def quarter(text):
+    """A text of a quarter of the size that is asked for."""
+    return lambda most: text(most // 4)
+
+
 def cases_inside(number):
     cases = each(40, lambda i: f"case {2 * i}: while (a) {{ case {2 * i + 1}: a--; }}\n")
     return function(number, "switch (a) {\n" + cases + "}\n")
