@@ -1,5 +1,5 @@
 -- What is written for each kind of item is what the definition has for it.
-use Rattle.std.proofs.Common.{◌≡◌, ℕ, ◌+◌, ◌*◌, List, Option, Some, None, refl, sym, ap, ◌∙◌}
+use Rattle.std.proofs.Common.{◌≡◌, ℕ, ◌+◌, ◌*◌, Option, Some, None, refl, sym, ap, ◌∙◌}
 use Rattle.std.proofs.Math.Path.{fun_ext}
 use Rattle.c_types.specs.declared.kinds.IntKind.{IntKind}
 use Rattle.c_tree.specs.Cases.{case_number, selector_source}
@@ -7,38 +7,33 @@ use Rattle.c_tree.specs.Changed.{one}
 use Rattle.c_tree.specs.Numerals.{constant}
 use Rattle.c_tree.specs.ExpressionTrees.{ExpressionTree}
 use Rattle.c_tree.specs.TestTrees.{TestTree, Source, SelectorTree}
-use Rattle.c_tree.specs.Trees.{Tree, Forest, Then, Sections, Evaluate, If, While, Do, Switch, Local, Goto, Mark, join}
+use Rattle.c_tree.specs.Trees.{Tree, Forest, Nil, Then, Sections, Evaluate, If, While, Do, For, Switch, Goto, Mark, join}
 use Rattle.jump_meaning.specs.Step.{switch_kind}
 use Rattle.flat_looser_laws.specs.Pieces.{Aim, mark_of, third_items, assign_number, tests_among}
-use Rattle.flat_looser_laws.specs.Loose.{Arrivals}
+use Rattle.flat_looser_laws.specs.Loose.{Arrivals, NoArrival}
 use Rattle.flat_laws.specs.Parts.{Here}
 use Rattle.flat_laws.specs.FlatForm.{names_of}
 use Rattle.lower_laws.specs.Straight.{jump_if}
-use Rattle.lower_laws.specs.Lowered.{past, inside, jump_of, lowered, lowered_if, lowered_for, for_aim, continue_aim, break_aim, lowered_item, lowered_among}
+use Rattle.lower_laws.specs.Lowered.{Layout, past, inside, jump_of, lowered, lowered_if, lowered_for, for_aim, continue_aim, break_aim, lowered_item, lowered_among}
 use Rattle.flat_items.proofs.Joining.{joined}
 use Rattle.flat_items.proofs.Tests.{tests_are}
 use Rattle.lower_items.specs.declared.plans.Plan as L
 use Rattle.lower_items.specs.declared.plans.Cases as C
+use Rattle.lower_items.specs.declared.plans.Labels.{Labels}
 use Rattle.lower_items.specs.Plans.{layout_of, labels_at, entered_at, number_label, case_names}
 use Rattle.lower_items.specs.Loops.{Frame, framed, while_frame, do_frame, for_frame}
 use Rattle.lower_items.specs.Choices.{AreCases, label_of, breaks_of, otherwise_of, choice_form}
-use Rattle.lower_items.specs.Forms.{then_part, local_form}
+use Rattle.lower_items.specs.Forms.{then_part}
 
 -- ---- parts, one after another
 
-pub framed_is : (f : Frame) (a out one_out two_out three_out four_out last : Forest) → one_out ≡ join out f.opening → two_out ≡ join one_out a → three_out ≡ join two_out (mark_of f.next) → four_out ≡ join three_out f.closing
-    → last ≡ join four_out (mark_of f.breaks) → last ≡ join out (framed f a)
-framed_is f a out one_out two_out three_out four_out last e1 e2 e3 e4 e5 =
-    let n = mark_of f.next in
-    let m = mark_of f.breaks in
-    e5 ∙ ap (λ z. join z m) (e4 ∙ ap (λ z. join z f.closing) (e3 ∙ ap (λ z. join z n) (e2 ∙ ap (λ z. join z a) e1)))
-    ∙ joined (join (join (join out f.opening) a) n) f.closing m ∙ joined (join (join out f.opening) a) n (join f.closing m)
-    ∙ joined (join out f.opening) a (join n (join f.closing m)) ∙ joined out f.opening (join a (join n (join f.closing m)))
+pub closed_is : (n c b out one_out two_out last : Forest) → one_out ≡ join out n → two_out ≡ join one_out c → last ≡ join two_out b → last ≡ join out (join n (join c b))
+closed_is n c b out one_out two_out last e1 e2 e3 = e3 ∙ ap (λ z. join z b) (e2 ∙ ap (λ z. join z c) e1) ∙ joined (join out n) c b ∙ joined out n (join c b)
 
-pub then_joined : (out a : Forest) (g m e : Tree) (one_out two_out three_out last : Forest) → one_out ≡ join out (one g) → two_out ≡ join one_out (one m) → three_out ≡ join two_out a → last ≡ join three_out (one e) → last ≡ join out (Then g (Then m (join a (one e))))
-then_joined out a g m e one_out two_out three_out last e1 e2 e3 e4 =
-    e4 ∙ ap (λ z. join z (one e)) (e3 ∙ ap (λ z. join z a) (e2 ∙ ap (λ z. join z (one m)) e1))
-    ∙ joined (join (join out (one g)) (one m)) a (one e) ∙ joined (join out (one g)) (one m) (join a (one e)) ∙ joined out (one g) (Then m (join a (one e)))
+pub then_joined : (out a : Forest) (g m e : Tree) (one_out two_out last : Forest) → one_out ≡ join out (Then g (one m)) → two_out ≡ join one_out a → last ≡ join two_out (one e) → last ≡ join out (Then g (Then m (join a (one e))))
+then_joined out a g m e one_out two_out last e1 e2 e3 =
+    e3 ∙ ap (λ z. join z (one e)) (e2 ∙ ap (λ z. join z a) e1)
+    ∙ joined (join out (Then g (one m))) a (one e) ∙ joined out (Then g (one m)) (join a (one e))
 
 pub frame_equal : {o o' c c' : Forest} {n n' b b' d d' : Aim} → o ≡ o' → n ≡ n' → c ≡ c' → b ≡ b' → d ≡ d' → (let f : Frame = record { opening = o; next = n; closing = c; breaks = b; continues = d } in f) ≡ record { opening = o'; next = n'; closing = c'; breaks = b'; continues = d' }
 frame_equal a b c d e = cc
@@ -81,20 +76,47 @@ pub for_breaks_are : (q : L.Plan) (h : Here) (t u : Option ExpressionTree) (a : 
 for_breaks_are q h (Some t) u a = refl
 for_breaks_are q h None u a = refl
 
+-- a `for`, whose first part is there: w is what stands around its list
+pub for_item : (q : L.Plan) (h : Here) (b c : Aim) (r : Arrivals) (first : Forest) (t u : Option ExpressionTree) (a out one_out last : Forest) (s k : Here) (w : Frame)
+    → s ≡ entered_at h 0 0 → k ≡ past first s → w ≡ for_frame h.construct t u a
+    → one_out ≡ join out (lowered (layout_of q) s b c NoArrival first) → last ≡ join one_out (framed w (lowered (layout_of q) k w.breaks w.continues r a))
+    → last ≡ join out (lowered_item (layout_of q) h b c r (For first t u a))
+for_item q h b c r first t u a out one_out last s k w start place frame e1 e2 =
+    let p = layout_of q in
+    let i = past first (entered_at h 0 0) in
+    let v = for_frame h.construct t u a in
+    let x = lowered p (entered_at h 0 0) b c NoArrival first in
+    let y = framed w (lowered p k w.breaks w.continues r a) in
+    e2 ∙ ap (λ z. join z y) (e1 ∙ ap (λ g. join out (lowered p g b c NoArrival first)) start) ∙ joined out x y
+    ∙ ap (λ g. join out (join x (framed w (lowered p g w.breaks w.continues r a)))) (place ∙ ap (past first) start)
+    ∙ ap (λ (z : Frame). join out (join x (framed z (lowered p i z.breaks z.continues r a)))) frame
+    ∙ ap (λ z. join out (join x z)) (for_is q h t u a (lowered p i v.breaks v.continues r a))
+    ∙ ap (λ z. join out (join x (lowered_for p h t u (lowered p i z (continue_aim p h a) r a) (for_aim p h t a) (continue_aim p h a)))) (for_breaks_are q h t u a)
+
 -- ---- an `if`
 
-pub if_is : (q : L.Plan) (h : Here) (b c : Aim) (r : Arrivals) (t : TestTree) (x y out one_out last : Forest) → jump_of (layout_of q).plan.live x y ≡ None
-    → one_out ≡ join out (one (jump_if t (7 * h.construct + 6)))
-    → last ≡ join one_out (join (lowered (layout_of q) (past x (entered_at h 0 0)) b c r y) (then_part (labels_at h.construct) (lowered (layout_of q) (entered_at h 0 0) b c r x)))
+-- both lists of an `if` with these labels, behind its test
+abbrev pub both_lists : Layout → Labels → Here → Aim → Aim → Arrivals → Forest → Forest → Forest
+both_lists p n h b c r x y = join (lowered p (past x h) b c r y) (then_part n (lowered p h b c r x))
+
+pub if_is : (q : L.Plan) (h : Here) (b c : Aim) (r : Arrivals) (t : TestTree) (x y out one_out last : Forest) (s : Here) (n : Labels) → jump_of (layout_of q).plan.live x y ≡ None
+    → one_out ≡ join out (one (jump_if t (7 * h.construct + 6))) → s ≡ entered_at h 0 0 → n ≡ labels_at h.construct
+    → last ≡ join one_out (both_lists (layout_of q) n s b c r x y)
     → last ≡ join out (lowered_item (layout_of q) h b c r (If t x y))
-if_is q h b c r t x y out one_out last none first second =
+if_is q h b c r t x y out one_out last s n none first start labels second =
     let p = layout_of q in
     let i = jump_if t (7 * h.construct + 6) in
-    let ly = lowered p (past x (entered_at h 0 0)) b c r y in
-    let lx = lowered p (entered_at h 0 0) b c r x in
-    let k = join ly (then_part (labels_at h.construct) lx) in
-    second ∙ ap (λ z. join z k) first ∙ joined out (one i) k
-    ∙ sym (ap (λ z. join out (lowered_if p h t z lx ly)) none)
+    let k = both_lists p (labels_at h.construct) (entered_at h 0 0) b c r x y in
+    second ∙ ap (λ g. join one_out (both_lists p n g b c r x y)) start ∙ ap (λ m. join one_out (both_lists p m (entered_at h 0 0) b c r x y)) labels
+    ∙ ap (λ z. join z k) first ∙ joined out (one i) k
+    ∙ sym (ap (λ z. join out (lowered_if p h t z (lowered p (entered_at h 0 0) b c r x) (lowered p (past x (entered_at h 0 0)) b c r y))) none)
+
+pub both_joined : (p : Layout) (n : Labels) (s k : Here) (b c : Aim) (r : Arrivals) (x y none made out two last : Forest) → k ≡ past x s → none ≡ Nil
+    → made ≡ join none (lowered p s b c r x) → two ≡ join out (lowered p k b c r y) → last ≡ join two (then_part n made) → last ≡ join out (both_lists p n s b c r x y)
+both_joined p n s k b c r x y none made out two last e1 e2 e3 e4 e5 =
+    let lx = lowered p s b c r x in
+    e5 ∙ ap (λ z. join two (then_part n z)) (e3 ∙ ap (λ z. join z lx) e2) ∙ ap (λ z. join z (then_part n lx)) (e4 ∙ ap (λ g. join out (lowered p g b c r y)) e1)
+    ∙ joined out (lowered p (past x s) b c r y) (then_part n lx)
 
 pub jump_is : (q : L.Plan) (h : Here) (b c : Aim) (r : Arrivals) (t : TestTree) (x y : Forest) (l : ℕ) → jump_of (layout_of q).plan.live x y ≡ Some l → one (jump_if t (7 * l)) ≡ lowered_item (layout_of q) h b c r (If t x y)
 jump_is q h b c r t x y l some =
@@ -127,9 +149,3 @@ switch_is q h b c r s d cs out one_out last a first second =
     ∙ ap (λ n. join (join out (choice_form s d h)) (lowered_among p (inside (Switch s d) h) (breaks_of d h.construct) c n d)) (names_are q cs k d h a)
     ∙ ap (λ z. join (join out (Then x (join z (one y)))) (lowered_among p (inside (Switch s d) h) (breaks_of d h.construct) c ns d)) (sym (tests_are k h.variable ns (label_of k d h) (λ e. refl) d))
     ∙ regrouped out (tests_among constant k h.variable ns d) x y (lowered_among p (inside (Switch s d) h) (breaks_of d h.construct) c ns d)
-
--- ---- declarations
-
-pub local_is : (q : L.Plan) (h : Here) (b c : Aim) (r : Arrivals) (x : ℕ) (es : Option (List ExpressionTree)) → local_form (layout_of q) x es ≡ lowered_item (layout_of q) h b c r (Local x es)
-local_is q h b c r x None = refl
-local_is q h b c r x (Some es) = refl

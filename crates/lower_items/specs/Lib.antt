@@ -3,3 +3,4 @@ pub mod Jumps
 pub mod Loops
 pub mod Choices
 pub mod Forms
+pub mod Pieces

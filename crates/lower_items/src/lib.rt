@@ -4,11 +4,12 @@
 mod cases;
 mod jumps;
 mod loops;
-mod numbers;
 mod pieces;
 mod plans;
+mod simple;
 mod values;
 mod walk;
+mod written;
 
 pub use plans::Plan;
 pub use walk::{Lowered, lower_list};

@@ -4,7 +4,7 @@ ghost use Rattle.c_tree.specs.Exits.{breaks, continues};
 ghost use Rattle.c_tree.specs.ExpressionTrees.{expression_tree};
 ghost use Rattle.c_tree.specs.TestTrees.{test_tree};
 ghost use Rattle.c_tree.specs.Trees.{Then, Goto, Mark, trees_of, join};
-ghost use Rattle.flat_looser_laws.specs.Pieces.{Becomes, third_items as the_third_items};
+ghost use Rattle.flat_looser_laws.specs.Pieces.{Becomes, mark_of, third_items as the_third_items};
 ghost use Rattle.flat_laws.specs.FlatForm.{aim as the_aim};
 ghost use Rattle.lower_laws.specs.Straight.{jump_if};
 ghost use Rattle.lower_items.specs.Loops.{frame_of, tested as the_tested, for_start, while_frame, do_frame, for_frame};
@@ -12,10 +12,11 @@ ghost use Rattle.flat_items.specs.Plans.{aim_of, here_of};
 ghost use Rattle.lower_items.specs.Plans.{labels_at, entered_at};
 ghost use Rattle.c_tree.specs.Views.{tree_at};
 
+use crate::pieces::add_all;
 use crate::plans::{Inside, Labels, entered};
 use c_tree::{Expression, Item, Test};
 use c_types::{Boxed, List, Memory};
-use flat_items::{Aim, Here, Scope, add, add_goto, add_label, jump};
+use flat_items::{Aim, Here, Scope, add, add_goto, add_label, add_mark, jump};
 use flat_questions::{has_break, has_continue};
 use std::alloc::Global;
 
@@ -258,4 +259,18 @@ pub fn for_loop(
         },
         start,
     })
+}
+
+/// What stands behind the list of a loop.
+pub fn close_loop(
+    next: Aim,
+    closing: List<Item>,
+    breaks: Aim,
+    out: &mut List<Item>,
+) -> Result<(), Memory>
+    ensures { OnOk result (trees_of out.new ≡ join (trees_of out.old) (join (mark_of (aim_of next)) (join (trees_of closing) (mark_of (aim_of breaks))))) }
+{
+    add_mark(next, out)?;
+    add_all(closing, out)?;
+    add_mark(breaks, out)
 }

@@ -1,37 +1,34 @@
-ghost use Rattle.std.specs.Prelude.{◌≡◌, ◌+◌, ◌*◌, true, cond, option_map, IfOk, OnOk};
+ghost use Rattle.std.specs.Prelude.{◌≡◌, ◌+◌, ◌*◌, true, IfOk, OnOk};
 ghost use Rattle.c_tree.specs.Changed.{one};
 ghost use Rattle.c_tree.specs.Everywhere.{total};
-ghost use Rattle.c_tree.specs.ExpressionTrees.{expression_tree};
 ghost use Rattle.c_tree.specs.Paths.{list_of};
 ghost use Rattle.c_tree.specs.TestTrees.{test_tree, selector_tree};
-ghost use Rattle.c_tree.specs.Trees.{While, Do, Switch, Goto, Break, Continue, expression_trees, trees_of, sections_of, join};
+ghost use Rattle.c_tree.specs.Trees.{While, Do, Switch, trees_of, sections_of, join};
 ghost use Rattle.flat_looser_laws.specs.Loose.{NoArrival};
 ghost use Rattle.flat_looser_laws.specs.Pieces.{Stays};
-ghost use Rattle.flat_laws.specs.FlatForm.{mark_if, arrival, exit, first_here};
+ghost use Rattle.flat_laws.specs.FlatForm.{first_here};
 ghost use Rattle.lower_laws.specs.Lowered.{past, past_item, lowered, lowered_item, lowered_among, variables_of};
 ghost use Rattle.lower_laws.specs.Straight.{jump_if};
-ghost use Rattle.lower_items.specs.Forms.{past_among, then_part, part_form, local_form};
+ghost use Rattle.lower_items.specs.Forms.{past_among, then_part, part_form};
 ghost use Rattle.lower_items.specs.Loops.{frame_of, framed};
+ghost use Rattle.lower_items.specs.Pieces.{written};
 ghost use Rattle.flat_items.specs.Plans.{aim_of, here_of};
 ghost use Rattle.lower_items.specs.Plans.{layout_of, entered_at, arrivals_of, case_names};
 ghost use Rattle.c_tree.specs.Views.{tree_at};
 
-use crate::cases::{add_arrival, add_case_marks, add_choice, no_cases};
+use crate::cases::{add_case_marks, add_choice, no_cases};
 use crate::jumps::jump_of;
-use crate::loops::{Loop, add_test, do_loop, for_loop, while_loop};
-use crate::numbers::behind_list;
+use crate::loops::{Loop, add_test, close_loop, do_loop, for_loop, while_loop};
 use crate::pieces::add_all;
 use crate::plans::{Cases, Inside, Plan, entered, source_label};
-use c_tree::{Expression, Item, Section, Selector, Test};
+use crate::simple::write_simple;
+use crate::written::{Written, add_then, in_one, nothing, start_then};
+use c_tree::{Item, Section, Selector, Test};
 use c_types::{List, Memory};
-use flat_items::{
-    Aim, Here, Scope, add, add_break, add_continue, add_end, add_goto, add_initialised, add_label,
-    add_mark, jump,
-};
-use flat_questions::is_flagged;
+use flat_items::{Aim, Here, Scope, add, add_end, add_label, add_mark, jump};
 use std::alloc::Global;
 
-/// The flat list of a list, behind the items that are there.
+/// The flat list of a list, behind what is there.
 #[cycle(write)]
 fn write_list(
     alloc: Global,
@@ -40,10 +37,10 @@ fn write_list(
     cases: &Cases,
     list: List<Item>,
     here: Here,
-    out: &mut List<Item>,
+    out: &mut Written,
 ) -> Result<Here, Memory>
     ensures place { IfOk result (λ it. here_of it ≡ past (trees_of list) (here_of here)) }
-    ensures items { OnOk result (trees_of out.new ≡ join (trees_of out.old) (lowered (layout_of plan.now) (here_of here) (aim_of scope.breaks) (aim_of scope.continues) (arrivals_of cases.now) (trees_of list))) }
+    ensures items { OnOk result (written out.new ≡ join (written out.old) (lowered (layout_of plan.now) (here_of here) (aim_of scope.breaks) (aim_of scope.continues) (arrivals_of cases.now) (trees_of list))) }
 {
     let mut here = here;
     for item in list.into_vec() {
@@ -75,7 +72,7 @@ fn write_jump(
     }
 }
 
-/// The then-list of an `if` between its labels.
+/// The then-list of an `if` without an else-list, between its labels.
 #[cycle(write)]
 fn write_then(
     alloc: Global,
@@ -84,19 +81,18 @@ fn write_then(
     cases: &Cases,
     a: List<Item>,
     opened: Inside,
-    out: &mut List<Item>,
+    out: &mut Written,
 ) -> Result<Here, Memory>
     ensures place { IfOk result (λ it. here_of it ≡ past (trees_of a) (here_of opened.start)) }
-    ensures items { OnOk result (trees_of out.new ≡ join (trees_of out.old) (then_part opened.labels (lowered (layout_of plan.now) (here_of opened.start) (aim_of scope.breaks) (aim_of scope.continues) (arrivals_of cases.now) (trees_of a)))) }
+    ensures items { OnOk result (written out.new ≡ join (written out.old) (then_part opened.labels (lowered (layout_of plan.now) (here_of opened.start) (aim_of scope.breaks) (aim_of scope.continues) (arrivals_of cases.now) (trees_of a)))) }
 {
-    add_goto(opened.labels.behind, out)?;
-    add_label(opened.labels.list, out)?;
+    start_then(opened.labels, out)?;
     let after = write_list(alloc, plan, scope, cases, a, opened.start, out)?;
-    add_label(opened.labels.behind, out)?;
+    add_label(opened.labels.behind, &mut out.last)?;
     Ok(after)
 }
 
-/// A loop with this list, whose first part is there.
+/// A loop with this list.
 #[cycle(write)]
 fn write_loop(
     alloc: Global,
@@ -105,10 +101,10 @@ fn write_loop(
     a: List<Item>,
     made: Loop,
     here: Here,
-    out: &mut List<Item>,
+    out: &mut Written,
 ) -> Result<Here, Memory>
     ensures place { IfOk result (λ it. here_of it ≡ past (trees_of a) (here_of here)) }
-    ensures items { OnOk result (trees_of out.new ≡ join (trees_of out.old) (framed (frame_of made) (lowered (layout_of plan.now) (here_of here) (frame_of made).breaks (frame_of made).continues (arrivals_of cases.now) (trees_of a)))) }
+    ensures items { OnOk result (written out.new ≡ join (written out.old) (framed (frame_of made) (lowered (layout_of plan.now) (here_of here) (frame_of made).breaks (frame_of made).continues (arrivals_of cases.now) (trees_of a)))) }
 {
     let Loop {
         opening,
@@ -117,11 +113,9 @@ fn write_loop(
         scope,
         start: _,
     } = made;
-    add_all(opening, out)?;
+    add_all(opening, &mut out.last)?;
     let after = write_list(alloc, plan, scope, cases, a, here, out)?;
-    add_mark(next, out)?;
-    add_all(closing, out)?;
-    add_mark(scope.breaks, out)?;
+    close_loop(next, closing, scope.breaks, &mut out.last)?;
     Ok(after)
 }
 
@@ -133,10 +127,10 @@ fn write_while(
     a: List<Item>,
     test: Test,
     here: Here,
-    out: &mut List<Item>,
+    out: &mut Written,
 ) -> Result<Here, Memory>
     ensures place { IfOk result (λ it. here_of it ≡ past_item (While (test_tree test) (trees_of a)) (here_of here)) }
-    ensures items { OnOk result (trees_of out.new ≡ join (trees_of out.old) (lowered_item (layout_of plan.now) (here_of here) Stays Stays (arrivals_of cases.now) (While (test_tree test) (trees_of a)))) }
+    ensures items { OnOk result (written out.new ≡ join (written out.old) (lowered_item (layout_of plan.now) (here_of here) Stays Stays (arrivals_of cases.now) (While (test_tree test) (trees_of a)))) }
 {
     let made = while_loop(alloc, test, here)?;
     let start = made.start;
@@ -151,10 +145,10 @@ fn write_do(
     a: List<Item>,
     test: Test,
     here: Here,
-    out: &mut List<Item>,
+    out: &mut Written,
 ) -> Result<Here, Memory>
     ensures place { IfOk result (λ it. here_of it ≡ past_item (Do (trees_of a) (test_tree test)) (here_of here)) }
-    ensures items { OnOk result (trees_of out.new ≡ join (trees_of out.old) (lowered_item (layout_of plan.now) (here_of here) Stays Stays (arrivals_of cases.now) (Do (trees_of a) (test_tree test)))) }
+    ensures items { OnOk result (written out.new ≡ join (written out.old) (lowered_item (layout_of plan.now) (here_of here) Stays Stays (arrivals_of cases.now) (Do (trees_of a) (test_tree test)))) }
 {
     let made = do_loop(alloc, &a, test, here)?;
     let start = made.start;
@@ -169,12 +163,12 @@ fn write_switch(
     sections: List<Section>,
     selector: Selector,
     here: Here,
-    out: &mut List<Item>,
+    out: &mut Written,
 ) -> Result<Here, Memory>
     ensures place { IfOk result (λ it. here_of it ≡ past_item (Switch (selector_tree selector) (sections_of sections)) (here_of here)) }
-    ensures items { OnOk result (trees_of out.new ≡ join (trees_of out.old) (lowered_item (layout_of plan.now) (here_of here) Stays (aim_of continues) NoArrival (Switch (selector_tree selector) (sections_of sections)))) }
+    ensures items { OnOk result (written out.new ≡ join (written out.old) (lowered_item (layout_of plan.now) (here_of here) Stays (aim_of continues) NoArrival (Switch (selector_tree selector) (sections_of sections)))) }
 {
-    let chosen = add_choice(alloc, selector, sections.as_slice(), here, out)?;
+    let chosen = add_choice(alloc, selector, sections.as_slice(), here, &mut out.last)?;
     let scope = Scope {
         breaks: chosen.breaks,
         continues,
@@ -192,17 +186,17 @@ fn write_sections(
     cases: &Cases,
     sections: List<Section>,
     here: Here,
-    out: &mut List<Item>,
+    out: &mut Written,
 ) -> Result<Here, Memory>
     requires { cases.now.bound ≡ true }
     ensures place { IfOk result (λ it. here_of it ≡ past_among (sections_of sections) (here_of here)) }
-    ensures items { OnOk result (trees_of out.new ≡ join (trees_of out.old) (lowered_among (layout_of plan.now) (here_of here) (aim_of scope.breaks) (aim_of scope.continues) (case_names cases.now) (sections_of sections))) }
+    ensures items { OnOk result (written out.new ≡ join (written out.old) (lowered_among (layout_of plan.now) (here_of here) (aim_of scope.breaks) (aim_of scope.continues) (case_names cases.now) (sections_of sections))) }
 {
     let mut here = here;
     for section in sections.into_vec() {
         here = write_section(alloc, plan, scope, cases, section, here, out)?;
     }
-    add_mark(scope.breaks, out)?;
+    add_mark(scope.breaks, &mut out.last)?;
     Ok(here)
 }
 
@@ -214,11 +208,11 @@ fn write_section(
     cases: &Cases,
     section: Section,
     here: Here,
-    out: &mut List<Item>,
+    out: &mut Written,
 ) -> Result<Here, Memory>
     requires { cases.now.bound ≡ true }
     ensures place { IfOk result (λ it. here_of it ≡ past (trees_of (list_of section)) (here_of here)) }
-    ensures items { OnOk result (trees_of out.new ≡ join (trees_of out.old) (part_form (layout_of plan.now) (here_of here) (aim_of scope.breaks) (aim_of scope.continues) (case_names cases.now) section)) }
+    ensures items { OnOk result (written out.new ≡ join (written out.old) (part_form (layout_of plan.now) (here_of here) (aim_of scope.breaks) (aim_of scope.continues) (case_names cases.now) section)) }
 {
     let Section {
         cases: given,
@@ -226,88 +220,10 @@ fn write_section(
         list,
         ends,
     } = section;
-    add_case_marks(cases, given.as_slice(), default, out)?;
+    add_case_marks(cases, given.as_slice(), default, &mut out.last)?;
     let after = write_list(alloc, plan, scope, cases, list, here, out)?;
-    add_end(ends, scope.breaks, out)?;
+    add_end(ends, scope.breaks, &mut out.last)?;
     Ok(after)
-}
-
-fn write_goto(label: u32, here: Here, out: &mut List<Item>) -> Result<Here, Memory>
-    ensures place { IfOk result (λ it. it ≡ here) }
-    ensures items { OnOk result (trees_of out.new ≡ join (trees_of out.old) (one (Goto (7 * label)))) }
-{
-    add_goto(source_label(label)?, out)?;
-    Ok(here)
-}
-
-fn write_label(plan: &Plan, label: u32, here: Here, out: &mut List<Item>) -> Result<Here, Memory>
-    ensures place { IfOk result (λ it. it ≡ here) }
-    ensures items { OnOk result (trees_of out.new ≡ join (trees_of out.old) (mark_if ((layout_of plan.now).plan.live label) (7 * label))) }
-{
-    let named = plan.named.as_slice();
-    if is_flagged(named, label) {
-        add_label(source_label(label)?, out)?;
-    }
-    Ok(here)
-}
-
-fn write_local(
-    alloc: Global,
-    plan: &Plan,
-    slot: u32,
-    given: Option<List<Expression>>,
-    here: Here,
-    out: &mut List<Item>,
-) -> Result<Here, Memory>
-    ensures place { IfOk result (λ it. it ≡ here) }
-    ensures items { OnOk result (trees_of out.new ≡ join (trees_of out.old) (local_form (layout_of plan.now) slot (option_map expression_trees given))) }
-{
-    match given {
-        Some(given) => {
-            add_initialised(alloc, plan.slots.as_slice(), slot, given, out)?;
-            Ok(here)
-        }
-        None => Ok(here),
-    }
-}
-
-fn write_exit(
-    scope: Scope,
-    continues: bool,
-    here: Here,
-    out: &mut List<Item>,
-) -> Result<Here, Memory>
-    ensures place { IfOk result (λ it. it ≡ here) }
-    ensures items { OnOk result (trees_of out.new ≡ join (trees_of out.old) (cond continues (exit (aim_of scope.continues) Continue) (exit (aim_of scope.breaks) Break))) }
-{
-    if continues {
-        add_continue(scope.continues, out)?;
-    } else {
-        add_break(scope.breaks, out)?;
-    }
-    Ok(here)
-}
-
-/// An item that stays as it is.
-fn write_same(item: Item, here: Here, out: &mut List<Item>) -> Result<Here, Memory>
-    ensures place { IfOk result (λ it. it ≡ here) }
-    ensures items { OnOk result (trees_of out.new ≡ join (trees_of out.old) (one (tree_at item))) }
-{
-    add(out, item)?;
-    Ok(here)
-}
-
-fn write_arrival(
-    cases: &Cases,
-    case: Option<Expression>,
-    here: Here,
-    out: &mut List<Item>,
-) -> Result<Here, Memory>
-    ensures place { IfOk result (λ it. it ≡ here) }
-    ensures items { OnOk result (trees_of out.new ≡ join (trees_of out.old) (arrival (arrivals_of cases.now) (option_map expression_tree case))) }
-{
-    add_arrival(cases, case, out)?;
-    Ok(here)
 }
 
 /// What stands in the place of an item.
@@ -319,23 +235,23 @@ fn write_item(
     cases: &Cases,
     item: Item,
     here: Here,
-    out: &mut List<Item>,
+    out: &mut Written,
 ) -> Result<Here, Memory>
     ensures place { IfOk result (λ it. here_of it ≡ past_item (tree_at item) (here_of here)) }
-    ensures items { OnOk result (trees_of out.new ≡ join (trees_of out.old) (lowered_item (layout_of plan.now) (here_of here) (aim_of scope.breaks) (aim_of scope.continues) (arrivals_of cases.now) (tree_at item))) }
+    ensures items { OnOk result (written out.new ≡ join (written out.old) (lowered_item (layout_of plan.now) (here_of here) (aim_of scope.breaks) (aim_of scope.continues) (arrivals_of cases.now) (tree_at item))) }
 {
-    let named = plan.named.as_slice();
     match item {
-        Item::If(test, a, b) => match jump_of(named, &a, &b) {
-            Some(label) => write_jump(alloc, test, label, here, out),
+        Item::If(test, a, b) => match jump_of(plan.named.as_slice(), &a, &b) {
+            Some(label) => write_jump(alloc, test, label, here, &mut out.last),
             None => {
-                let opened = add_test(alloc, test, here, out)?;
+                let opened = add_test(alloc, test, here, &mut out.last)?;
                 if b.is_empty() {
                     write_then(alloc, plan, scope, cases, a, opened, out)
                 } else {
-                    let behind = behind_list(alloc, &a, opened.start)?;
+                    let mut then = nothing(alloc);
+                    let behind = write_list(alloc, plan, scope, cases, a, opened.start, &mut then)?;
                     let after = write_list(alloc, plan, scope, cases, b, behind, out)?;
-                    write_then(alloc, plan, scope, cases, a, opened, out)?;
+                    add_then(then, opened.labels, out)?;
                     Ok(after)
                 }
             }
@@ -352,18 +268,7 @@ fn write_item(
             write_switch(alloc, plan, scope.continues, sections, selector, here, out)
         }
         Item::Block(a) => write_list(alloc, plan, scope, cases, a, here, out),
-        Item::Local(slot, given) => write_local(alloc, plan, slot, given, here, out),
-        Item::Break => write_exit(scope, false, here, out),
-        Item::Continue => write_exit(scope, true, here, out),
-        Item::Goto(label) => write_goto(label, here, out),
-        Item::Mark(label) => write_label(plan, label, here, out),
-        Item::Arrival(case) => write_arrival(cases, case, here, out),
-        Item::Evaluate(e) => write_same(Item::Evaluate(e), here, out),
-        Item::Return(e) => write_same(Item::Return(e), here, out),
-        Item::Arm(label, e) => write_same(Item::Arm(label, e), here, out),
-        Item::Leap(label) => write_same(Item::Leap(label), here, out),
-        Item::Land(label) => write_same(Item::Land(label), here, out),
-        Item::Note(bytes) => write_same(Item::Note(bytes), here, out),
+        other => write_simple(alloc, plan, scope, cases, other, here, &mut out.last),
     }
 }
 
@@ -395,8 +300,9 @@ pub fn lower_list(
         case: 0,
         variable: variables,
     };
-    let mut items = List::new(alloc);
-    let after = write_list(alloc, plan, scope, &none, body, here, &mut items)?;
+    let mut out = nothing(alloc);
+    let after = write_list(alloc, plan, scope, &none, body, here, &mut out)?;
+    let items = in_one(alloc, out)?;
     Ok(Lowered {
         items,
         variables: after.variable,

@@ -1,6 +1,5 @@
 use Rattle.std.proofs.Common.{ap, ◌∙◌}
 use Rattle.c_tree.specs.Trees.{trees_of, join}
-use Rattle.c_tree.proofs.TreeLaws.{trees-none}
 use Rattle.flat_looser_laws.specs.Pieces.{Stays}
 use Rattle.flat_laws.specs.FlatForm.{first_here}
 use Rattle.flat_items.specs.Plans.{arrivals_if}
@@ -15,5 +14,5 @@ returns-clause-items c =
     let body = trees_of c.args.body in
     let none = c.no_cases-none.result in
     let y = lowered p h Stays Stays (arrivals_of none) body in
-    c.in_ok-after.ensures.items ∙ ap (λ z. join (trees_of z) y) c.new-items.ensures ∙ ap (λ z. join z y) trees-none
+    c.in_ok-items.ensures ∙ c.in_ok-after.ensures.items ∙ ap (λ z. join z y) c.nothing-out.ensures
     ∙ ap (λ z. lowered p h Stays Stays (arrivals_if z (case_names none)) body) c.no_cases-none.ensures
