@@ -29,7 +29,8 @@ pub record IsSimple (p : Layout) (h : Here) (b c : Aim) (r : Arrivals) (x : Tree
   pub stays : simple_form p b c r x ≡ lowered_item p h b c r x
   pub still : h ≡ past_item x h
 
-pub simple_item : (p : Layout) (h : Here) (b c : Aim) (r : Arrivals) (x : Item) → ((t : Test) (a d : List Item) → x ≡ I.If t a d → ⊥) → ((t : Test) (a : List Item) → x ≡ I.While t a → ⊥)
+pub simple_item : (p : Layout) (h : Here) (b c : Aim) (r : Arrivals) (x : Item) → ((t : Test) (a d : List Item) → x ≡ I.If t a d → ⊥)
+    → ((t : Test) (a : List Item) → x ≡ I.While t a → ⊥)
     → ((a : List Item) (t : Test) → x ≡ I.Do a t → ⊥) → ((f : List Item) (t u : Option Expression) (a : List Item) → x ≡ I.For f t u a → ⊥)
     → ((s : Selector) (d : List Real.Section) → x ≡ I.Switch s d → ⊥) → ((a : List Item) → x ≡ Block a → ⊥) → IsSimple p h b c r (tree_at x)
 simple_item p h b c r x i w d f s k = put (out-Item x) (sym (roll-out-Item x)) where
@@ -45,7 +46,8 @@ simple_item p h b c r x i w d f s k = put (out-Item x) (sym (roll-out-Item x)) w
 
 -- an item that stays as it is
 pub same_item : (p : Layout) (b c : Aim) (r : Arrivals) (x : Item) → ((l : ℕ) (es : Option (List Expression)) → x ≡ I.Local l es → ⊥)
-    → (x ≡ I.Break → ⊥) → (x ≡ I.Continue → ⊥) → ((l : ℕ) → x ≡ I.Goto l → ⊥) → ((l : ℕ) → x ≡ I.Mark l → ⊥) → ((e : Option Expression) → x ≡ I.Arrival e → ⊥) → simple_form p b c r (tree_at x) ≡ one (tree_at x)
+    → (x ≡ I.Break → ⊥) → (x ≡ I.Continue → ⊥) → ((l : ℕ) → x ≡ I.Goto l → ⊥) → ((l : ℕ) → x ≡ I.Mark l → ⊥)
+    → ((e : Option Expression) → x ≡ I.Arrival e → ⊥) → simple_form p b c r (tree_at x) ≡ one (tree_at x)
 same_item p b c r x v br co g m ar = put (out-Item x) (sym (roll-out-Item x)) where
   put : (y : Item-F Item Real.Section) → x ≡ roll-Item y → simple_form p b c r (layer_at y) ≡ one (layer_at y)
   put (O.Local l z) e = absurd (v l z (e ∙ rolls-Local l z))

@@ -27,10 +27,13 @@ use Rattle.lower_items.specs.Forms.{then_part}
 
 -- ---- parts, one after another
 
-pub closed_is : (n c b out one_out two_out last : Forest) → one_out ≡ join out n → two_out ≡ join one_out c → last ≡ join two_out b → last ≡ join out (join n (join c b))
-closed_is n c b out one_out two_out last e1 e2 e3 = e3 ∙ ap (λ z. join z b) (e2 ∙ ap (λ z. join z c) e1) ∙ joined (join out n) c b ∙ joined out n (join c b)
+pub closed_is : (n c b out one_out two_out last : Forest) → one_out ≡ join out n → two_out ≡ join one_out c → last ≡ join two_out b
+    → last ≡ join out (join n (join c b))
+closed_is n c b out one_out two_out last e1 e2 e3 =
+    e3 ∙ ap (λ z. join z b) (e2 ∙ ap (λ z. join z c) e1) ∙ joined (join out n) c b ∙ joined out n (join c b)
 
-pub then_joined : (out a : Forest) (g m e : Tree) (one_out two_out last : Forest) → one_out ≡ join out (Then g (one m)) → two_out ≡ join one_out a → last ≡ join two_out (one e) → last ≡ join out (Then g (Then m (join a (one e))))
+pub then_joined : (out a : Forest) (g m e : Tree) (one_out two_out last : Forest) → one_out ≡ join out (Then g (one m)) → two_out ≡ join one_out a → last ≡ join two_out (one e)
+    → last ≡ join out (Then g (Then m (join a (one e))))
 then_joined out a g m e one_out two_out last e1 e2 e3 =
     e3 ∙ ap (λ z. join z (one e)) (e2 ∙ ap (λ z. join z a) e1)
     ∙ joined (join out (Then g (one m))) a (one e) ∙ joined out (Then g (one m)) (join a (one e))
@@ -99,7 +102,8 @@ for_item q h b c r first t u a out one_out last s k w start place frame e1 e2 =
 abbrev pub both_lists : Layout → Labels → Here → Aim → Aim → Arrivals → Forest → Forest → Forest
 both_lists p n h b c r x y = join (lowered p (past x h) b c r y) (then_part n (lowered p h b c r x))
 
-pub if_is : (q : L.Plan) (h : Here) (b c : Aim) (r : Arrivals) (t : TestTree) (x y out one_out last : Forest) (s : Here) (n : Labels) → jump_of (layout_of q).plan.live x y ≡ None
+pub if_is : (q : L.Plan) (h : Here) (b c : Aim) (r : Arrivals) (t : TestTree) (x y out one_out last : Forest) (s : Here) (n : Labels)
+    → jump_of (layout_of q).plan.live x y ≡ None
     → one_out ≡ join out (one (jump_if t (7 * h.construct + 6))) → s ≡ entered_at h 0 0 → n ≡ labels_at h.construct
     → last ≡ join one_out (both_lists (layout_of q) n s b c r x y)
     → last ≡ join out (lowered_item (layout_of q) h b c r (If t x y))
@@ -111,8 +115,9 @@ if_is q h b c r t x y out one_out last s n none first start labels second =
     ∙ ap (λ z. join z k) first ∙ joined out (one i) k
     ∙ sym (ap (λ z. join out (lowered_if p h t z (lowered p (entered_at h 0 0) b c r x) (lowered p (past x (entered_at h 0 0)) b c r y))) none)
 
-pub both_joined : (p : Layout) (n : Labels) (s k : Here) (b c : Aim) (r : Arrivals) (x y none made out two last : Forest) → k ≡ past x s → none ≡ Nil
-    → made ≡ join none (lowered p s b c r x) → two ≡ join out (lowered p k b c r y) → last ≡ join two (then_part n made) → last ≡ join out (both_lists p n s b c r x y)
+pub both_joined : (p : Layout) (n : Labels) (s k : Here) (b c : Aim) (r : Arrivals) (x y none made out two last : Forest)
+    → k ≡ past x s → none ≡ Nil → made ≡ join none (lowered p s b c r x) → two ≡ join out (lowered p k b c r y) → last ≡ join two (then_part n made)
+    → last ≡ join out (both_lists p n s b c r x y)
 both_joined p n s k b c r x y none made out two last e1 e2 e3 e4 e5 =
     let lx = lowered p s b c r x in
     e5 ∙ ap (λ z. join two (then_part n z)) (e3 ∙ ap (λ z. join z lx) e2) ∙ ap (λ z. join z (then_part n lx)) (e4 ∙ ap (λ g. join out (lowered p g b c r y)) e1)

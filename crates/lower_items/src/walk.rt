@@ -248,6 +248,7 @@ fn write_item(
                 if b.is_empty() {
                     write_then(alloc, plan, scope, cases, a, opened, out)
                 } else {
+                    // it is numbered first, and stands last
                     let mut then = nothing(alloc);
                     let behind = write_list(alloc, plan, scope, cases, a, opened.start, &mut then)?;
                     let after = write_list(alloc, plan, scope, cases, b, behind, out)?;

@@ -12,16 +12,17 @@ use flat_items::{add_goto, add_label};
 use std::alloc::Global;
 use std::mem;
 
-/// What is written of a flat list: pieces that are done, and behind them the items that others are added to.
+/// What is written of a flat list: pieces, and behind them the items to which others are added.
 #[derive(Drop)]
 pub struct Written {
     pub pieces: List<List<Item>>,
     pub last: List<Item>,
 }
 
-/// So many items are moved, and more stay where they are.
+/// So many items are moved; more stay where they are.
 const FEW: usize = 8;
 
+/// The beginning of a flat list.
 pub fn nothing(alloc: Global) -> Written
     ensures { written result ≡ Nil }
 {
@@ -40,7 +41,7 @@ fn add_pieces(pieces: List<List<Item>>, out: &mut List<List<Item>>) -> Result<()
     Ok(())
 }
 
-/// Puts what is written behind it, without a move of its items.
+/// Puts more behind what is written; no item is moved.
 fn hang(more: Written, out: &mut Written) -> Result<(), Memory>
     ensures { OnOk result (written out.new ≡ join (written out.old) (written more)) }
 {
@@ -56,7 +57,7 @@ fn is_short(more: &Written) -> bool
     more.pieces.is_empty() && more.last.len() <= FEW
 }
 
-/// Puts what is written behind it.
+/// Puts more behind what is written.
 fn add_written(more: Written, out: &mut Written) -> Result<(), Memory>
     ensures { OnOk result (written out.new ≡ join (written out.old) (written more)) }
 {
@@ -67,7 +68,7 @@ fn add_written(more: Written, out: &mut Written) -> Result<(), Memory>
     }
 }
 
-/// What stands before the then-list of an `if`.
+/// What stands between the else-list of an `if` and its then-list.
 pub fn start_then(labels: Labels, out: &mut Written) -> Result<(), Memory>
     ensures { OnOk result (written out.new ≡ join (written out.old) (Then (Goto labels.behind) (one (Mark labels.list)))) }
 {
@@ -75,7 +76,7 @@ pub fn start_then(labels: Labels, out: &mut Written) -> Result<(), Memory>
     add_label(labels.list, &mut out.last)
 }
 
-/// The then-list of an `if`, which is written, between its labels.
+/// A then-list that is written, between its labels.
 pub fn add_then(then: Written, labels: Labels, out: &mut Written) -> Result<(), Memory>
     ensures { OnOk result (written out.new ≡ join (written out.old) (then_part labels (written then))) }
 {
@@ -113,7 +114,7 @@ fn add_each(pieces: List<List<Item>>, out: &mut List<Item>) -> Result<(), Memory
     Ok(())
 }
 
-/// All that is written, in one list.
+/// All that is written, in one list: each item moves once, or none where there are no pieces.
 pub fn in_one(alloc: Global, all: Written) -> Result<List<Item>, Memory>
     ensures { IfOk result (λ it. trees_of it ≡ written all) }
 {

@@ -8,4 +8,5 @@ use Rattle.lower_items.proofs.written.add_written.Goals as goal
 pub returns-then-is_short : goal.returns-then-is_short
 returns-then-is_short c =
     let out = c.args.out.now in
-    on_ok_weaker c.add_all.result (λ f. behind (pieces_of out.pieces) _ _ _ f ∙ sym (ap (λ z. join (written out) (join (pieces_of z) (trees_of c.args.more.last))) (c.is_short.ensures c.if-is_short.true))) c.add_all.ensures
+    on_ok_weaker c.add_all.result (λ f. behind (pieces_of out.pieces) _ _ _ f
+    ∙ sym (ap (λ z. join (written out) (join (pieces_of z) (trees_of c.args.more.last))) (c.is_short.ensures c.if-is_short.true))) c.add_all.ensures

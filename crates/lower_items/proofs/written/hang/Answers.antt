@@ -11,5 +11,6 @@ returns c =
     let more = c.args.more in
     let front = c.replace-front.result in
     let all = join (pieces_of more.pieces) (trees_of more.last) in
-    on_ok_weaker c.add_pieces.result (λ f. ap (λ z. join (pieces_of c.add_pieces.new.out) (trees_of z)) c.replace-front.ensures.after ∙ hung out.pieces c.push.new.self front (pieces_of more.pieces) (trees_of more.last) c.add_pieces.new.out c.in_ok-push.ensures.ok f
+    on_ok_weaker c.add_pieces.result (λ f. ap (λ z. join (pieces_of c.add_pieces.new.out) (trees_of z)) c.replace-front.ensures.after
+    ∙ hung out.pieces c.push.new.self front (pieces_of more.pieces) (trees_of more.last) c.add_pieces.new.out c.in_ok-push.ensures.ok f
     ∙ ap (λ z. join (join (pieces_of out.pieces) (trees_of z)) all) c.replace-front.ensures.value) c.add_pieces.ensures

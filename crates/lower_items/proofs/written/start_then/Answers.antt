@@ -12,4 +12,5 @@ pub returns : goal.returns
 returns c =
     let out = c.args.out.now in
     let n = c.args.labels in
-    on_ok_weaker c.add_label.result (λ f. behind (pieces_of out.pieces) _ _ _ (f ∙ one_more (trees_of out.last) _ (Plain.Goto n.behind) (one (Plain.Mark n.list)) c.in_ok-add_goto.ensures)) c.add_label.ensures
+    on_ok_weaker c.add_label.result (λ f. behind (pieces_of out.pieces) _ _ _ (f
+    ∙ one_more (trees_of out.last) _ (Plain.Goto n.behind) (one (Plain.Mark n.list)) c.in_ok-add_goto.ensures)) c.add_label.ensures
