@@ -1,6 +1,6 @@
 //! Nodes.
 
-ghost use Rattle.std.specs.Prelude.{◌≡◌, ◌<◌, ◌+◌, [], ◌∷◌, ◌++◌, IfOk};
+ghost use Rattle.std.specs.Prelude.{◌≡◌, ◌<◌, ◌≤◌, ◌+◌, [], ◌∷◌, ◌++◌, IfOk};
 ghost use Rattle.c_grammar.specs.Nodes as nodes;
 ghost use Rattle.c_parse_step.specs.Nodes as spec;
 ghost use Rattle.c_parse_step.specs.Shown as shown;
@@ -70,11 +70,12 @@ pub fn two_of(
     a: SyntaxNode,
     b: SyntaxNode,
 ) -> Result<List<SyntaxNode>, Memory>
+    requires { 2 ≤ room }
     ensures { IfOk result (λ it. it ≡ a ∷ b ∷ []) }
 {
     let mut parts = Vec::with_capacity(alloc, room)?;
-    parts.push(a)?;
-    parts.push(b)?;
+    parts.push_reserved(a);
+    parts.push_reserved(b);
     Ok(List::from_vec(parts))
 }
 
@@ -87,9 +88,9 @@ pub fn three(
     ensures { IfOk result (λ it. it ≡ a ∷ b ∷ c ∷ []) }
 {
     let mut parts = Vec::with_capacity(alloc, 3)?;
-    parts.push(a)?;
-    parts.push(b)?;
-    parts.push(c)?;
+    parts.push_reserved(a);
+    parts.push_reserved(b);
+    parts.push_reserved(c);
     Ok(List::from_vec(parts))
 }
 
@@ -103,10 +104,10 @@ pub fn four(
     ensures { IfOk result (λ it. it ≡ a ∷ b ∷ c ∷ d ∷ []) }
 {
     let mut parts = Vec::with_capacity(alloc, 4)?;
-    parts.push(a)?;
-    parts.push(b)?;
-    parts.push(c)?;
-    parts.push(d)?;
+    parts.push_reserved(a);
+    parts.push_reserved(b);
+    parts.push_reserved(c);
+    parts.push_reserved(d);
     Ok(List::from_vec(parts))
 }
 

@@ -12,7 +12,7 @@ use crate::frames::FrameStack;
 use crate::kind::{is_close, is_text};
 use crate::load::{COUNTED, Load, UNCOUNTED};
 use crate::types::at_type;
-use crate::want::behind_full;
+use crate::want::{behind_full, both_taken, taken};
 use c_grammar::{Class, SyntaxNode};
 use c_types::Memory;
 use std::alloc::Global;
@@ -28,28 +28,19 @@ pub fn at_unary(
 {
     match class {
         Class::Sign | Class::Flip => {
-            stack.push(Entry::Prefix(at, at + 1))?;
-            stack.push(Entry::WantUnary)?;
-            Ok(Some(COUNTED))
+            both_taken(stack, COUNTED, Entry::Prefix(at, at + 1), Entry::WantUnary)
         }
-        Class::Step => {
-            stack.push(Entry::Stepped(at, at + 1))?;
-            stack.push(Entry::WantTarget)?;
-            Ok(Some(COUNTED))
-        }
-        Class::Open => {
-            stack.push(Entry::Post(at))?;
-            stack.push(Entry::Opened(at, at + 1))?;
-            Ok(Some(COUNTED))
-        }
-        Class::Name => {
-            stack.push(Entry::Post(at))?;
-            stack.push(Entry::Named(at, at + 1))?;
-            Ok(Some(UNCOUNTED))
-        }
+        Class::Step => both_taken(
+            stack,
+            COUNTED,
+            Entry::Stepped(at, at + 1),
+            Entry::WantTarget,
+        ),
+        Class::Open => both_taken(stack, COUNTED, Entry::Post(at), Entry::Opened(at, at + 1)),
+        Class::Name => both_taken(stack, UNCOUNTED, Entry::Post(at), Entry::Named(at, at + 1)),
         Class::Number | Class::Character => {
-            stack.push(Entry::Done(constant(alloc, at, at + 1)?))?;
-            Ok(Some(UNCOUNTED))
+            let value = constant(alloc, at, at + 1)?;
+            taken(stack, UNCOUNTED, Entry::Done(value))
         }
         _ => Ok(None),
     }
@@ -68,13 +59,9 @@ pub fn at_operand(
     ensures { Steps (spec.at_unary (Frame.Operand first ∷ stack.old) class at) result stack.new }
 {
     match class {
-        Class::Name => {
-            stack.push(Entry::NamedOperand(at, at + 1, first))?;
-            Ok(Some(UNCOUNTED))
-        }
+        Class::Name => taken(stack, UNCOUNTED, Entry::NamedOperand(at, at + 1, first)),
         Class::Number | Class::Character => {
-            stack.push(Entry::ConstantOperand(at, at + 1, first))?;
-            Ok(Some(UNCOUNTED))
+            taken(stack, UNCOUNTED, Entry::ConstantOperand(at, at + 1, first))
         }
         _ => {
             stack.push(Entry::Operand(first))?;
@@ -93,15 +80,13 @@ pub fn at_target(
     ensures { Steps (spec.at_target stack.old class at) result stack.new }
 {
     match class {
-        Class::Open => {
-            stack.push(Entry::Enclosed(at, at + 1))?;
-            stack.push(Entry::WantTarget)?;
-            Ok(Some(COUNTED))
-        }
-        Class::Name => {
-            stack.push(Entry::TargetNamed(at, at + 1))?;
-            Ok(Some(UNCOUNTED))
-        }
+        Class::Open => both_taken(
+            stack,
+            COUNTED,
+            Entry::Enclosed(at, at + 1),
+            Entry::WantTarget,
+        ),
+        Class::Name => taken(stack, UNCOUNTED, Entry::TargetNamed(at, at + 1)),
         _ => Ok(None),
     }
 }
@@ -117,8 +102,7 @@ pub fn at_argument(
 {
     if is_text(class) {
         let parts = one(alloc, leaf(alloc, at))?;
-        stack.push(Entry::Texts(at, parts))?;
-        return Ok(Some(UNCOUNTED));
+        return taken(stack, UNCOUNTED, Entry::Texts(at, parts));
     }
     stack.push(Entry::ArgumentSeen(at))?;
     stack.push(Entry::Begun(Full::Assignment, at))?;
@@ -156,10 +140,7 @@ pub fn at_opened(
             stack.push(Entry::CastType(first, next))?;
             at_type(alloc, stack, class, at)
         }
-        Class::Void => {
-            stack.push(Entry::VoidSeen(first, next, at, at + 1))?;
-            Ok(Some(UNCOUNTED))
-        }
+        Class::Void => taken(stack, UNCOUNTED, Entry::VoidSeen(first, next, at, at + 1)),
         _ => {
             stack.push(Entry::Bracketed(first, next))?;
             stack.push(Entry::Begun(Full::Expression, at))?;
@@ -185,7 +166,10 @@ pub fn at_type_end(
         return Ok(None);
     }
     let parts = three(alloc, token(alloc, first, next), kind, leaf(alloc, at))?;
-    stack.push(Entry::Cast(first, at + 1, parts))?;
-    stack.push(Entry::WantUnary)?;
-    Ok(Some(UNCOUNTED))
+    both_taken(
+        stack,
+        UNCOUNTED,
+        Entry::Cast(first, at + 1, parts),
+        Entry::WantUnary,
+    )
 }

@@ -6,11 +6,11 @@ ghost use Rattle.c_parse_step.specs.Steps.{Steps};
 
 use crate::build::{leaf, more, node, of_function, one};
 use crate::entry::Entry;
-use crate::form::{Lead, Member, Want};
+use crate::form::{Member, Want};
 use crate::frames::FrameStack;
 use crate::load::{Load, OUTSIDE};
-use crate::types::{at_type, begun};
-use crate::want::{rest, todo};
+use crate::types::{at_local, at_type, begun};
+use crate::want::{both_taken, rest, taken, todo};
 use c_grammar::{Class, Production, SyntaxNode};
 use c_types::{List, Memory, Stack};
 use std::alloc::Global;
@@ -46,22 +46,16 @@ pub fn at_external(
         Class::Const => {
             let none = Stack::new(alloc);
             rest(stack, Production::Declaration, first, 0, parts, none)?;
-            let wants = todo(
-                alloc,
-                &[
-                    Want::Type,
-                    Want::Declarator,
-                    Want::Optional(Lead::Declarators),
-                    Want::Token(Class::Semicolon),
-                ],
-            )?;
-            begun(alloc, stack, OUTSIDE, Production::Local, 0, at, 4, wants)
+            at_local(alloc, stack, class, at)
         }
         Class::Void => {
             let parts = more(of_function(parts)?, leaf(alloc, at))?;
             let wants = function_rest(alloc)?;
-            rest(stack, Production::Function, first, 0, parts, wants)?;
-            Ok(Some(OUTSIDE))
+            taken(
+                stack,
+                OUTSIDE,
+                Entry::Rest(Production::Function, first, 0, parts, wants),
+            )
         }
         _ => {
             stack.push(Entry::TopType(first, at, parts))?;
@@ -82,30 +76,31 @@ pub fn at_top(
 {
     match class {
         Class::End => {
-            stack.push(Entry::Accepted(node(Production::File, 0, at, parts)))?;
-            Ok(Some(OUTSIDE))
+            let file = node(Production::File, 0, at, parts);
+            taken(stack, OUTSIDE, Entry::Accepted(file))
         }
         Class::Directive => {
-            stack.push(Entry::Tops(more(parts, leaf(alloc, at))?))?;
-            Ok(Some(OUTSIDE))
+            let parts = more(parts, leaf(alloc, at))?;
+            taken(stack, OUTSIDE, Entry::Tops(parts))
         }
         Class::Enum => {
             stack.push(Entry::Tops(parts))?;
-            let wants = todo(
-                alloc,
-                &[
-                    Want::Token(Class::OpenBlock),
-                    Want::Enumerator,
-                    Want::Tail(Member::Enumerator),
-                    Want::Token(Class::Semicolon),
-                ],
-            )?;
-            begun(alloc, stack, OUTSIDE, Production::Enum, 0, at, 4, wants)
+            let wants = [
+                Want::Token(Class::OpenBlock),
+                Want::Enumerator,
+                Want::Tail(Member::Enumerator),
+                Want::Token(Class::Semicolon),
+            ];
+            begun(alloc, stack, OUTSIDE, Production::Enum, at, 4, &wants)
         }
         Class::Static => {
-            stack.push(Entry::Tops(parts))?;
-            stack.push(Entry::External(at, one(alloc, leaf(alloc, at))?))?;
-            Ok(Some(OUTSIDE))
+            let begun = one(alloc, leaf(alloc, at))?;
+            both_taken(
+                stack,
+                OUTSIDE,
+                Entry::Tops(parts),
+                Entry::External(at, begun),
+            )
         }
         _ => {
             stack.push(Entry::Tops(parts))?;

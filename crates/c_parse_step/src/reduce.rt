@@ -1,7 +1,8 @@
 //! What a frame does with a value, in front of the next token.
 
-ghost use Rattle.std.specs.Prelude.{◌≡◌, ◌<◌, ◌+◌, [], ◌∷◌, IfOk, OnOk};
+ghost use Rattle.std.specs.Prelude.{◌≡◌, ◌<◌, ◌+◌, ℕ, List, [], ◌∷◌, IfOk, OnOk};
 ghost use Rattle.c_grammar.specs.Classes as classes;
+ghost use Rattle.c_grammar.specs.declared.class.Class as classes_of;
 ghost use Rattle.c_grammar.specs.Nodes as nodes;
 ghost use Rattle.c_parse_step.specs.Machine as spec;
 ghost use Rattle.c_parse_step.specs.Shown as shown;
@@ -22,10 +23,10 @@ use crate::given::Given;
 use crate::kind::{
     is_assign, is_close, is_close_index, is_colon, is_comma, is_question, is_same, is_step, level,
 };
-use crate::load::{COUNTED, OUTSIDE, UNCOUNTED};
+use crate::load::{COUNTED, Load, OUTSIDE, UNCOUNTED};
 use crate::resume::{ended, resume};
 use crate::statements::at_block_items;
-use crate::want::{rest, want_assignment, want_conditional, want_expression};
+use crate::want::{want_assignment, want_conditional, want_expression};
 use c_grammar::{Class, Production, SyntaxNode};
 use c_types::{Boxed, List, Memory, Stack};
 use std::alloc::Global;
@@ -47,8 +48,8 @@ fn post(
                 return Ok(Given::Passed(Found::Lone(v)));
             }
             let parts = two(alloc, v, leaf(alloc, at))?;
-            stack.push(Entry::Done(postfix(first, at + 1, parts, alloc)?))?;
-            Ok(Given::Taken(COUNTED))
+            let stepped = postfix(first, at + 1, parts, alloc)?;
+            taken(stack, COUNTED, Entry::Done(stepped))
         }
         Found::Whole(v) => Ok(Given::Passed(Found::Whole(v))),
     }
@@ -60,19 +61,27 @@ fn operand(alloc: Global, first: u32, found: Found, at: u32) -> Result<Given, Me
     Ok(Given::Passed(lift(alloc, Production::Binary, first, at, found)?))
 }
 
-/// The operand in front of a binary mark, and what is awaited behind it.
+/// The token is taken, and this is awaited behind it.
+fn taken(stack: &mut FrameStack, load: Load, entry: Entry) -> Result<Given, Memory>
+    ensures { (z : List Frame) (t : classes_of.Class) (at : ℕ) → Reduces (starts.Takes load (shown.shown entry stack.old)) z t at result stack.new }
+{
+    stack.push(entry)?;
+    Ok(Given::Taken(load))
+}
+
+/// The operand in front of a binary mark, which is taken, and what is awaited behind it.
 fn put_join(
     stack: &mut FrameStack,
     first: u32,
     operand: SyntaxNode,
     class: Class,
     at: u32,
-) -> Result<(), Memory>
+) -> Result<Given, Memory>
     requires { at < 4294967295 }
-    ensures { OnOk result (stack.new ≡ Frame.WantUnary ∷ Frame.Operand (at + 1) ∷ Frame.Join first operand (nodes.leaf at) (at + 1) (classes.level class) ∷ stack.old) }
+    ensures { (z : List Frame) (t : classes_of.Class) (i : ℕ) → Reduces (starts.counted (Frame.WantUnary ∷ Frame.Operand (at + 1) ∷ Frame.Join first operand (nodes.leaf at) (at + 1) (classes.level class) ∷ stack.old)) z t i result stack.new }
 {
     stack.push(Entry::Join(first, at, at + 1, level(class), operand))?;
-    stack.push(Entry::WantOperand(at + 1))
+    taken(stack, COUNTED, Entry::WantOperand(at + 1))
 }
 
 fn join(
@@ -93,8 +102,7 @@ fn join(
     let operand = solid_binary(alloc, next, at, found)?;
     if bound < level(class) {
         stack.push(Entry::Join(first, mark, next, bound, left))?;
-        put_join(stack, next, operand, class, at)?;
-        return Ok(Given::Taken(COUNTED));
+        return put_join(stack, next, operand, class, at);
     }
     let parts = three(alloc, left, token(alloc, mark, next), operand)?;
     Ok(Given::Passed(Found::Whole(node(Production::Binary, first, at, parts))))
@@ -138,8 +146,7 @@ fn enclosed(
                 return Ok(Given::Refused);
             }
             let parts = three(alloc, token(alloc, first, next), v, leaf(alloc, at))?;
-            stack.push(Entry::Done(target(first, at + 1, parts)))?;
-            Ok(Given::Taken(UNCOUNTED))
+            taken(stack, UNCOUNTED, Entry::Done(target(first, at + 1, parts)))
         }
         Found::Whole(_) => Ok(Given::Refused),
     }
@@ -190,8 +197,7 @@ fn begun(
     if 0 < level(class) {
         let operand = solid_binary(alloc, first, at, found)?;
         stack.push(Entry::Begun(kind, first))?;
-        put_join(stack, first, operand, class, at)?;
-        return Ok(Given::Taken(COUNTED));
+        return put_join(stack, first, operand, class, at);
     }
     if is_question(class) {
         let test = solid_binary(alloc, first, at, found)?;
@@ -315,19 +321,28 @@ fn first_of_commas(
     requires { at < 4294967295 }
     ensures { Reduces (spec.give (Frame.Assigns first ∷ Frame.Commas first first [] ∷ stack.old) found class at) stack.old class at result stack.new }
 {
-    let none = List::new(alloc);
     match found {
         Found::Lone(v) => {
             if is_assign(class) {
-                stack.push(Entry::Commas(first, first, none))?;
+                stack.push(Entry::Commas(first, first, List::new(alloc)))?;
                 put_assigns(alloc, stack, first, v, at)?;
                 return Ok(Given::Taken(COUNTED));
             }
+            let none = List::new(alloc);
             after_commas(alloc, stack, first, first, none, Found::Lone(v), class, at)
         }
         found => {
             let whole = lift(alloc, Production::Assignment, first, at, found)?;
-            after_commas(alloc, stack, first, first, none, whole, class, at)
+            after_commas(
+                alloc,
+                stack,
+                first,
+                first,
+                List::new(alloc),
+                whole,
+                class,
+                at,
+            )
         }
     }
 }
@@ -389,8 +404,7 @@ fn indexed(
     }
     let index = solid_expression(alloc, next, at, found)?;
     let parts = two_more(parts, index, leaf(alloc, at))?;
-    stack.push(Entry::Done(target(first, at + 1, parts)))?;
-    Ok(Given::Taken(UNCOUNTED))
+    taken(stack, UNCOUNTED, Entry::Done(target(first, at + 1, parts)))
 }
 
 fn bracketed(
@@ -418,8 +432,7 @@ fn bracketed(
             alloc,
         )?,
     };
-    stack.push(Entry::Done(done))?;
-    Ok(Given::Taken(UNCOUNTED))
+    taken(stack, UNCOUNTED, Entry::Done(done))
 }
 
 fn argument_seen(alloc: Global, first: u32, found: Found, at: u32) -> Result<Given, Memory>
@@ -448,13 +461,12 @@ fn arguments(
             if is_comma(class) {
                 let parts = two_more(parts, v, leaf(alloc, at))?;
                 stack.push(Entry::Arguments(first, parts))?;
-                stack.push(Entry::WantArgument)?;
-                return Ok(Given::Taken(UNCOUNTED));
+                return taken(stack, UNCOUNTED, Entry::WantArgument);
             }
             if is_close(class) {
                 let parts = two_more(parts, v, leaf(alloc, at))?;
-                stack.push(Entry::Done(postfix(first, at + 1, parts, alloc)?))?;
-                return Ok(Given::Taken(UNCOUNTED));
+                let call = postfix(first, at + 1, parts, alloc)?;
+                return taken(stack, UNCOUNTED, Entry::Done(call));
             }
             Ok(Given::Refused)
         }
@@ -508,8 +520,11 @@ fn sentence(
     let whole = solid_expression(alloc, first, at, found)?;
     let parts = two(alloc, whole, leaf(alloc, at))?;
     let none = Stack::new(alloc);
-    rest(stack, Production::Plain, first, level, parts, none)?;
-    Ok(Given::Taken(OUTSIDE))
+    taken(
+        stack,
+        OUTSIDE,
+        Entry::Rest(Production::Plain, first, level, parts, none),
+    )
 }
 
 /// A statement that has no labels, once it is read.
@@ -594,8 +609,11 @@ fn top_type(
                 return Ok(Given::Refused);
             }
             let kind = Boxed::new(alloc, v)?;
-            stack.push(Entry::TopName(first, start, at, at + 1, parts, kind))?;
-            Ok(Given::Taken(OUTSIDE))
+            taken(
+                stack,
+                OUTSIDE,
+                Entry::TopName(first, start, at, at + 1, parts, kind),
+            )
         }
     }
 }

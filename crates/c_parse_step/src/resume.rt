@@ -19,7 +19,7 @@ use crate::types::{
     at_declarator, at_enumerator, at_initialiser, at_local, at_member, at_parameter, at_parameters,
     at_type,
 };
-use crate::want::{lead_in, put};
+use crate::want::{lead_in, put, put_before};
 use c_grammar::{Class, Production, SyntaxNode};
 use c_types::{List, Memory};
 use std::alloc::Global;
@@ -75,7 +75,7 @@ fn at_base(
 fn at_optional(
     alloc: Global,
     stack: &mut FrameStack,
-    mut form: Form,
+    form: Form,
     kind: Full,
     close: Class,
     class: Class,
@@ -87,8 +87,7 @@ fn at_optional(
     if is_same(close, class) {
         return take(alloc, stack, OUTSIDE, form, at);
     }
-    form.todo.push(Want::Token(close))?;
-    put(stack, form)?;
+    put_before(stack, form, Want::Token(close))?;
     at_full(alloc, stack, kind, class, at)
 }
 
@@ -116,7 +115,7 @@ fn at_tail(
 fn at_next(
     alloc: Global,
     stack: &mut FrameStack,
-    mut form: Form,
+    form: Form,
     member: Member,
     class: Class,
     at: u32,
@@ -127,8 +126,7 @@ fn at_next(
     if is_same(Class::CloseBlock, class) {
         return take(alloc, stack, OUTSIDE, form, at);
     }
-    form.todo.push(Want::Tail(member))?;
-    put(stack, form)?;
+    put_before(stack, form, Want::Tail(member))?;
     at_member(alloc, stack, member, class, at)
 }
 
@@ -160,7 +158,7 @@ fn at_for_start(
 fn at_items(
     alloc: Global,
     stack: &mut FrameStack,
-    mut form: Form,
+    form: Form,
     class: Class,
     at: u32,
 ) -> Result<Option<Load>, Memory>
@@ -171,8 +169,7 @@ fn at_items(
         return take(alloc, stack, OUTSIDE, form, at);
     }
     let level = form.level;
-    form.todo.push(Want::Items)?;
-    put(stack, form)?;
+    put_before(stack, form, Want::Items)?;
     if starts_local(class) {
         return at_local(alloc, stack, class, at);
     }

@@ -13,8 +13,8 @@ use crate::frame::Full;
 use crate::frames::FrameStack;
 use crate::kind::{is_same, starts_local};
 use crate::load::{Load, OUTSIDE, Role, UNCOUNTED};
-use crate::types::{at_local, begun};
-use crate::want::{put, rest, todo};
+use crate::types::{at_local, begun, begun_with};
+use crate::want::{put, put_before, rest, taken, todo};
 use c_grammar::{Class, Production, SyntaxNode};
 use c_types::{Boxed, List, Memory, Stack};
 use std::alloc::Global;
@@ -46,8 +46,7 @@ pub fn at_block(
         opens: Some(level),
     };
     let parts = first_of(alloc, 4, leaf(alloc, at))?;
-    stack.push(Entry::Block(at, level, parts))?;
-    Ok(Some(load))
+    taken(stack, load, Entry::Block(at, level, parts))
 }
 
 /// What stands behind the first word of a statement with parts.
@@ -142,7 +141,7 @@ pub fn at_plain(
     ensures { Steps (spec.at_plain level stack.old class at) result stack.new }
 {
     if let Some(wants) = plain_wants(alloc, class)? {
-        return begun(
+        return begun_with(
             alloc,
             stack,
             OUTSIDE,
@@ -173,7 +172,7 @@ pub fn at_plain(
 pub fn at_labelled(
     alloc: Global,
     stack: &mut FrameStack,
-    mut form: Form,
+    form: Form,
     class: Class,
     at: u32,
 ) -> Result<Option<Load>, Memory>
@@ -182,24 +181,18 @@ pub fn at_labelled(
 {
     match class {
         Class::Case => {
-            form.todo.push(Want::Labelled)?;
-            put(stack, form)?;
-            let wants = todo(
-                alloc,
-                &[Want::Full(Full::Conditional), Want::Token(Class::Colon)],
-            )?;
-            begun(alloc, stack, OUTSIDE, Production::Label, 0, at, 3, wants)
+            put_before(stack, form, Want::Labelled)?;
+            let wants = [Want::Full(Full::Conditional), Want::Token(Class::Colon)];
+            begun(alloc, stack, OUTSIDE, Production::Label, at, 3, &wants)
         }
         Class::Default => {
-            form.todo.push(Want::Labelled)?;
-            put(stack, form)?;
-            let wants = todo(alloc, &[Want::Token(Class::Colon)])?;
-            begun(alloc, stack, OUTSIDE, Production::Label, 0, at, 2, wants)
+            put_before(stack, form, Want::Labelled)?;
+            let wants = [Want::Token(Class::Colon)];
+            begun(alloc, stack, OUTSIDE, Production::Label, at, 2, &wants)
         }
         Class::Name => {
             let form = Boxed::new(alloc, form)?;
-            stack.push(Entry::LabelOrName(at, at + 1, form))?;
-            Ok(Some(UNCOUNTED))
+            taken(stack, UNCOUNTED, Entry::LabelOrName(at, at + 1, form))
         }
         _ => {
             let level = form.level;
@@ -237,10 +230,7 @@ pub fn at_statement(
             let form = statement_form(alloc, at, level);
             at_labelled(alloc, stack, form, class, at)
         }
-        Class::Name => {
-            stack.push(Entry::StatementName(at, at + 1, level))?;
-            Ok(Some(UNCOUNTED))
-        }
+        Class::Name => taken(stack, UNCOUNTED, Entry::StatementName(at, at + 1, level)),
         _ => {
             stack.push(Entry::Statement(at, level))?;
             at_plain(alloc, stack, level, class, at)
@@ -264,8 +254,8 @@ pub fn at_block_items(
     if is_same(Class::CloseBlock, class) {
         parts.push(leaf(alloc, at))?;
         let none = Stack::new(alloc);
-        rest(stack, Production::Block, first, level, parts, none)?;
-        return Ok(Some(OUTSIDE));
+        let whole = Entry::Rest(Production::Block, first, level, parts, none);
+        return taken(stack, OUTSIDE, whole);
     }
     stack.push(Entry::Block(first, level, parts))?;
     if starts_local(class) {

@@ -1,6 +1,6 @@
 //! One token more.
 
-ghost use Rattle.std.specs.Prelude.{◌≡◌, ◌<◌, ◌∷◌, [], OnOk};
+ghost use Rattle.std.specs.Prelude.{◌≡◌, ◌<◌, ◌∷◌, ◌++◌, [], OnOk};
 ghost use Rattle.c_grammar.specs.Nodes as nodes;
 ghost use Rattle.c_parse_step.specs.Machine as spec;
 ghost use Rattle.c_parse_step.specs.Shown as shown;
@@ -24,7 +24,7 @@ use crate::load::{COUNTED, Load, OUTSIDE, UNCOUNTED};
 use crate::reduce::reduce;
 use crate::resume::{ended, resume};
 use crate::statements::{at_block_items, statement_form};
-use crate::want::{put, rest, todo, want_expression};
+use crate::want::{put, put_before, rest, taken, todo, want_expression};
 use c_grammar::{Class, Production, SyntaxNode};
 use c_types::{List, Memory, Stack};
 use std::alloc::Global;
@@ -109,8 +109,7 @@ fn at_named(
     ensures { Steps (spec.at_named first (shown.token first after) stack.old class at) result stack.new }
 {
     if is_open(class) {
-        stack.push(Entry::Called(first, after, at, at + 1))?;
-        return Ok(Some(COUNTED));
+        return taken(stack, COUNTED, Entry::Called(first, after, at, at + 1));
     }
     at_index(alloc, stack, first, after, class, at)
 }
@@ -174,8 +173,8 @@ fn at_called(
     let opened = token(alloc, bracket, next);
     if is_close(class) {
         let parts = three(alloc, name, opened, leaf(alloc, at))?;
-        stack.push(Entry::Done(postfix(first, at + 1, parts, alloc)?))?;
-        return Ok(Some(UNCOUNTED));
+        let call = postfix(first, at + 1, parts, alloc)?;
+        return taken(stack, UNCOUNTED, Entry::Done(call));
     }
     let parts = two_of(alloc, 4, name, opened)?;
     stack.push(Entry::Arguments(first, parts))?;
@@ -195,8 +194,7 @@ fn at_texts(
 {
     if is_text(class) {
         let parts = more(parts, leaf(alloc, at))?;
-        stack.push(Entry::Texts(first, parts))?;
-        return Ok(Some(UNCOUNTED));
+        return taken(stack, UNCOUNTED, Entry::Texts(first, parts));
     }
     let whole = node(Production::Argument, first, at, parts);
     give(alloc, stack, Found::Whole(whole), class, at)
@@ -208,15 +206,14 @@ fn put_label(
     stack: &mut FrameStack,
     name: u32,
     after: u32,
-    mut form: Form,
+    form: Form,
     at: u32,
 ) -> Result<(), Memory>
     requires { at < 4294967295 }
     ensures { OnOk result (stack.new ≡ starts.rest Production.Label name 0 (shown.token name after ∷ nodes.leaf at ∷ []) [] ∷ Frame.Rest (record form { todo = Want.Labelled ∷ form.todo }) ∷ stack.old) }
 {
     let parts = two(alloc, token(alloc, name, after), leaf(alloc, at))?;
-    form.todo.push(Want::Labelled)?;
-    put(stack, form)?;
+    put_before(stack, form, Want::Labelled)?;
     rest(stack, Production::Label, name, 0, parts, Stack::new(alloc))
 }
 
@@ -274,6 +271,57 @@ fn at_statement_name(
     at_named_operand(alloc, stack, name, after, name, class, at)
 }
 
+/// The name of a function, with what stands in front of it and the bracket behind it, and what is awaited there.
+fn put_function(
+    alloc: Global,
+    stack: &mut FrameStack,
+    first: u32,
+    parts: List<SyntaxNode>,
+    kind: SyntaxNode,
+    name: u32,
+    after: u32,
+    at: u32,
+) -> Result<(), Memory>
+    requires { at < 4294967295 }
+    ensures { OnOk result (stack.new ≡ starts.rest Production.Function first 0 (parts ++ kind ∷ shown.token name after ∷ nodes.leaf at ∷ []) (Want.Parameters ∷ Want.Token Class.Close ∷ Want.FunctionEnd ∷ []) ∷ stack.old) }
+{
+    let parts = more(of_function(parts)?, kind)?;
+    let parts = two_more(parts, token(alloc, name, after), leaf(alloc, at))?;
+    let wants = todo(
+        alloc,
+        &[
+            Want::Parameters,
+            Want::Token(Class::Close),
+            Want::FunctionEnd,
+        ],
+    )?;
+    rest(stack, Production::Function, first, 0, parts, wants)
+}
+
+/// What is awaited for a declaration of this type behind its first declarator.
+fn put_declared(
+    alloc: Global,
+    stack: &mut FrameStack,
+    first: u32,
+    parts: List<SyntaxNode>,
+    start: u32,
+    kind: SyntaxNode,
+) -> Result<(), Memory>
+    ensures { OnOk result (stack.new ≡ spec.declared first parts start kind stack.old) }
+{
+    let kinds = one(alloc, kind)?;
+    let none = Stack::new(alloc);
+    rest(stack, Production::Declaration, first, 0, parts, none)?;
+    let wants = todo(
+        alloc,
+        &[
+            Want::Optional(Lead::Declarators),
+            Want::Token(Class::Semicolon),
+        ],
+    )?;
+    rest(stack, Production::Local, start, 0, kinds, wants)
+}
+
 /// Behind the name of a declaration or a function.
 fn at_top_name(
     alloc: Global,
@@ -290,40 +338,21 @@ fn at_top_name(
     requires { at < 4294967295 }
     ensures { Steps (spec.at_top_name first parts start kind name (shown.token name after) stack.old class at) result stack.new }
 {
-    let mark = token(alloc, name, after);
     if is_same(Class::Open, class) {
-        let parts = two_more(of_function(parts)?, kind, mark)?;
-        let parts = more(parts, leaf(alloc, at))?;
-        let wants = todo(
-            alloc,
-            &[
-                Want::Parameters,
-                Want::Token(Class::Close),
-                Want::FunctionEnd,
-            ],
-        )?;
-        rest(stack, Production::Function, first, 0, parts, wants)?;
+        put_function(alloc, stack, first, parts, kind, name, after, at)?;
         return Ok(Some(OUTSIDE));
     }
-    let none = Stack::new(alloc);
-    rest(stack, Production::Declaration, first, 0, parts, none)?;
-    let wants = todo(
+    put_declared(alloc, stack, first, parts, start, kind)?;
+    let todo = todo(
         alloc,
-        &[
-            Want::Optional(Lead::Declarators),
-            Want::Token(Class::Semicolon),
-        ],
+        &[Want::Optional(Lead::Size), Want::Optional(Lead::Value)],
     )?;
-    rest(stack, Production::Local, start, 0, one(alloc, kind)?, wants)?;
     let form = Form {
         rule: Production::Declarator,
         first: name,
         level: 0,
-        parts: one(alloc, mark)?,
-        todo: todo(
-            alloc,
-            &[Want::Optional(Lead::Size), Want::Optional(Lead::Value)],
-        )?,
+        parts: one(alloc, token(alloc, name, after))?,
+        todo,
     };
     resumed(alloc, stack, form, class, at)
 }

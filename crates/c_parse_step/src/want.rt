@@ -4,11 +4,13 @@ ghost use Rattle.std.specs.Prelude.{◌≡◌, ◌∷◌, OnOk, IfOk};
 ghost use Rattle.c_parse_step.specs.Machine as machine;
 ghost use Rattle.c_parse_step.specs.Shown as shown;
 ghost use Rattle.c_parse_step.specs.Starts as spec;
+ghost use Rattle.c_parse_step.specs.Steps.{Steps};
 
 use crate::entry::Entry;
 use crate::form::{Form, Lead, Want};
 use crate::frame::{Frame, Full};
 use crate::frames::FrameStack;
+use crate::load::Load;
 use c_grammar::{Production, SyntaxNode};
 use c_types::{List, Memory, Stack};
 use std::alloc::Global;
@@ -40,6 +42,27 @@ pub fn behind_full(stack: &mut FrameStack, kind: Full, at: u32) -> Result<(), Me
 {
     stack.push(Entry::Whole(kind, at))?;
     stack.push(Entry::Begun(kind, at))
+}
+
+/// The token is taken, and this is awaited behind it. A call of this is cheaper to prove than a push with a `?`.
+pub fn taken(stack: &mut FrameStack, load: Load, entry: Entry) -> Result<Option<Load>, Memory>
+    ensures { Steps (spec.Takes load (shown.shown entry stack.old)) result stack.new }
+{
+    stack.push(entry)?;
+    Ok(Some(load))
+}
+
+/// The token is taken, and these two are awaited behind it, the second one first.
+pub fn both_taken(
+    stack: &mut FrameStack,
+    load: Load,
+    below: Entry,
+    top: Entry,
+) -> Result<Option<Load>, Memory>
+    ensures { Steps (spec.Takes load (shown.shown top (shown.shown below stack.old))) result stack.new }
+{
+    stack.push(below)?;
+    taken(stack, load, top)
 }
 
 /// What is left of a production.
@@ -81,6 +104,14 @@ pub fn put(stack: &mut FrameStack, form: Form) -> Result<(), Memory>
         todo,
     } = form;
     stack.push(Entry::Rest(rule, first, level, parts, todo))
+}
+
+/// Puts a form on the stack, with this in front of what is left of it.
+pub fn put_before(stack: &mut FrameStack, mut form: Form, want: Want) -> Result<(), Memory>
+    ensures { OnOk result (stack.new ≡ Frame.Rest (record form { todo = want ∷ form.todo }) ∷ stack.old) }
+{
+    form.todo.push(want)?;
+    put(stack, form)
 }
 
 /// What stands behind the token that leads in what may be left out.
