@@ -26,7 +26,7 @@ use crate::kind::{
 use crate::load::{COUNTED, Load, OUTSIDE, UNCOUNTED};
 use crate::resume::{ended, resume};
 use crate::statements::at_block_items;
-use crate::want::{want_assignment, want_conditional, want_expression};
+use crate::want::want_expression;
 use c_grammar::{Class, Production, SyntaxNode};
 use c_types::{Boxed, List, Memory, Stack};
 use std::alloc::Global;
@@ -67,6 +67,22 @@ fn taken(stack: &mut FrameStack, load: Load, entry: Entry) -> Result<Given, Memo
 {
     stack.push(entry)?;
     Ok(Given::Taken(load))
+}
+
+/// The token is taken, and an assignment expression is awaited behind it.
+fn await_assignment(stack: &mut FrameStack, at: u32) -> Result<Given, Memory>
+    ensures { (z : List Frame) (t : classes_of.Class) (i : ℕ) → Reduces (starts.counted (starts.assignment at stack.old)) z t i result stack.new }
+{
+    stack.push(Entry::Begun(Full::Assignment, at))?;
+    taken(stack, COUNTED, Entry::WantOperand(at))
+}
+
+/// The token is taken, and a conditional expression is awaited behind it.
+fn await_conditional(stack: &mut FrameStack, at: u32) -> Result<Given, Memory>
+    ensures { (z : List Frame) (t : classes_of.Class) (i : ℕ) → Reduces (starts.taken (starts.conditional at stack.old)) z t i result stack.new }
+{
+    stack.push(Entry::Begun(Full::Conditional, at))?;
+    taken(stack, UNCOUNTED, Entry::WantOperand(at))
 }
 
 /// The operand in front of a binary mark, which is taken, and what is awaited behind it.
@@ -251,8 +267,7 @@ fn choice_then(
     let mark = token(alloc, question, next);
     let parts = four(alloc, test, mark, then, leaf(alloc, at))?;
     stack.push(Entry::ChoiceElse(first, at + 1, parts))?;
-    want_conditional(stack, at + 1)?;
-    Ok(Given::Taken(UNCOUNTED))
+    await_conditional(stack, at + 1)
 }
 
 fn choice_else(
@@ -270,20 +285,20 @@ fn choice_else(
     Ok(Given::Passed(Found::Whole(node(Production::Conditional, first, at, parts))))
 }
 
-/// A target in front of an assignment's mark, and what is awaited behind it.
+/// A target in front of an assignment's mark, which is taken, and what is awaited behind it.
 fn put_assigns(
     alloc: Global,
     stack: &mut FrameStack,
     first: u32,
     left: SyntaxNode,
     at: u32,
-) -> Result<(), Memory>
+) -> Result<Given, Memory>
     requires { at < 4294967295 }
-    ensures { OnOk result (stack.new ≡ starts.assignment (at + 1) (Frame.AssignsTo first (left ∷ nodes.leaf at ∷ []) (at + 1) ∷ stack.old)) }
+    ensures { (z : List Frame) (t : classes_of.Class) (i : ℕ) → Reduces (starts.counted (starts.assignment (at + 1) (Frame.AssignsTo first (left ∷ nodes.leaf at ∷ []) (at + 1) ∷ stack.old))) z t i result stack.new }
 {
     let parts = two_of(alloc, 3, left, leaf(alloc, at))?;
     stack.push(Entry::AssignsTo(first, at + 1, parts))?;
-    want_assignment(stack, at + 1)
+    await_assignment(stack, at + 1)
 }
 
 fn assigns(
@@ -302,8 +317,7 @@ fn assigns(
             if !is_assign(class) {
                 return Ok(Given::Passed(Found::Lone(v)));
             }
-            put_assigns(alloc, stack, first, v, at)?;
-            Ok(Given::Taken(COUNTED))
+            put_assigns(alloc, stack, first, v, at)
         }
         found => Ok(Given::Passed(lift(alloc, Production::Assignment, first, at, found)?)),
     }
@@ -325,8 +339,7 @@ fn first_of_commas(
         Found::Lone(v) => {
             if is_assign(class) {
                 stack.push(Entry::Commas(first, first, List::new(alloc)))?;
-                put_assigns(alloc, stack, first, v, at)?;
-                return Ok(Given::Taken(COUNTED));
+                return put_assigns(alloc, stack, first, v, at);
             }
             let none = List::new(alloc);
             after_commas(alloc, stack, first, first, none, Found::Lone(v), class, at)
@@ -382,8 +395,7 @@ fn after_commas(
     let last = solid_assignment(alloc, start, at, found)?;
     let parts = two_more(parts, last, leaf(alloc, at))?;
     stack.push(Entry::Commas(first, at + 1, parts))?;
-    want_assignment(stack, at + 1)?;
-    Ok(Given::Taken(COUNTED))
+    await_assignment(stack, at + 1)
 }
 
 fn indexed(

@@ -5,7 +5,7 @@ ghost use Rattle.c_parse_step.specs.Machine as machine;
 ghost use Rattle.c_parse_step.specs.Starts as spec;
 ghost use Rattle.c_parse_step.specs.Steps.{Steps};
 
-use crate::build::{first_of, leaf, none_of};
+use crate::build::{first_of, leaf};
 use crate::entry::Entry;
 use crate::expressions::at_operand;
 use crate::form::{Form, Lead, Want};
@@ -14,7 +14,7 @@ use crate::frames::FrameStack;
 use crate::kind::{is_same, starts_local};
 use crate::load::{Load, OUTSIDE, Role, UNCOUNTED};
 use crate::types::{at_local, begun, begun_with};
-use crate::want::{put, put_before, rest, taken, todo};
+use crate::want::{behind_operand, put, put_before, rest, taken, todo};
 use c_grammar::{Class, Production, SyntaxNode};
 use c_types::{Boxed, List, Memory, Stack};
 use std::alloc::Global;
@@ -153,19 +153,17 @@ pub fn at_plain(
         );
     }
     if is_same(Class::OpenBlock, class) {
-        let none = Stack::new(alloc);
         rest(
             stack,
             Production::Plain,
             at,
             level,
-            none_of(alloc, 1)?,
-            none,
+            List::new(alloc),
+            Stack::new(alloc),
         )?;
         return at_block(alloc, stack, one_deeper(level)?, class, at);
     }
-    stack.push(Entry::Sentence(at, level))?;
-    stack.push(Entry::Begun(Full::Expression, at))?;
+    behind_operand(stack, level, at)?;
     at_operand(alloc, stack, at, class, at)
 }
 

@@ -24,7 +24,7 @@ use crate::load::{COUNTED, Load, OUTSIDE, UNCOUNTED};
 use crate::reduce::reduce;
 use crate::resume::{ended, resume};
 use crate::statements::{at_block_items, statement_form};
-use crate::want::{put, put_before, rest, taken, todo, want_expression};
+use crate::want::{behind_operand, put, put_before, rest, taken, todo, want_expression};
 use c_grammar::{Class, Production, SyntaxNode};
 use c_types::{List, Memory, Stack};
 use std::alloc::Global;
@@ -215,14 +215,6 @@ fn put_label(
     let parts = two(alloc, token(alloc, name, after), leaf(alloc, at))?;
     put_before(stack, form, Want::Labelled)?;
     rest(stack, Production::Label, name, 0, parts, Stack::new(alloc))
-}
-
-/// An expression statement that begins with a name: what is awaited behind the name.
-fn behind_operand(stack: &mut FrameStack, level: u32, name: u32) -> Result<(), Memory>
-    ensures { OnOk result (stack.new ≡ shown.begun Full.Expression name (Frame.Whole Full.Expression name ∷ starts.rest Production.Plain name level [] (Want.Token Class.Semicolon ∷ []) ∷ stack.old)) }
-{
-    stack.push(Entry::Sentence(name, level))?;
-    stack.push(Entry::Begun(Full::Expression, name))
 }
 
 /// Behind a name that begins a statement.

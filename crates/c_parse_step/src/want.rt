@@ -1,6 +1,6 @@
 //! What is awaited for a node that begins at a place.
 
-ghost use Rattle.std.specs.Prelude.{◌≡◌, ◌∷◌, OnOk, IfOk};
+ghost use Rattle.std.specs.Prelude.{◌≡◌, [], ◌∷◌, OnOk, IfOk};
 ghost use Rattle.c_parse_step.specs.Machine as machine;
 ghost use Rattle.c_parse_step.specs.Shown as shown;
 ghost use Rattle.c_parse_step.specs.Starts as spec;
@@ -11,23 +11,9 @@ use crate::form::{Form, Lead, Want};
 use crate::frame::{Frame, Full};
 use crate::frames::FrameStack;
 use crate::load::Load;
-use c_grammar::{Production, SyntaxNode};
+use c_grammar::{Class, Production, SyntaxNode};
 use c_types::{List, Memory, Stack};
 use std::alloc::Global;
-
-pub fn want_conditional(stack: &mut FrameStack, at: u32) -> Result<(), Memory>
-    ensures { OnOk result (stack.new ≡ spec.conditional at stack.old) }
-{
-    stack.push(Entry::Begun(Full::Conditional, at))?;
-    stack.push(Entry::WantOperand(at))
-}
-
-pub fn want_assignment(stack: &mut FrameStack, at: u32) -> Result<(), Memory>
-    ensures { OnOk result (stack.new ≡ spec.assignment at stack.old) }
-{
-    stack.push(Entry::Begun(Full::Assignment, at))?;
-    stack.push(Entry::WantOperand(at))
-}
 
 pub fn want_expression(stack: &mut FrameStack, at: u32) -> Result<(), Memory>
     ensures { OnOk result (stack.new ≡ spec.expression at stack.old) }
@@ -61,8 +47,22 @@ pub fn both_taken(
 ) -> Result<Option<Load>, Memory>
     ensures { Steps (spec.Takes load (shown.shown top (shown.shown below stack.old))) result stack.new }
 {
-    stack.push(below)?;
-    taken(stack, load, top)
+    match stack.push(below) {
+        Ok(()) => taken(stack, load, top),
+        // said, as what an entry holds would be let go part by part here
+        Err(e) => {
+            drop(top);
+            Err(e)
+        }
+    }
+}
+
+/// What is awaited behind the name with which an expression statement begins.
+pub fn behind_operand(stack: &mut FrameStack, level: u32, name: u32) -> Result<(), Memory>
+    ensures { OnOk result (stack.new ≡ shown.begun Full.Expression name (Frame.Whole Full.Expression name ∷ spec.rest Production.Plain name level [] (Want.Token Class.Semicolon ∷ []) ∷ stack.old)) }
+{
+    stack.push(Entry::Sentence(name, level))?;
+    stack.push(Entry::Begun(Full::Expression, name))
 }
 
 /// What is left of a production.
