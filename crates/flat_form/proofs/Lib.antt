@@ -6,8 +6,8 @@ pub mod StrayLists
 pub mod Totals
 pub mod MostLaws
 pub mod Gathered
-pub mod Without
-pub mod CalmLaws
+pub mod Cleared
+pub mod Calm
 pub mod Renumbered
 pub mod Numbered
 pub mod Tested

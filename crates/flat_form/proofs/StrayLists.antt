@@ -1,26 +1,11 @@
--- A list without stray case labels, from one place on.
-use Rattle.std.proofs.Common.{◌≡◌, ℕ, ◌+◌, ◌<◌, ◌≤◌, Bool, true, false, not, List, [], ◌∷◌, ◌++◌, Option, length, drop, get_or, refl, sym, ap, ◌∙◌}
+-- A body in which no case label is stray.
+use Rattle.std.proofs.Common.{◌≡◌, ℕ, Bool, true, false, not, List, [], ◌∷◌, ◌++◌, Option, refl, sym, ap, ◌∙◌}
 use Rattle.std.specs.Prelude.{IfOk, Result, Ok, Err}
-use Rattle.c_tree.specs.declared.tree.Item.{Item}
 use Rattle.c_tree.specs.ExpressionTrees.{ExpressionTree}
 use Rattle.c_tree.specs.TextItems.{is_empty}
-use Rattle.c_tree.specs.Trees.{Tree, Forest, Nil, Then, If, While, Do, For, Block, Arrival, trees_of, join}
-use Rattle.c_tree.proofs.TreeLaws.{join-nil}
+use Rattle.c_tree.specs.Trees.{Tree, Forest, Nil, Then, If, While, Do, For, Block, Arrival, join}
 use Rattle.flat_laws.specs.Parts.{arrivals, arrivals_in}
-use Rattle.flat_items.proofs.Joining.{joined}
 use Rattle.c_resolved_laws.specs.Counts.{without_strays, without_stray, bound_counts, flat_counts}
-use Rattle.c_tree.specs.Views.{tree_at}
-use Rattle.c_tree.proofs.Views.{trees-at, trees-end}
-
-pub strays_step : (xs : List Item) (i : ℕ) (x : Item) → i < length xs → x ≡ get_or xs i x → (out new all : Forest) → new ≡ join out (without_stray (tree_at x)) → join out (without_strays (trees_of (drop i xs))) ≡ all → join new (without_strays (trees_of (drop (i + 1) xs))) ≡ all
-strays_step xs i x l e out new all n inv =
-    let rest = without_strays (trees_of (drop (i + 1) xs)) in
-    ap (λ z. join z rest) n ∙ joined out (without_stray (tree_at x)) rest ∙ sym (ap (λ a. join out (without_strays a)) (trees-at xs i x l e)) ∙ inv
-
-pub strays_end : (xs : List Item) (i : ℕ) → length xs ≤ i → (out all : Forest) → join out (without_strays (trees_of (drop i xs))) ≡ all → out ≡ all
-strays_end xs i l out all inv = sym (join-nil out) ∙ sym (ap (λ a. join out (without_strays a)) (trees-end xs i l)) ∙ inv
-
--- ---- where none is stray
 
 empty_left : (xs ys : List (Option ExpressionTree)) → is_empty (xs ++ ys) ≡ true → is_empty xs ≡ true
 empty_left [] ys h = refl

@@ -1,5 +1,5 @@
 -- Of the numbers of cases those that are there are tested.
-use Rattle.std.proofs.Common.{◌≡◌, ℕ, ◌+◌, cond, is_some, List, [], ◌∷◌, map, refl, ap}
+use Rattle.std.proofs.Common.{◌≡◌, ◌+◌, cond, is_some, List, [], ◌∷◌, map, refl, ap}
 use Rattle.c_types.specs.declared.kinds.IntKind.{IntKind}
 use Rattle.c_tree.specs.Cases.{case_number}
 use Rattle.c_tree.specs.ExpressionTrees.{ExpressionTree}

@@ -1,5 +1,5 @@
 pub mod Places
 pub mod Codes
-pub mod Calm
+pub mod Cleared
 pub mod Flattened
 pub mod Given

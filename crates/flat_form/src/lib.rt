@@ -2,7 +2,7 @@
 #![tactic(auto)]
 
 mod bodies;
-mod calm;
+mod clearing;
 mod counting;
 mod exits;
 mod flat_bodies_labels;
@@ -16,7 +16,6 @@ mod places;
 mod renumbering;
 mod strays;
 mod sums;
-mod unlabelling;
 
 pub use bodies::{FlatBody, flat_body};
 pub use counting::{flat_counts, gotos_in};

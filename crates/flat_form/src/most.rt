@@ -9,6 +9,7 @@ ghost use Rattle.flat_laws.specs.Parts.{has_jumps as jumps};
 ghost use Rattle.c_resolved_laws.specs.Bounds.{entries, most_gotos, most_labels};
 ghost use Rattle.c_resolved_laws.specs.Counts.{section_ends, flat_counts as the_flat_counts};
 
+use crate::sums::{add as add_to, one_if};
 use c_tree::{Item, Section};
 use c_types::{List, Memory};
 use flat_questions::has_jumps;
@@ -20,22 +21,12 @@ struct Most {
     labels: u64,
 }
 
-fn more(count: u64, by: u64) -> Result<u64, Memory>
-    ensures { IfOk result (λ it. it ≡ count + by) }
-{
-    match count.checked_add(by) {
-        Some(sum) => Ok(sum),
-        None => Err(Memory),
-    }
-}
-
 fn add(most: &mut Most, gotos: u64, labels: u64) -> Result<(), Memory>
     ensures gotos { OnOk result (most.new.gotos ≡ most.old.gotos + gotos) }
     ensures labels { OnOk result (most.new.labels ≡ most.old.labels + labels) }
 {
-    most.gotos = more(most.gotos, gotos)?;
-    most.labels = more(most.labels, labels)?;
-    Ok(())
+    add_to(&mut most.gotos, gotos)?;
+    add_to(&mut most.labels, labels)
 }
 
 #[cycle(most)]
@@ -108,12 +99,6 @@ fn add_sections(sections: &[Section], most: &mut Most) -> Result<(), Memory>
         add_list(&section.list, most)?;
     }
     Ok(())
-}
-
-fn one_if(test: bool) -> u64
-    ensures { result ≡ cond test 1 0 }
-{
-    if test { 1 } else { 0 }
 }
 
 /// Adds the labels of a section itself and its end.

@@ -1,4 +1,4 @@
-use Rattle.std.proofs.Common.{◌+◌, ap, arith}
+use Rattle.std.proofs.Common.{ap, arith}
 use Rattle.c_tree.specs.Exits.{breaks}
 use Rattle.c_tree.proofs.Views.{trees-at, trees-end}
 use Rattle.flat_form.proofs.exits.+breaking.Goals as goal

@@ -1,12 +1,7 @@
-use Rattle.std.proofs.Common.{ℕ, List, sym, subst, ◌∙◌}
-use Rattle.flat_form.specs.Flattened.{IsFlattenedBeside}
-use Rattle.flat_form.proofs.CalmLaws.{calm_flattened}
+use Rattle.flat_form.proofs.Calm.{flat_flattened}
 use Rattle.flat_form.proofs.forms.flatten_function.Goals as goal
 
-pub returns-then-is_calm-clause-ok : goal.returns-then-is_calm-clause-ok
-returns-then-is_calm-clause-ok c =
+pub returns-in-Some-clause-ok : goal.returns-in-Some-clause-ok
+returns-in-Some-clause-ok c =
     let n = c.args.names.now in
-    let f = c.args.function.now in
-    let none = c.replace.ensures.after ∙ c.new.ensures in
-    subst (λ (ls : List (List ℕ)). IsFlattenedBeside n.used.file n.taken.file f (record f { labels = ls })) (sym none)
-    (calm_flattened n.used.file n.taken.file f (sym c.is_calm.ensures ∙ c.if-is_calm.true))
+    flat_flattened n.used.file n.taken.file c.args.function.now c.make_flat.new.function _ c.in-Some.made c.in-Some.is c.in_ok-made.ensures.some c.make_flat.ensures

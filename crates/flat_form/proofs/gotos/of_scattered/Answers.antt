@@ -1,4 +1,4 @@
-use Rattle.std.proofs.Common.{◌+◌, ap, ◌∙◌, arith}
+use Rattle.std.proofs.Common.{ap, ◌∙◌, arith}
 use Rattle.c_tree.specs.Trees.{sections_of}
 use Rattle.flat_laws.specs.Parts.{switch_labels, cases_among}
 use Rattle.flat_form.specs.Given.{some_in}
