@@ -1,5 +1,5 @@
 -- What is written for each kind of item is what the definition has for it.
-use Rattle.std.proofs.Common.{◌≡◌, ℕ, ◌+◌, ◌*◌, Option, Some, None, refl, sym, ap, ◌∙◌}
+use Rattle.std.proofs.Common.{◌≡◌, ℕ, ◌+◌, ◌*◌, Bool, true, Option, Some, None, refl, sym, ap, ◌∙◌}
 use Rattle.std.proofs.Math.Path.{fun_ext}
 use Rattle.c_types.specs.declared.kinds.IntKind.{IntKind}
 use Rattle.c_tree.specs.Cases.{case_number, selector_source}
@@ -9,14 +9,15 @@ use Rattle.c_tree.specs.ExpressionTrees.{ExpressionTree}
 use Rattle.c_tree.specs.TestTrees.{TestTree, Source, SelectorTree}
 use Rattle.c_tree.specs.Trees.{Tree, Forest, Nil, Then, Sections, Evaluate, If, While, Do, For, Switch, Goto, Mark, join}
 use Rattle.jump_meaning.specs.Step.{switch_kind}
-use Rattle.flat_looser_laws.specs.Pieces.{Aim, mark_of, third_items, assign_number, tests_among}
-use Rattle.flat_looser_laws.specs.Loose.{Arrivals, NoArrival}
+use Rattle.flat_looser_laws.specs.Pieces.{Aim, Names, mark_of, third_items, assign_number, tests_among}
+use Rattle.flat_looser_laws.specs.Loose.{Arrivals, NoArrival, Arrives}
 use Rattle.flat_laws.specs.Parts.{Here}
 use Rattle.flat_laws.specs.FlatForm.{names_of}
 use Rattle.lower_laws.specs.Straight.{jump_if}
 use Rattle.lower_laws.specs.Lowered.{Layout, past, inside, jump_of, lowered, lowered_if, lowered_for, for_aim, continue_aim, break_aim, lowered_item, lowered_among}
 use Rattle.flat_items.proofs.Joining.{joined}
 use Rattle.flat_items.proofs.Tests.{tests_are}
+use Rattle.flat_items.specs.Plans.{arrivals_if}
 use Rattle.lower_items.specs.declared.plans.Plan as L
 use Rattle.lower_items.specs.declared.plans.Cases as C
 use Rattle.lower_items.specs.declared.plans.Labels.{Labels}
@@ -44,6 +45,11 @@ frame_equal a b c d e = cc
 pub parts_joined : (out m l e one_out two_out last : Forest) → one_out ≡ join out m → two_out ≡ join one_out l → last ≡ join two_out e → last ≡ join out (join m (join l e))
 parts_joined out m l e one_out two_out last e1 e2 e3 =
     e3 ∙ ap (λ z. join z e) (e2 ∙ ap (λ z. join z l) e1) ∙ joined (join out m) l e ∙ joined out m (join l e)
+
+-- a list whose Arrivals are bound to a switch
+pub bound_is : (p : Layout) (h : Here) (b c : Aim) (names : Names) (a out last : Forest) (bound : Bool) → bound ≡ true → last ≡ join out (lowered p h b c (arrivals_if bound names) a)
+    → last ≡ join out (lowered p h b c (Arrives names) a)
+bound_is p h b c names a out last bound e f = f ∙ ap (λ z. join out (lowered p h b c (arrivals_if z names) a)) e
 
 -- ---- loops
 

@@ -23,7 +23,7 @@ use Rattle.lower_items.specs.Choices.{AreCases, breaks_of, choice_form}
 use Rattle.lower_items.specs.Forms.{past_among}
 use Rattle.lower_items.specs.Pieces.{pieces_of, written}
 use Rattle.lower_items.proofs.Steps.{still, past_If, past_While, past_Do, past_For, past_Block, past_Switch, place_step, place_end, walk_step, walk_end, place_step_in, place_end_in, parts_step, parts_end, past_jump}
-use Rattle.lower_items.proofs.Shapes.{then_joined, both_lists, both_joined, parts_joined, while_is, do_is, for_item, if_is, jump_is, switch_is}
+use Rattle.lower_items.proofs.Shapes.{bound_is, then_joined, both_lists, both_joined, parts_joined, while_is, do_is, for_item, if_is, jump_is, switch_is}
 use Rattle.lower_items.proofs.Arms.{simple_item}
 use Rattle.lower_items.proofs.Hanging.{behind}
 use Rattle.lower_items.proofs.Moving.{emptied}
@@ -225,7 +225,7 @@ write_section-returns-clause-items t c =
     let x = out-Section c.args.section in
     parts_joined (written out) (case_marks ns (expression_trees x.cases) x.default) (lowered p h b d (Arrives ns) (trees_of x.list)) (end_goto x.ends b) _ _ _
     (behind (pieces_of out.pieces) _ _ _ (c.in_ok-add_case_marks.ensures ∙ ap (λ z. join (trees_of out.last) (case_marks ns (expression_trees z) x.default)) c.as_slice.ensures.value))
-    (c.in_ok-after.ensures.items ∙ ap (λ y. join (join (pieces_of out.pieces) (trees_of c.add_case_marks.new.out)) (lowered p h b d (arrivals_if y ns) (trees_of x.list))) c.requires)
+    (bound_is p h b d ns (trees_of x.list) _ _ _ c.requires c.in_ok-after.ensures.items)
     (behind (pieces_of c.write_list.new.out.pieces) _ _ _ c.in_ok-add_end.ensures)
 
 pub write_item-returns-in-While-clause-place : goal.write_item-returns-in-While-clause-place
