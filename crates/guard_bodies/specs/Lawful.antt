@@ -1,5 +1,5 @@
 -- Simplifications that may be made in any order.
-use Rattle.std.specs.Prelude.{◌≡◌, ℕ, List, Some, slice_get}
+use Rattle.std.specs.Prelude.{◌≡◌, ℕ, List, Option, Some, slice_get}
 use Rattle.std.specs.Option.{option_and_then}
 use Rattle.c_tree.specs.declared.tree.Item.{Item}
 use Rattle.c_tree.specs.declared.tree.Function.{Function}
@@ -11,9 +11,14 @@ use Rattle.report_moves.specs.declared.moves.Move.{Move}
 use Rattle.report_moves.specs.declared.moves.MoveKind.{MoveKind}
 use Rattle.report_moves.specs.declared.moves.MoveKind.TheVariants.{Z5}
 use Rattle.guard_simplify.specs.declared.choice.Choice.{Choice}
-use Rattle.guard_simplify.specs.Choice.{Among, choices}
+use Rattle.guard_simplify.specs.Choice.{Among, choices, has, barred}
+use Rattle.guard_simplify.specs.Own.{own_of}
 use Rattle.guard_simplify.specs.Application.{IsApplied}
 use Rattle.guard_bodies.specs.Places.{places_from}
+
+-- the labels tell which simplifications of the kind apply, as those whose guards can't go do
+abbrev pub AreBarredFor : MoveKind → List ℕ → List Item → Type 0
+AreBarredFor kind labels body = (i : ℕ) (x : Item) (next : Option Item) → own_of kind (λ l. has l labels) i x next ≡ own_of kind (λ l. barred l (trees_of body)) i x next
 
 -- the one of a kind at a place of a body
 pub record IsAt (kind : MoveKind) (at : Path) (body : List Item) (c : Choice) : Type 0 where

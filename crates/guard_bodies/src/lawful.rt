@@ -3,7 +3,7 @@
 ghost use Rattle.std.specs.Prelude.{◌≡◌, ◌↔◌, IfOk, IfSome, IfNone, IsTrue, slice_get};
 ghost use Rattle.std.specs.Option.{option_and_then};
 ghost use Rattle.guard_simplify.specs.declared.choice.Choice.{Choice as TheChoice};
-ghost use Rattle.guard_bodies.specs.Lawful.{IsAt, IsNowhere, MayCome, IsNamed};
+ghost use Rattle.guard_bodies.specs.Lawful.{AreBarredFor, IsAt, IsNowhere, MayCome, IsNamed};
 
 use crate::guard_places::first_place;
 use c_tree::{Item, Path, find_list};
@@ -12,6 +12,16 @@ use guard_simplify::{Choice, barred_labels, item_at, own_of_kind};
 use label_offsets::{Rule, relation};
 use report_moves::{Move, MoveKind};
 use std::alloc::Global;
+
+/// The labels whose guards can't go, as far as a kind asks for them.
+fn barred_for(alloc: Global, body: &List<Item>, kind: MoveKind) -> Result<List<u32>, Memory>
+    ensures { IfOk result (λ ls. AreBarredFor kind ls body.now) }
+{
+    match kind {
+        MoveKind::Z5 => barred_labels(alloc, body),
+        _ => Ok(List::new(alloc)),
+    }
+}
 
 /// The simplification of a kind at a place of a body, if it applies there.
 pub fn choice_at(
@@ -23,7 +33,7 @@ pub fn choice_at(
     ensures some { IfOk result (λ r. IfSome r (λ c. IsAt kind at.now body.now c)) }
     ensures none { IfOk result (λ r. IfNone r (IsNowhere kind at.now body.now)) }
 {
-    let barred = barred_labels(alloc, body)?;
+    let barred = barred_for(alloc, body, kind)?;
     let Some(list) = find_list(body, at.steps.as_slice()) else {
         return Ok(None);
     };
