@@ -1,5 +1,5 @@
 -- Items at the front of a body that stand before both a Leap and its Land: no move of the Leap touches them.
-use Rattle.std.proofs.Common.{◌≡◌, ℕ, zero, suc, ◌+◌, ◌<◌, ◌≤◌, ℤ, List, [], ◌∷◌, ◌++◌, Option, Some, None, Bool, true, false, cond, nat_lt, length, take, drop, slice_get, slice_set, slice_range, refl, sym, ap, subst, ◌∙◌, append_assoc, arith}
+use Rattle.std.proofs.Common.{◌≡◌, ℕ, zero, suc, ◌+◌, ◌<◌, ◌≤◌, ℤ, List, [], ◌∷◌, ◌++◌, Option, Some, None, Bool, true, false, cond, nat_lt, take, drop, slice_get, slice_set, slice_range, refl, sym, ap, subst, ◌∙◌, append_assoc, arith}
 use Rattle.std.specs.Option.{option_map_or}
 use Rattle.c_tree.specs.declared.tree.Item.{Item, Leap, Land, Do}
 use Rattle.c_tree.specs.declared.tree.Test.{On}
@@ -7,10 +7,10 @@ use Rattle.c_tree.specs.declared.tree.Branch.{Branch}
 use Rattle.c_tree.specs.declared.tree.Path.{Path}
 use Rattle.c_tree.specs.declared.tree.Step.{Step}
 use Rattle.c_tree.specs.Paths.{child, with_child, put_at, item_at}
-use Rattle.c_tree.specs.Join.{Holds, guarded, joined_after, joined_before, joined, joined_at, Joins}
-use Rattle.c_tree.specs.Lift.{lifted_at, path_lifted, Lifts}
-use Rattle.c_tree.specs.Inward.{entered, moved_in, moved_in_at, path_inside, MovesIn}
-use Rattle.c_tree.specs.Outward.{left, moved_out, moved_out_at, path_outside}
+use Rattle.c_tree.specs.Join.{guarded, joined_after, joined_before, Joins}
+use Rattle.c_tree.specs.Lift.{Lifts}
+use Rattle.c_tree.specs.Inward.{entered, MovesIn}
+use Rattle.c_tree.specs.Outward.{left, moved_out_at, path_outside}
 use Rattle.c_tree.specs.Labels.{lands, lands_inside}
 use Rattle.c_tree.specs.Trees.{tree_of, trees_of}
 use Rattle.c_tree.specs.WellMade.{IsWellMade}
@@ -24,7 +24,7 @@ use Rattle.label_offsets.proofs.ChoiceLaws.{one_land}
 use Rattle.report_moves.specs.declared.moves.MoveKind.{MoveKind}
 use Rattle.report_moves.specs.declared.moves.MoveKind.TheVariants.{Out, Lift, Inward}
 use Rattle.move_order_laws.specs.declared.kept.Kept.{Kept}
-use Rattle.move_order_laws.specs.Next.{Point, GoesOut, IsLifted, GoesIn, IsJoined, MovesBy}
+use Rattle.move_order_laws.specs.Next.{Point, MovesBy}
 use Rattle.move_order_laws.specs.Derivations.{Eliminates, joins, moves}
 use Rattle.move_bodies.specs.Moving.{IsUnderway}
 use Rattle.move_bodies.proofs.Applied.{leap_at}

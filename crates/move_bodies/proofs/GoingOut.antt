@@ -1,6 +1,6 @@
 -- A Leap goes out as long as the place of its Land, when it was chosen, says so.
 use Rattle.std.proofs.Common.{◌≡◌, ℕ, ◌<◌, List, [], ◌∷◌, ◌++◌, true, false, Some, option_and_then, slice_get, refl, sym, ap, ◌∙◌, append_assoc, arith}
-use Rattle.std.proofs.lemmas.List.{append-nil, length-append}
+use Rattle.std.proofs.lemmas.List.{append-nil}
 use Rattle.std.proofs.lemmas.Bool.{true≢false}
 use Rattle.c_tree.specs.declared.tree.Item.{Item, Leap, Land}
 use Rattle.c_tree.specs.declared.tree.Path.{Path}
