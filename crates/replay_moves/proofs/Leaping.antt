@@ -1,5 +1,5 @@
 -- Leaps that are left, and one move of a Leap.
-use Rattle.std.proofs.Common.{◌≡◌, inl, inr, ℕ, ◌<◌, true, true≢false, List, Option, Some, None, is_some, IsTrue, IsFalse, option_and_then, slice_get, sym, ap, subst, ◌∙◌, arith}
+use Rattle.std.proofs.Common.{◌≡◌, inl, inr, ℕ, ◌+◌, ◌<◌, true, true≢false, cond, List, [], ◌∷◌, Option, Some, None, is_some, IsTrue, IsFalse, option_and_then, slice_get, sym, ap, subst, ◌∙◌, arith}
 use Rattle.c_tree.specs.declared.tree.Item.{Item, Leap, roll-Item, roll-out-Item}
 use Rattle.c_tree.specs.declared.tree.Item.TheVariants.{rolls-Leap}
 use Rattle.c_tree.specs.declared.tree.Function.{Function}
@@ -18,15 +18,17 @@ use Rattle.label_offsets.proofs.MarkLaws.{leap_of_label}
 use Rattle.report_moves.specs.declared.moves.Move.{Move}
 use Rattle.report_moves.specs.declared.moves.MoveKind.{MoveKind}
 use Rattle.move_order_laws.specs.Leaps.{leaps}
+use Rattle.move_order_laws.specs.MoveFunctionCounts.{joined}
 use Rattle.move_order_laws.specs.Next.{Point}
 use Rattle.move_order_laws.proofs.NoLeaps.{no_leaps}
 use Rattle.move_order_laws.proofs.OneDerivation.{leap_there}
 use Rattle.move_order_laws.proofs.OneMove.{one_move, join_alone}
 use Rattle.move_bodies.specs.Moving.{MovesTo, IsMove}
-use Rattle.guard_bodies.specs.Lawful.{IsLawfulMove}
+use Rattle.guard_bodies.specs.Lawful.{IsLawfulMove, IsMade}
 use Rattle.whole_laws.proofs.Flattened.{body_is}
-use Rattle.replay_laws.specs.Lawful.{IsLeapMoved, IsMovedBy}
-use Rattle.replay_laws.specs.Replayed.{IsTopWellMade}
+use Rattle.replay_laws.specs.Lawful.{IsLeapMoved, IsMovedBy, this_function, none, more}
+use Rattle.replay_laws.specs.Replayed.{IsTopWellMade, top_leaps}
+use Rattle.replay_laws.proofs.Whole.{lawful_laws}
 use Rattle.replay_laws.proofs.OneBody.{leap_some, same_label, moved_leap}
 
 -- ---- Leaps
@@ -92,3 +94,15 @@ no_simplification m f z n g k = elim k.made [
       absurd (omega (arith, p, z, b))
   | inr s ↦ n (record { body = k.body; body_is = k.body_is; lawful = record { choice = s.made.choice; function = s.made.function; named = s.made.named } })
 ]
+
+-- no Leap comes back by a simplification
+pub stays_leapless : (m : Move) (f g : Function) → f.flat ≡ true → f.name ≡ m.function → leaps (body_of f) ≡ 0 → IsMade f g m → leaps (body_of g) ≡ 0
+stays_leapless m f g e n z k =
+    let b = ap leaps (body_is f k.body k.body_is) in
+    let empty : leaps (trees_of k.body) ≡ 0 = omega (arith, b, z) in
+    let h : IsMovedBy m f g = record { body = k.body; new = k.new; flat = e; name = n; body_is = k.body_is; made = inr (record { leapless = empty; made = k.made }); result = k.result } in
+    let old : top_leaps (T.Function f) ≡ leaps (body_of f) = ap (λ z. cond z (leaps (body_of f)) 0) e in
+    let flat : g.flat ≡ true = ap (λ (z : Function). z.flat) k.result ∙ e in
+    let new : top_leaps (T.Function g) ≡ leaps (body_of g) = ap (λ z. cond z (leaps (body_of g)) 0) flat in
+    let j : joined (m ∷ []) + (0 + top_leaps (T.Function g)) ≡ 0 + top_leaps (T.Function f) = lawful_laws.joins (T.Function f ∷ []) (T.Function g ∷ []) (m ∷ []) (more (this_function [] h) none) in
+    omega (arith, old, new, j, z)

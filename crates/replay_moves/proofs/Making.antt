@@ -1,16 +1,19 @@
 -- Moves in the functions of a program, one place after another.
-use Rattle.std.proofs.Common.{◌≡◌, ℕ, zero, suc, ◌+◌, ◌<◌, ◌≤◌, List, [], ◌∷◌, ◌++◌, map, Some, All, slice_get, slice_set, get_or, take, drop, length, refl, sym, ap, subst, ◌∙◌, arith}
+use Rattle.std.proofs.Common.{◌≡◌, ℕ, zero, suc, ◌+◌, ◌<◌, ◌≤◌, List, [], ◌∷◌, ◌++◌, map, Option, Some, None, IfSome, All, slice_get, slice_set, get_or, take, drop, length, refl, sym, ap, subst, ◌∙◌, arith}
 use Rattle.std.proofs.lemmas.List.Elements.{All-head, All-tail}
+use Rattle.c_tree.specs.InRange.{body_of}
+use Rattle.c_tree.specs.declared.tree.Function.{Function}
 use Rattle.c_tree.specs.declared.tree.Top.{Top}
 use Rattle.c_tree.specs.declared.tree.Top.TheVariants as T
 use Rattle.c_tree.proofs.MoveLemmas.{some_same}
+use Rattle.move_order_laws.specs.Leaps.{leaps}
 use Rattle.report_moves.specs.declared.moves.Move.{Move}
 use Rattle.replay_laws.specs.Lawful as L
 use Rattle.replay_laws.specs.Lawful.{IsOther, IsMovedBy, OneMoved, Moves, none, more}
-use Rattle.replay_laws.specs.Replayed.{IsTopWellMade}
+use Rattle.replay_laws.specs.Replayed.{IsTopWellMade, IsTopLeapless}
 use Rattle.replay_laws.proofs.Rewriting.{moves_both}
 use Rattle.replay_laws.proofs.Whole.{lawful_laws}
-use Rattle.replay_moves.specs.Steps.{IsFlatOf, IsPlaceOf, IsTopMoved}
+use Rattle.replay_moves.specs.Steps.{IsFlatOf, IsLeaplessAt, IsPlaceOf, IsTopMoved}
 
 -- ---- lists
 
@@ -87,6 +90,24 @@ pub not_at : (m : Move) (ts slice us : List Top) (i : ℕ) (t : Top) → slice �
 not_at m ts slice us i t e p g n h =
     let same : p.top ≡ t = some_same (sym p.there ∙ ap (λ z. slice_get z i) e ∙ g) in
     not_there m ts us i t g (subst (IsFlatOf m.function) same p.flat) (subst (λ z. All (IsOther m.function) (take i z)) e p.before) n h
+
+-- ---- a function in which no Leap is left
+
+set_there : {A : Type 0} (xs : List A) (i : ℕ) (x y z : A) → slice_get xs i ≡ Some x → slice_get (slice_set xs i y) i ≡ Some z → y ≡ z
+set_there [] i x y z e f = cc
+set_there (w ∷ xs) zero x y z e f = some_same f
+set_there (w ∷ xs) (suc i) x y z e f = set_there xs i x y z e f
+
+pub leapless_there : (o : Option ℕ) (ts : List Top) (i : ℕ) (t : Top) → IsLeaplessAt o ts → slice_get ts i ≡ Some t → o ≡ Some i → IsTopLeapless t
+leapless_there None ts i t h g e = cc
+leapless_there (Some k) ts i t h g e = h t (ap (slice_get ts) (some_same e) ∙ g)
+
+pub leapless_set : (o : Option ℕ) (ts : List Top) (i : ℕ) (t u : Top) → slice_get ts i ≡ Some t → IfSome o (λ k. (k ≡ i) × IsTopLeapless u) → IsLeaplessAt o (slice_set ts i u)
+leapless_set None ts i t u g h = tt
+leapless_set (Some k) ts i t u g h = λ v e. subst IsTopLeapless (set_there ts i t u v g (ap (slice_get (slice_set ts i u)) (sym h.0) ∙ e)) h.1
+
+pub flat_leapless : (name : List ℕ) (t : Top) (f : Function) → IsTopLeapless t → IsFlatOf name t → t ≡ T.Function f → leaps (body_of f) ≡ 0
+flat_leapless name t f h w e = let g = subst IsTopLeapless e h in g (subst (IsFlatOf name) e w).0
 
 -- ---- many
 

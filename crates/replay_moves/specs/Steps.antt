@@ -1,9 +1,10 @@
 -- Where a list of moves stops.
-use Rattle.std.specs.Prelude.{◌≡◌, ◌<◌, ℕ, true, List, Some, slice_get, take, length, All}
+use Rattle.std.specs.Prelude.{◌≡◌, ◌<◌, ℕ, true, List, Option, Some, None, slice_get, take, length, All}
 use Rattle.c_tree.specs.declared.tree.Top.{Top}
 use Rattle.c_tree.specs.declared.tree.Top.TheVariants as T
 use Rattle.report_moves.specs.declared.moves.Move.{Move}
 use Rattle.replay_laws.specs.Lawful.{IsMovedBy, IsOther, IsLawful, Moves}
+use Rattle.replay_laws.specs.Replayed.{IsTopLeapless}
 
 -- it is a flat function of the name
 abbrev pub IsFlatOf : List ℕ → Top → Type 0
@@ -22,6 +23,11 @@ pub record IsPlaceOf (name : List ℕ) (ts : List Top) (i : ℕ) : Type 0 where
   pub there : slice_get ts i ≡ Some top
   pub flat : IsFlatOf name top
   pub before : All (IsOther name) (take i ts)
+
+-- in the function at the place, if there is one, no Leap is left
+abbrev pub IsLeaplessAt : Option ℕ → List Top → Type 0
+IsLeaplessAt None ts = Unit {0}
+IsLeaplessAt (Some i) ts = (t : Top) → slice_get ts i ≡ Some t → IsTopLeapless t
 
 -- the first n moves are lawful, and the next one isn't, where they have led
 pub record StopsAt (n : ℕ) (ms : List Move) (ts : List Top) : Type 0 where

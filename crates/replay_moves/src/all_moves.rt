@@ -1,13 +1,13 @@
 //! Moves of a report, in the functions of a program.
 
-ghost use Rattle.std.specs.Prelude.{◌≡◌, IfOk, IfSome, IfNone, List, MatchOption, IsTrue, IsFalse, OnOk, All, true};
+ghost use Rattle.std.specs.Prelude.{◌≡◌, IfOk, IfSome, IfNone, List, MatchOption, Some, IsTrue, IsFalse, OnOk, All, true};
 ghost use Rattle.c_tree.specs.declared.tree.Top.{Top as TheTop};
 ghost use Rattle.replay_laws.specs.Lawful.{IsOther, IsMovedBy, OneMoved, Moves};
 ghost use Rattle.replay_laws.specs.Replayed.{converted_top, converted_tops, IsTopWellMade, IsTopLeapless};
 ghost use Rattle.replay_places.specs.Places.{Finds};
-ghost use Rattle.replay_moves.specs.Steps.{IsFlatOf, IsPlaceOf, StopsAt, IsTopMoved};
+ghost use Rattle.replay_moves.specs.Steps.{IsFlatOf, IsLeaplessAt, IsPlaceOf, StopsAt, IsTopMoved};
 
-use crate::one_move::{has_leap_left, move_in};
+use crate::one_move::{Known, has_leap_left, move_in};
 use c_tree::Top;
 use c_types::{List, Memory, Name};
 use guard_vars::convert;
@@ -52,14 +52,22 @@ fn place_of(places: &Places, name: &Name) -> Option<usize>
     }
 }
 
-fn move_top(alloc: Global, top: &mut Top, step: &Move) -> Result<bool, Memory>
+fn move_top(
+    alloc: Global,
+    top: &mut Top,
+    at: usize,
+    step: &Move,
+    known: &mut Known,
+) -> Result<bool, Memory>
     requires made { IsTopWellMade top.old }
     requires flat { IsFlatOf step.now.function top.old }
+    requires leapless { known.old.leapless ≡ Some at → IsTopLeapless top.old }
     ensures yes { IfOk result (λ b. IsTrue b → IsTopMoved step.now top.old top.new) }
     ensures no { IfOk result (λ b. IsFalse b → (u : TheTop) → ¬ (IsTopMoved step.now top.old u)) }
+    ensures leapless { IfOk result (λ b. IsTrue b → IfSome known.new.leapless (λ k. (k ≡ at) × IsTopLeapless top.new)) }
 {
     match top {
-        Top::Function(function) => move_in(alloc, function, step),
+        Top::Function(function) => move_in(alloc, function, at, step, known),
         _ => unreachable!(),
     }
 }
@@ -70,14 +78,17 @@ fn make_move(
     places: &Places,
     tops: &mut List<Top>,
     step: &Move,
+    known: &mut Known,
 ) -> Result<bool, Memory>
     requires made { All IsTopWellMade tops.old }
     requires places { Finds places.now tops.old }
+    requires leapless { IsLeaplessAt known.old.leapless tops.old }
     ensures yes { IfOk result (λ b. IsTrue b → OneMoved step.now tops.old tops.new) }
     ensures no { IfOk result (λ b. IsFalse b → (us : List TheTop) → ¬ (OneMoved step.now tops.old us)) }
+    ensures leapless { IfOk result (λ b. IsTrue b → IsLeaplessAt known.new.leapless tops.new) }
 {
     match place_of(places, &step.function) {
-        Some(i) => move_top(alloc, tops.at_mut(i), step),
+        Some(i) => move_top(alloc, tops.at_mut(i), i, step, known),
         None => Ok(false),
     }
 }
@@ -94,8 +105,12 @@ pub fn make_moves(
     ensures stopped { IfOk result (λ r. IfSome r (λ n. StopsAt n moves.now tops.old)) }
 {
     let places = Places::new(alloc, tops.as_slice())?;
+    let mut known = Known {
+        land: None,
+        leapless: None,
+    };
     for i in 0..moves.len() {
-        if !make_move(alloc, &places, tops, &moves[i])? {
+        if !make_move(alloc, &places, tops, &moves[i], &mut known)? {
             return Ok(Some(i));
         }
     }

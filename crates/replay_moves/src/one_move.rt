@@ -1,6 +1,6 @@
 //! One move of a report, in a function.
 
-ghost use Rattle.std.specs.Prelude.{◌≡◌, ◌<◌, ◌↔◌, IfOk, IsTrue, IsFalse, true, slice_get, length};
+ghost use Rattle.std.specs.Prelude.{◌≡◌, ◌<◌, ◌↔◌, IfOk, IfSome, IsTrue, IsFalse, Some, true, slice_get, length};
 ghost use Rattle.c_tree.specs.declared.tree.Function.{Function as TheFunction};
 ghost use Rattle.c_tree.specs.declared.tree.Item.{Item as TheItem};
 ghost use Rattle.c_tree.specs.InRange.{body_of};
@@ -14,7 +14,7 @@ use c_tree::{Function, Item, Path, Top};
 use c_types::{List, Memory, Name};
 use guard_bodies::apply_one;
 use label_offsets::{first_leap, label_at};
-use move_bodies::{Moved, move_once};
+use move_bodies::{Moved, move_near};
 use report_moves::{Move, MoveKind};
 use std::alloc::Global;
 use std::mem;
@@ -70,12 +70,13 @@ fn same_kind(a: MoveKind, b: MoveKind) -> bool
 }
 
 /// Moves a Leap in a well made body as the move says, if that is lawful. After another answer the body is
-/// given up.
+/// given up. `land` says where its Land should stand, and gets where it should stand then.
 fn move_leap(
     alloc: Global,
     labels: &List<Name>,
     body: &mut List<Item>,
     step: &Move,
+    land: &mut Option<Path>,
 ) -> Result<bool, Memory>
     requires { IsWellMade (trees_of body.old) }
     ensures yes { IfOk result (λ b. IsTrue b → IsLeapMoved labels.now step.now body.old body.new) }
@@ -87,12 +88,17 @@ fn move_leap(
     if !has_name(labels, label, &step.label) {
         return Ok(false);
     }
-    let Moved { kind, .. } = move_once(alloc, body, &step.path, label)?;
+    let Moved { kind, .. } = move_near(alloc, body, &step.path, label, land)?;
     Ok(same_kind(kind, step.kind))
 }
 
 /// The same in a function that has a Leap.
-fn move_leap_of(alloc: Global, function: &mut Function, step: &Move) -> Result<bool, Memory>
+fn move_leap_of(
+    alloc: Global,
+    function: &mut Function,
+    step: &Move,
+    land: &mut Option<Path>,
+) -> Result<bool, Memory>
     requires made { IsTopWellMade (Top.Function function.old) }
     requires flat { function.old.flat ≡ true }
     requires name { function.old.name ≡ step.now.function }
@@ -104,26 +110,74 @@ fn move_leap_of(alloc: Global, function: &mut Function, step: &Move) -> Result<b
         return Ok(false);
     };
     let mut body = body;
-    let done = move_leap(alloc, &function.labels, &mut body, step);
+    let done = move_leap(alloc, &function.labels, &mut body, step, land);
     drop(mem::replace(&mut function.body, Some(body)));
     done
 }
 
-/// Makes the move in a flat function of its name, if it is lawful there. After another answer the function
-/// is given up.
-pub fn move_in(alloc: Global, function: &mut Function, step: &Move) -> Result<bool, Memory>
+/// What is known of the next move from those before it.
+#[derive(Drop)]
+pub struct Known {
+    /// Where the Land of the last Leap should stand.
+    pub land: Option<Path>,
+    /// The place of a function in which no Leap is left.
+    pub leapless: Option<usize>,
+}
+
+fn is_place(place: Option<usize>, at: usize) -> bool
+    ensures { IsTrue result → place ≡ Some at }
+{
+    match place {
+        Some(other) => other == at,
+        None => false,
+    }
+}
+
+/// Whether a Leap is left in the flat function at the place. It is sought only where nothing tells.
+fn has_leap_now(
+    alloc: Global,
+    function: &Function,
+    at: usize,
+    path: &Path,
+    leapless: Option<usize>,
+) -> Result<bool, Memory>
+    requires made { IsTopWellMade (Top.Function function.now) }
+    requires flat { function.now.flat ≡ true }
+    requires leapless { leapless ≡ Some at → leaps (body_of function.now) ≡ 0 }
+    ensures yes { IfOk result (λ b. IsTrue b → 0 < leaps (body_of function.now)) }
+    ensures no { IfOk result (λ b. IsFalse b → leaps (body_of function.now) ≡ 0) }
+{
+    if leads_to_leap(function, path) {
+        return Ok(true);
+    }
+    if is_place(leapless, at) {
+        return Ok(false);
+    }
+    has_leap_left(alloc, function)
+}
+
+/// Makes the move in a flat function of its name, which stands at the place, if it is lawful there. After
+/// another answer the function is given up.
+pub fn move_in(
+    alloc: Global,
+    function: &mut Function,
+    at: usize,
+    step: &Move,
+    known: &mut Known,
+) -> Result<bool, Memory>
     requires made { IsTopWellMade (Top.Function function.old) }
     requires flat { function.old.flat ≡ true }
     requires name { function.old.name ≡ step.now.function }
+    requires leapless { known.old.leapless ≡ Some at → leaps (body_of function.old) ≡ 0 }
     ensures yes { IfOk result (λ b. IsTrue b → IsMovedBy step.now function.old function.new) }
     ensures no { IfOk result (λ b. IsFalse b → (g : TheFunction) → ¬ (IsMovedBy step.now function.old g)) }
+    ensures leapless { IfOk result (λ b. IsTrue b → IfSome known.new.leapless (λ k. (k ≡ at) × (leaps (body_of function.new) ≡ 0))) }
 {
-    if leads_to_leap(function, &step.path) {
-        return move_leap_of(alloc, function, step);
-    }
-    if has_leap_left(alloc, function)? {
-        move_leap_of(alloc, function, step)
+    if has_leap_now(alloc, function, at, &step.path, known.leapless)? {
+        known.leapless = None;
+        move_leap_of(alloc, function, step, &mut known.land)
     } else {
+        known.leapless = Some(at);
         apply_one(alloc, function, step)
     }
 }

@@ -1,5 +1,5 @@
 use Rattle.std.proofs.lemmas.Result.{IfOk-weaker}
-use Rattle.replay_moves.proofs.Making.{made_at, not_at, nowhere}
+use Rattle.replay_moves.proofs.Making.{made_at, not_at, nowhere, leapless_there, leapless_set}
 use Rattle.std.proofs.Common.{refl}
 use Rattle.replay_laws.specs.Replayed.{IsTopWellMade}
 use Rattle.replay_moves.proofs.Placing.{all_there, flat_there}
@@ -24,3 +24,10 @@ move_top-requires-clause-made c = all_there IsTopWellMade c.args.tops.now c.in-S
 
 pub move_top-requires-clause-flat : goal.move_top-requires-clause-flat
 move_top-requires-clause-flat c = flat_there c.args.step.now.function c.args.tops.now c.in-Some.i c.at_mut.result.now (c.in-Some.ensures c.args.tops.now c.requires.places) c.at_mut.ensures.value
+
+pub move_top-requires-clause-leapless : goal.move_top-requires-clause-leapless
+move_top-requires-clause-leapless c = leapless_there c.args.known.now.leapless c.args.tops.now c.in-Some.i c.at_mut.result.now c.requires.leapless c.at_mut.ensures.value
+
+pub returns-in-Some-clause-leapless : goal.returns-in-Some-clause-leapless
+returns-in-Some-clause-leapless c =
+    IfOk-weaker c.move_top.result _ _ (λ b h e. leapless_set c.move_top.new.known.leapless c.args.tops.now c.in-Some.i c.at_mut.result.now c.move_top.new.top c.at_mut.ensures.value (h e)) c.move_top.ensures.leapless

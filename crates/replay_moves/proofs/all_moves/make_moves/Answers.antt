@@ -6,7 +6,7 @@ use Rattle.replay_moves.proofs.Making.{got, one_more}
 use Rattle.replay_moves.proofs.all_moves.make_moves.Goals as goal
 
 pub loop-i-init : goal.loop-i-init
-loop-i-init c = (none, c.requires, subst (Finds c.in_ok-places.places) c.as_slice.ensures.value c.in_ok-places.ensures)
+loop-i-init c = (none, c.requires, subst (Finds c.in_ok-places.places) c.as_slice.ensures.value c.in_ok-places.ensures, tt)
 
 pub returns-then-not-branch-clause-stopped : goal.returns-then-not-branch-clause-stopped
 returns-then-not-branch-clause-stopped c = record {
@@ -22,4 +22,4 @@ loop-i-preserved c =
     let m = c.index-moves-i.result in
     let moved = c.in_ok-make_move.ensures.yes c.if-not-branch.false in
     let r = one_more c.args.tops.now c.loop-i.tops c.make_move.new.tops c.args.moves.now c.loop-i.i m (got c.args.moves.now c.loop-i.i m c.loop-i-test.true c.index-moves-i.is) (c.loop-i.invariant.0, c.loop-i.invariant.1) moved in
-    (r.0, r.1, finds_moved c.in_ok-places.places m c.loop-i.tops c.make_move.new.tops moved c.loop-i.invariant.2)
+    (r.0, r.1, finds_moved c.in_ok-places.places m c.loop-i.tops c.make_move.new.tops moved c.loop-i.invariant.2, c.in_ok-make_move.ensures.leapless c.if-not-branch.false)

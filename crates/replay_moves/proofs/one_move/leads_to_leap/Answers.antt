@@ -1,4 +1,4 @@
-use Rattle.std.proofs.Common.{sym, subst, IsTrue}
+use Rattle.std.proofs.Common.{subst, IsTrue}
 use Rattle.replay_moves.proofs.Leaping.{leap_at_path}
 use Rattle.replay_moves.proofs.one_move.leads_to_leap.Goals as goal
 

@@ -1,7 +1,12 @@
+use Rattle.std.proofs.Common.{refl}
 use Rattle.std.proofs.lemmas.Result.{IfOk-weaker}
-use Rattle.replay_moves.proofs.Leaping.{no_simplification}
+use Rattle.replay_moves.proofs.Leaping.{no_simplification, stays_leapless}
 use Rattle.replay_moves.proofs.one_move.move_in.Goals as goal
 
 pub returns-else-branch-clause-no : goal.returns-else-branch-clause-no
 returns-else-branch-clause-no c =
-    IfOk-weaker c.apply_one.result _ _ (λ b h e g k. no_simplification c.args.step.now c.args.function.now (c.in_ok-has_leap_left.ensures.no c.if-branch.false) (h e) g k) c.apply_one.ensures.no
+    IfOk-weaker c.apply_one.result _ _ (λ b h e g k. no_simplification c.args.step.now c.args.function.now (c.in_ok-has_leap_now.ensures.no c.if-branch.false) (h e) g k) c.apply_one.ensures.no
+
+pub returns-else-branch-clause-leapless : goal.returns-else-branch-clause-leapless
+returns-else-branch-clause-leapless c =
+    IfOk-weaker c.apply_one.result _ _ (λ b h e. (refl, stays_leapless c.args.step.now c.args.function.now c.apply_one.new.function c.requires.flat c.requires.name (c.in_ok-has_leap_now.ensures.no c.if-branch.false) (h e))) c.apply_one.ensures.yes
