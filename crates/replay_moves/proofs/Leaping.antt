@@ -26,7 +26,7 @@ use Rattle.move_order_laws.proofs.OneMove.{one_move, join_alone}
 use Rattle.move_bodies.specs.Moving.{MovesTo, IsMove}
 use Rattle.guard_bodies.specs.Lawful.{IsLawfulMove, IsMade}
 use Rattle.whole_laws.proofs.Flattened.{body_is}
-use Rattle.replay_laws.specs.Lawful.{IsLeapMoved, IsMovedBy, this_function, none, more}
+use Rattle.replay_laws.specs.Lawful.{IsLeapMoved, IsSimplifiedBy, IsMovedBy, this_function, none, more}
 use Rattle.replay_laws.specs.Replayed.{IsTopWellMade, top_leaps}
 use Rattle.replay_laws.proofs.Whole.{lawful_laws}
 use Rattle.replay_laws.proofs.OneBody.{leap_some, same_label, moved_leap}
@@ -100,9 +100,11 @@ pub stays_leapless : (m : Move) (f g : Function) → f.flat ≡ true → f.name 
 stays_leapless m f g e n z k =
     let b = ap leaps (body_is f k.body k.body_is) in
     let empty : leaps (trees_of k.body) ≡ 0 = omega (arith, b, z) in
-    let h : IsMovedBy m f g = record { body = k.body; new = k.new; flat = e; name = n; body_is = k.body_is; made = inr (record { leapless = empty; made = k.made }); result = k.result } in
+    let simple : IsSimplifiedBy f.name f.labels m k.body k.new = record { leapless = empty; made = k.made } in
+    let h : IsMovedBy m f g = record { body = k.body; new = k.new; flat = e; name = n; body_is = k.body_is; made = inr simple; result = k.result } in
     let old : top_leaps (T.Function f) ≡ leaps (body_of f) = ap (λ z. cond z (leaps (body_of f)) 0) e in
     let flat : g.flat ≡ true = ap (λ (z : Function). z.flat) k.result ∙ e in
     let new : top_leaps (T.Function g) ≡ leaps (body_of g) = ap (λ z. cond z (leaps (body_of g)) 0) flat in
-    let j : joined (m ∷ []) + (0 + top_leaps (T.Function g)) ≡ 0 + top_leaps (T.Function f) = lawful_laws.joins (T.Function f ∷ []) (T.Function g ∷ []) (m ∷ []) (more (this_function [] h) none) in
+    let j : joined (m ∷ []) + (0 + top_leaps (T.Function g)) ≡ 0 + top_leaps (T.Function f) =
+    lawful_laws.joins (T.Function f ∷ []) (T.Function g ∷ []) (m ∷ []) (more (this_function [] h) none) in
     omega (arith, old, new, j, z)

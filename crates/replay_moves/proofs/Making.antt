@@ -102,7 +102,8 @@ pub leapless_there : (o : Option ℕ) (ts : List Top) (i : ℕ) (t : Top) → Is
 leapless_there None ts i t h g e = cc
 leapless_there (Some k) ts i t h g e = h t (ap (slice_get ts) (some_same e) ∙ g)
 
-pub leapless_set : (o : Option ℕ) (ts : List Top) (i : ℕ) (t u : Top) → slice_get ts i ≡ Some t → IfSome o (λ k. (k ≡ i) × IsTopLeapless u) → IsLeaplessAt o (slice_set ts i u)
+pub leapless_set : (o : Option ℕ) (ts : List Top) (i : ℕ) (t u : Top) → slice_get ts i ≡ Some t → IfSome o (λ k. (k ≡ i) × IsTopLeapless u)
+    → IsLeaplessAt o (slice_set ts i u)
 leapless_set None ts i t u g h = tt
 leapless_set (Some k) ts i t u g h = λ v e. subst IsTopLeapless (set_there ts i t u v g (ap (slice_get (slice_set ts i u)) (sym h.0) ∙ e)) h.1
 

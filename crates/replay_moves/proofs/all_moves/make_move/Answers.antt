@@ -26,8 +26,12 @@ pub move_top-requires-clause-flat : goal.move_top-requires-clause-flat
 move_top-requires-clause-flat c = flat_there c.args.step.now.function c.args.tops.now c.in-Some.i c.at_mut.result.now (c.in-Some.ensures c.args.tops.now c.requires.places) c.at_mut.ensures.value
 
 pub move_top-requires-clause-leapless : goal.move_top-requires-clause-leapless
-move_top-requires-clause-leapless c = leapless_there c.args.known.now.leapless c.args.tops.now c.in-Some.i c.at_mut.result.now c.requires.leapless c.at_mut.ensures.value
+move_top-requires-clause-leapless c =
+    leapless_there c.args.known.now.leapless c.args.tops.now c.in-Some.i c.at_mut.result.now c.requires.leapless c.at_mut.ensures.value
 
 pub returns-in-Some-clause-leapless : goal.returns-in-Some-clause-leapless
 returns-in-Some-clause-leapless c =
-    IfOk-weaker c.move_top.result _ _ (λ b h e. leapless_set c.move_top.new.known.leapless c.args.tops.now c.in-Some.i c.at_mut.result.now c.move_top.new.top c.at_mut.ensures.value (h e)) c.move_top.ensures.leapless
+    let ts = c.args.tops.now in
+    let t = c.at_mut.result.now in
+    IfOk-weaker c.move_top.result _ _ (λ b h e. leapless_set c.move_top.new.known.leapless ts c.in-Some.i t c.move_top.new.top c.at_mut.ensures.value (h e))
+    c.move_top.ensures.leapless

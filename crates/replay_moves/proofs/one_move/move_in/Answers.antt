@@ -9,4 +9,6 @@ returns-else-branch-clause-no c =
 
 pub returns-else-branch-clause-leapless : goal.returns-else-branch-clause-leapless
 returns-else-branch-clause-leapless c =
-    IfOk-weaker c.apply_one.result _ _ (λ b h e. (refl, stays_leapless c.args.step.now c.args.function.now c.apply_one.new.function c.requires.flat c.requires.name (c.in_ok-has_leap_now.ensures.no c.if-branch.false) (h e))) c.apply_one.ensures.yes
+    let none = c.in_ok-has_leap_now.ensures.no c.if-branch.false in
+    let stays = stays_leapless c.args.step.now c.args.function.now c.apply_one.new.function c.requires.flat c.requires.name none in
+    IfOk-weaker c.apply_one.result _ _ (λ b h e. (refl, stays (h e))) c.apply_one.ensures.yes
