@@ -1,3 +1,4 @@
+pub mod Constructs
 pub mod Endings
 pub mod FirstTokens
 pub mod Insides

@@ -2,6 +2,7 @@ use Rattle.std.proofs.Common.{◌∙◌, ◌+◌, ◌++◌, ◌∷◌, [], None,
 use Rattle.std.proofs.lemmas.Result.{on_ok_weaker, IfOk-weaker}
 use Rattle.c_bodies.specs.Steps.{sections_behind, section_item_faults, section_faults}
 use Rattle.c_bodies.specs.Views.{around_of, context_of, walk_of, left}
+use Rattle.c_bodies.proofs.Constructs.{if_items, while_items, for_items, switch_items}
 use Rattle.c_bodies.proofs.Insides.{inside_below}
 use Rattle.c_bodies.proofs.Scopes.{left_for}
 use Rattle.c_bodies.proofs.SwitchSteps.{whatever, after, both, all_three, all_five, states_faults, section_states, choice_items, nodes_at, token_node, item_node, behind_step, lone_step, faults_step, lone_faults}
@@ -16,9 +17,6 @@ use Rattle.c_statements.specs.Nodes.{items_of}
 use Rattle.c_statements.specs.Sections.{front, passed_on}
 use Rattle.c_statements.specs.Statements.{behind_item, behind_items, behind_body, item_items, plain_items, list_items, body_items, switch_sections, sections_from, outside_items}
 use Rattle.c_statements.specs.Violations.{item_faults, body_faults, list_faults, outside_faults, switch_body_faults}
-use Rattle.c_tree.specs.declared.tree.Item as tree
-use Rattle.c_tree.specs.declared.tree.Selector as selector
-use Rattle.c_tree.specs.declared.tree.Test as test
 use Rattle.c_bodies.proofs.walk.+walk.Goals as goal
 
 pub add_plain-add_statement-requires : goal.add_plain-add_statement-requires
@@ -101,7 +99,7 @@ add_statement-returns-in-Block-clause-faults t c = rw c.in-Block.is c.add_block.
 
 pub add_if-returns-in-Ok-clause-out : goal.add_if-returns-in-Ok-clause-out
 add_if-returns-in-Ok-clause-out t c =
-    on_ok_weaker c.push_if.result (λ h. h ∙ (λ i. c.args.out.now ++ tree.If (test.Source (c.in_ok-e.ensures.value i)) ((c.in-Ok.ensures.value ∙ ap (body_items (context_of c.args.ctx.now) (body_of (words_of c.args.ctx.now.words) c.args.b.now)) c.in_ok-e.ensures.walk) i) (c.new.ensures i) ∷ [])) c.push_if.ensures
+    after c.push_if.result c.push_if.ensures (λ h. if_items (context_of c.args.ctx.now) (term_of (words_of c.args.ctx.now.words) c.args.t.now) (body_of (words_of c.args.ctx.now.words) c.args.b.now) (walk_of c.args.state.now) _ c.args.out.now _ _ _ _ h c.in_ok-e.ensures.value c.in-Ok.ensures.value c.new.ensures c.in_ok-e.ensures.walk)
 
 pub add_if-returns-in-Ok-clause-cases : goal.add_if-returns-in-Ok-clause-cases
 add_if-returns-in-Ok-clause-cases t c =
@@ -113,7 +111,7 @@ add_if-returns-in-Ok-clause-faults t c =
 
 pub add_while-returns-in-Ok-clause-out : goal.add_while-returns-in-Ok-clause-out
 add_while-returns-in-Ok-clause-out t c =
-    on_ok_weaker c.push_while.result (λ h. h ∙ (λ i. c.args.out.now ++ tree.While (test.Source (c.in_ok-e.ensures.value i)) ((c.in-Ok.ensures.value ∙ ap (body_items (context_of c.args.ctx.now) (body_of (words_of c.args.ctx.now.words) c.args.b.now)) c.in_ok-e.ensures.walk) i) ∷ [])) c.push_while.ensures
+    after c.push_while.result c.push_while.ensures (λ h. while_items (context_of c.args.ctx.now) (term_of (words_of c.args.ctx.now.words) c.args.t.now) (body_of (words_of c.args.ctx.now.words) c.args.b.now) (walk_of c.args.state.now) _ c.args.out.now _ _ _ h c.in_ok-e.ensures.value c.in-Ok.ensures.value c.in_ok-e.ensures.walk)
 
 pub add_while-returns-in-Ok-clause-cases : goal.add_while-returns-in-Ok-clause-cases
 add_while-returns-in-Ok-clause-cases t c =
@@ -153,7 +151,7 @@ add_for-returns-in-Ok-clause-walk t c =
 
 pub add_for-returns-in-Ok-clause-out : goal.add_for-returns-in-Ok-clause-out
 add_for-returns-in-Ok-clause-out t c =
-    on_ok_weaker c.push_for.result (λ h. h ∙ (λ i. c.args.out.now ++ tree.For (c.in_ok-heads.ensures.start i) (c.in_ok-heads.ensures.test i) (c.in_ok-heads.ensures.third i) ((c.in-Ok.ensures.value ∙ ap (body_items (context_of c.args.ctx.now) (body_of (words_of c.args.ctx.now.words) c.args.b.now)) c.in_ok-heads.ensures.walk) i) ∷ [])) c.push_for.ensures
+    after c.push_for.result c.push_for.ensures (λ h. for_items (context_of c.args.ctx.now) (start_form (words_of c.args.ctx.now.words) c.args.start) _ _ (body_of (words_of c.args.ctx.now.words) c.args.b.now) (walk_of c.args.state.now) _ c.args.out.now _ _ _ _ _ h c.in_ok-heads.ensures.start c.in_ok-heads.ensures.test c.in_ok-heads.ensures.third c.in-Ok.ensures.value c.in_ok-heads.ensures.walk)
 
 pub add_for-returns-in-Ok-clause-cases : goal.add_for-returns-in-Ok-clause-cases
 add_for-returns-in-Ok-clause-cases t c =
@@ -277,7 +275,7 @@ add_switch-returns-in-Ok-clause-walk t c =
 
 pub add_switch-returns-in-Ok-clause-out : goal.add_switch-returns-in-Ok-clause-out
 add_switch-returns-in-Ok-clause-out t c =
-    on_ok_weaker c.push_switch.result (λ h. h ∙ (λ i. c.args.out.now ++ tree.Switch (selector.Source (c.in_ok-selected.ensures.value i)) ((c.in-Ok.ensures.value ∙ ap (λ w. passed_on [] false (switch_sections (context_of c.args.ctx.now) (body_of (words_of c.args.ctx.now.words) c.args.b.now) w)) c.in_ok-selected.ensures.walk) i) ∷ [])) c.push_switch.ensures
+    after c.push_switch.result c.push_switch.ensures (λ h. switch_items (context_of c.args.ctx.now) (term_of (words_of c.args.ctx.now.words) c.args.t.now) (body_of (words_of c.args.ctx.now.words) c.args.b.now) (walk_of c.args.state.now) _ c.args.out.now _ _ _ h c.in_ok-selected.ensures.value c.in-Ok.ensures.value c.in_ok-selected.ensures.walk)
 
 pub add_switch-returns-in-Ok-clause-faults : goal.add_switch-returns-in-Ok-clause-faults
 add_switch-returns-in-Ok-clause-faults t c =
