@@ -5,3 +5,4 @@ pub mod Loops
 mod Sizes
 pub mod Numbered
 pub mod Outermost
+pub mod Ways

@@ -3,9 +3,10 @@ use Rattle.std.specs.Prelude.{ℕ, List}
 use Rattle.c_tree.specs.Trees.{Forest}
 use Rattle.jump_meaning.specs.Code.{FunctionTree}
 use Rattle.tidy_loops.specs.Slots.{Tells}
-use Rattle.tidy_search.specs.Places.{AreQuietBut}
+use Rattle.tidy_search.specs.Ways.{IsAhead}
 use Rattle.break_recovery.specs.declared.places.Start.{Start}
 
--- no change of this body applies before the start, but for the place in doubt, whichever function has these counts
-abbrev pub IsStart : List ℕ → Start → Forest → Type 0
-IsStart counts s a = (h : FunctionTree) → Tells counts h → AreQuietBut h 2 s.doubt s.from a
+-- no change of this body applies before the start and the end of the way, but for the place in doubt, whichever function has
+-- these counts
+abbrev pub IsStart : List ℕ → Start → List ℕ → Forest → Type 0
+IsStart counts s w a = (h : FunctionTree) → Tells counts h → IsAhead h 2 s.doubt s.from w a

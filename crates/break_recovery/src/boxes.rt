@@ -1,13 +1,14 @@
 //! Changes in the outermost list of a function. Its items are boxed meanwhile, so that those behind an item that is
 //! taken out move by 8 bytes each.
 
-ghost use Rattle.std.specs.Prelude.{◌≡◌, ◌<◌, length, take, drop, None, IfOk, OnOk};
+ghost use Rattle.std.specs.Prelude.{◌≡◌, ◌<◌, ℕ, length, take, drop, reverse, None, IfOk, OnOk};
 ghost use Rattle.c_tree.specs.Trees.{trees_of, join};
 ghost use Rattle.jump_meaning.specs.Code.{FunctionTree};
 ghost use Rattle.tidy_laws.specs.Changes.{undeclared};
 ghost use Rattle.tidy_loops.specs.Slots.{Tells, count_in};
 ghost use Rattle.tidy_search.specs.Next.{put, next_at, next_here, changed_to};
 ghost use Rattle.tidy_search.specs.Places.{removed_at};
+ghost use Rattle.tidy_search.specs.Ways.{IsWayAt, LeadsOn};
 ghost use Rattle.break_recovery.specs.Loops.{change_first, list_after};
 
 use crate::here::{Change, change_of, changed_loop, keeps_next, slot_of};
@@ -104,16 +105,19 @@ pub fn change_at(
     level: u32,
     list: &mut List<Boxed<Item>>,
     at: usize,
+    way: &mut List<usize>,
 ) -> Result<Option<u32>, Memory>
     requires { at < length list.old }
-    ensures made { IfOk result (λ it. (f : FunctionTree) → Tells counts.now f → changed_to it (trees_of list.new) ≡ put (join (trees_of (take at list.old))) (next_at f level (trees_of (drop at list.old)))) }
+    ensures made { IfOk result (λ it. (f : FunctionTree) → Tells counts.now f → IsWayAt f level (reverse way.old) (trees_of (drop at list.old)) → changed_to it (trees_of list.new) ≡ put (join (trees_of (take at list.old))) (next_at f level (trees_of (drop at list.old)))) }
     ensures kept { IfOk result (λ it. it ≡ None → list.new ≡ list.old) }
+    ensures way { IfOk result (λ it. LeadsOn counts.now it (λ f. IsWayAt f level (reverse way.old) (trees_of (drop at list.old))) (λ (g : ℕ) h. IsWayAt h level (reverse way.new) (trees_of (drop at list.new)))) }
 {
     let here = change_here(alloc, counts, level, list, at)?;
     if here.is_some() {
+        *way = List::new(alloc);
         return Ok(here);
     }
-    change_item(alloc, counts, level, list.at_mut(at).get_mut())
+    change_item(alloc, counts, level, list.at_mut(at).get_mut(), way)
 }
 
 /// Takes the first `int g = 0;` out, and answers where it stood.

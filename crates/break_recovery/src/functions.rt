@@ -1,15 +1,15 @@
-ghost use Rattle.std.specs.Prelude.{◌≡◌, ◌+◌, ℕ, suc, false, true, length, replicate, slice_set, option_map, Some, None, IfOk, OnOk};
+ghost use Rattle.std.specs.Prelude.{◌≡◌, ◌+◌, ℕ, suc, false, true, length, replicate, reverse, slice_set, option_map, Some, None, IfOk, OnOk};
 ghost use Rattle.c_tree.specs.Trees.{trees_of};
 ghost use Rattle.jump_meaning.specs.Code.{FunctionTree, function_tree};
-ghost use Rattle.tidy_loops.specs.Slots.{Tells, counts_of};
-ghost use Rattle.tidy_search.specs.Places.{AreQuietBut, Fewer};
+ghost use Rattle.tidy_loops.specs.Slots.{Tells};
+ghost use Rattle.tidy_search.specs.Ways.{LeadsOn, IsAhead};
 ghost use Rattle.tidy_laws.specs.Renamed.{renamed_list};
 ghost use Rattle.tidy_renumber.specs.Numbers.{number};
 ghost use Rattle.break_recovery.specs.Starts.{IsStart};
 ghost use Rattle.break_recovery.specs.Ends.{with_body, IsBodyChanged, WentOn, AreMade, IsNumbered, IsFunctionTidied, TopTidied, AreTidied};
 
 use crate::boxes::{boxed, unboxed, undeclare};
-use crate::places::{Start, behind_change, change_from};
+use crate::places::{Start, behind_change, change_from, keep_way};
 use c_tree::{Function, Item, Top};
 use c_types::{Boxed, List, Memory};
 use std::alloc::Global;
@@ -24,17 +24,19 @@ fn change_list_of(
     alloc: Global,
     counts: &List<u64>,
     start: &mut Start,
+    way: &mut List<usize>,
     list: &mut List<Boxed<Item>>,
 ) -> Result<Option<u32>, Memory>
-    ensures made { IfOk result (λ it. (f : FunctionTree) → Tells counts.now f → AreQuietBut f 2 start.old.doubt start.old.from (trees_of list.old) → f.body ≡ Some (trees_of list.old) → IsBodyChanged f it (Some (trees_of list.new))) }
+    ensures made { IfOk result (λ it. (f : FunctionTree) → Tells counts.now f → IsAhead f 2 start.old.doubt start.old.from (reverse way.old) (trees_of list.old) → f.body ≡ Some (trees_of list.old) → IsBodyChanged f it (Some (trees_of list.new))) }
     ensures kept { IfOk result (λ it. it ≡ None → list.new ≡ list.old) }
-    ensures start { IfOk result (λ it. (g : ℕ) → it ≡ Some g → (f h : FunctionTree) → Tells counts.now f → Fewer (counts_of f) (counts_of h) → AreQuietBut f 2 start.old.doubt start.old.from (trees_of list.old) → AreQuietBut h 2 start.new.doubt start.new.from (trees_of list.new)) }
+    ensures start { IfOk result (λ it. LeadsOn counts.now it (λ f. IsAhead f 2 start.old.doubt start.old.from (reverse way.old) (trees_of list.old)) (λ (g : ℕ) h. IsAhead h 2 start.new.doubt start.new.from (reverse way.new) (trees_of list.new))) }
 {
-    let change = change_from(alloc, counts, 2, list, *start)?;
+    let change = change_from(alloc, counts, 2, list, *start, way)?;
     match change {
         Some((slot, place)) => {
             let gone = undeclare(slot, list);
             *start = behind_change(place, gone);
+            keep_way(alloc, place, gone, way);
             Ok(Some(slot))
         }
         None => Ok(None),
@@ -63,14 +65,15 @@ fn forget(slot: u32, counts: &mut List<u64>)
 fn change_once(
     alloc: Global,
     start: &mut Start,
+    way: &mut List<usize>,
     gone: &mut List<bool>,
     counts: &mut List<u64>,
     list: &mut List<Boxed<Item>>,
 ) -> Result<bool, Memory>
-    ensures went { IfOk result (λ went. (f : Function) → IsStart counts.old start.old (trees_of list.old) → WentOn went gone.old counts.old (with_body f list.old) gone.new counts.new (with_body f list.new)) }
-    ensures start { IfOk result (λ went. went ≡ true → (f : Function) → Tells counts.old (function_tree (with_body f list.old)) → IsStart counts.old start.old (trees_of list.old) → IsStart counts.new start.new (trees_of list.new)) }
+    ensures went { IfOk result (λ went. (f : Function) → IsStart counts.old start.old (reverse way.old) (trees_of list.old) → WentOn went gone.old counts.old (with_body f list.old) gone.new counts.new (with_body f list.new)) }
+    ensures start { IfOk result (λ went. went ≡ true → (f : Function) → Tells counts.old (function_tree (with_body f list.old)) → IsStart counts.old start.old (reverse way.old) (trees_of list.old) → IsStart counts.new start.new (reverse way.new) (trees_of list.new)) }
 {
-    let change = change_list_of(alloc, counts, start, list)?;
+    let change = change_list_of(alloc, counts, start, way, list)?;
     match change {
         Some(slot) => {
             mark(slot, gone);
@@ -115,8 +118,9 @@ fn change_boxes(
     let mut counts = counts;
     let mut gone = none_gone(alloc, function.slots.len())?;
     let mut start = Start { doubt: 0, from: 0 };
+    let mut way = List::new(alloc);
     let mut count = 0;
-    'changes: while change_once(alloc, &mut start, &mut gone, &mut counts, list)? {
+    'changes: while change_once(alloc, &mut start, &mut way, &mut gone, &mut counts, list)? {
         count = one_more(count)?;
     }
     Ok((count, gone))

@@ -1,11 +1,12 @@
 //! The next change of the outermost list, sought from a place on.
 
-ghost use Rattle.std.specs.Prelude.{◌≡◌, ◌<◌, Some, None, IfOk};
+ghost use Rattle.std.specs.Prelude.{◌≡◌, ◌<◌, ◌⊎◌, ℕ, [], reverse, Some, None, IfOk};
 ghost use Rattle.c_tree.specs.Trees.{trees_of};
 ghost use Rattle.jump_meaning.specs.Code.{FunctionTree};
 ghost use Rattle.tidy_loops.specs.Slots.{Tells};
 ghost use Rattle.tidy_search.specs.Next.{put, next_at, changed_to};
-ghost use Rattle.tidy_search.specs.Places.{behind, replaced, AreQuiet, AreQuietBut, IsFoundAt, GoesOn};
+ghost use Rattle.tidy_search.specs.Places.{behind, replaced, AreQuiet, IsFoundAt, GoesOn};
+ghost use Rattle.tidy_search.specs.Ways.{IsWayAt, LeadsOn, IsAhead, KeepsWay};
 
 use crate::boxes::change_at;
 use c_tree::Item;
@@ -26,12 +27,14 @@ fn change_place(
     level: u32,
     list: &mut List<Boxed<Item>>,
     place: usize,
+    way: &mut List<usize>,
 ) -> Result<Option<u32>, Memory>
-    ensures made { IfOk result (λ it. (f : FunctionTree) → Tells counts.now f → changed_to it (trees_of list.new) ≡ put (λ c. replaced place c (trees_of list.old)) (next_at f level (behind place (trees_of list.old)))) }
+    ensures made { IfOk result (λ it. (f : FunctionTree) → Tells counts.now f → IsWayAt f level (reverse way.old) (behind place (trees_of list.old)) → changed_to it (trees_of list.new) ≡ put (λ c. replaced place c (trees_of list.old)) (next_at f level (behind place (trees_of list.old)))) }
     ensures kept { IfOk result (λ it. it ≡ None → list.new ≡ list.old) }
+    ensures way { IfOk result (λ it. LeadsOn counts.now it (λ f. IsWayAt f level (reverse way.old) (behind place (trees_of list.old))) (λ (g : ℕ) h. IsWayAt h level (reverse way.new) (behind place (trees_of list.new)))) }
 {
     if place < list.len() {
-        return change_at(alloc, counts, level, list, place);
+        return change_at(alloc, counts, level, list, place, way);
     }
     Ok(None)
 }
@@ -43,16 +46,21 @@ fn change_behind(
     level: u32,
     list: &mut List<Boxed<Item>>,
     from: usize,
+    way: &mut List<usize>,
 ) -> Result<Option<(u32, usize)>, Memory>
-    ensures made { IfOk result (λ it. (f : FunctionTree) → Tells counts.now f → AreQuiet f level from (trees_of list.old) → IsFoundAt f level it (trees_of list.old) (trees_of list.new)) }
+    ensures made { IfOk result (λ it. (f : FunctionTree) → Tells counts.now f → AreQuiet f level from (trees_of list.old) → IsWayAt f level (reverse way.old) (behind from (trees_of list.old)) → IsFoundAt f level it (trees_of list.old) (trees_of list.new)) }
     ensures kept { IfOk result (λ it. it ≡ None → list.new ≡ list.old) }
+    ensures way { IfOk result (λ it. LeadsOn counts.now it (λ f. AreQuiet f level from (trees_of list.old) × IsWayAt f level (reverse way.old) (behind from (trees_of list.old))) (λ (c : ℕ × ℕ) h. IsWayAt h level (reverse way.new) (behind c.1 (trees_of list.new)))) }
 {
     let mut i = from;
     while i < list.len() {
-        let change = change_place(alloc, counts, level, list, i)?;
+        let change = change_place(alloc, counts, level, list, i, way)?;
         match change {
             Some(slot) => return Ok(Some((slot, i))),
-            None => i += 1,
+            None => {
+                *way = List::new(alloc);
+                i += 1;
+            }
         }
     }
     Ok(None)
@@ -65,15 +73,21 @@ fn change_doubt(
     level: u32,
     list: &mut List<Boxed<Item>>,
     start: Start,
+    way: &mut List<usize>,
 ) -> Result<Option<(u32, usize)>, Memory>
     requires { start.doubt < start.from }
-    ensures made { IfOk result (λ it. (f : FunctionTree) → Tells counts.now f → AreQuietBut f level start.doubt start.from (trees_of list.old) → IsFoundAt f level it (trees_of list.old) (trees_of list.new)) }
+    ensures made { IfOk result (λ it. (f : FunctionTree) → Tells counts.now f → IsAhead f level start.doubt start.from (reverse way.old) (trees_of list.old) → IsFoundAt f level it (trees_of list.old) (trees_of list.new)) }
     ensures kept { IfOk result (λ it. it ≡ None → list.new ≡ list.old) }
+    ensures way { IfOk result (λ it. LeadsOn counts.now it (λ f. IsAhead f level start.doubt start.from (reverse way.old) (trees_of list.old)) (λ (c : ℕ × ℕ) h. IsWayAt h level (reverse way.new) (behind c.1 (trees_of list.new)))) }
 {
-    let change = change_place(alloc, counts, level, list, start.doubt)?;
+    let mut inside = List::new(alloc);
+    let change = change_place(alloc, counts, level, list, start.doubt, &mut inside)?;
     match change {
-        Some(slot) => Ok(Some((slot, start.doubt))),
-        None => change_behind(alloc, counts, level, list, start.from),
+        Some(slot) => {
+            *way = inside;
+            Ok(Some((slot, start.doubt)))
+        }
+        None => change_behind(alloc, counts, level, list, start.from, way),
     }
 }
 
@@ -84,19 +98,22 @@ pub fn change_from(
     level: u32,
     list: &mut List<Boxed<Item>>,
     start: Start,
+    way: &mut List<usize>,
 ) -> Result<Option<(u32, usize)>, Memory>
-    ensures made { IfOk result (λ it. (f : FunctionTree) → Tells counts.now f → AreQuietBut f level start.doubt start.from (trees_of list.old) → IsFoundAt f level it (trees_of list.old) (trees_of list.new)) }
+    ensures made { IfOk result (λ it. (f : FunctionTree) → Tells counts.now f → IsAhead f level start.doubt start.from (reverse way.old) (trees_of list.old) → IsFoundAt f level it (trees_of list.old) (trees_of list.new)) }
     ensures kept { IfOk result (λ it. it ≡ None → list.new ≡ list.old) }
+    ensures way { IfOk result (λ it. LeadsOn counts.now it (λ f. IsAhead f level start.doubt start.from (reverse way.old) (trees_of list.old)) (λ (c : ℕ × ℕ) h. IsWayAt h level (reverse way.new) (behind c.1 (trees_of list.new)))) }
 {
     if start.doubt < start.from {
-        return change_doubt(alloc, counts, level, list, start);
+        return change_doubt(alloc, counts, level, list, start, way);
     }
-    change_behind(alloc, counts, level, list, start.from)
+    change_behind(alloc, counts, level, list, start.from, way)
 }
 
 /// Where the search goes on behind a change at this place, with the declaration gone from that one.
 pub fn behind_change(place: usize, gone: Option<usize>) -> Start
-    ensures { GoesOn place gone result.doubt result.from }
+    ensures goes_on { GoesOn place gone result.doubt result.from }
+    ensures way { KeepsWay place gone result.from }
 {
     match gone {
         None => Start {
@@ -108,7 +125,8 @@ pub fn behind_change(place: usize, gone: Option<usize>) -> Start
 }
 
 fn behind_removal(place: usize, at: usize) -> Start
-    ensures { GoesOn place (Some at) result.doubt result.from }
+    ensures goes_on { GoesOn place (Some at) result.doubt result.from }
+    ensures way { KeepsWay place (Some at) result.from }
 {
     if place < at {
         return Start {
@@ -119,5 +137,19 @@ fn behind_removal(place: usize, at: usize) -> Start
     Start {
         doubt: at.saturating_sub(1),
         from: place.saturating_sub(1),
+    }
+}
+
+/// Gives the way up where the declaration went from this place.
+pub fn keep_way(alloc: Global, place: usize, gone: Option<usize>, way: &mut List<usize>)
+    ensures { (way.new ≡ []) ⊎ ((gone ≡ Some place → ⊥) × (way.new ≡ way.old)) }
+{
+    match gone {
+        Some(at) => {
+            if at == place {
+                *way = List::new(alloc);
+            }
+        }
+        None => {}
     }
 }

@@ -1,10 +1,11 @@
-ghost use Rattle.std.specs.Prelude.{◌≡◌, ◌<◌, length, take, drop, None, IfOk};
+ghost use Rattle.std.specs.Prelude.{◌≡◌, ◌<◌, ℕ, List, ◌∷◌, length, take, drop, reverse, None, IfOk};
 ghost use Rattle.c_tree.specs.Paths.{list_of, with_list};
 ghost use Rattle.c_tree.specs.Trees.{trees_of, sections_of, join};
 ghost use Rattle.jump_meaning.specs.Code.{FunctionTree};
 ghost use Rattle.c_tree.specs.Views.{tree_at};
 ghost use Rattle.tidy_loops.specs.Slots.{Tells};
 ghost use Rattle.tidy_search.specs.Next.{put, next_list, next_at, next_item, next_either, next_sections, changed_to};
+ghost use Rattle.tidy_search.specs.Ways.{IsWay, IsWayAt, IsWayIn, IsWayOf, IsStep, LeadsOn};
 
 use crate::here::change_here;
 use c_tree::{Item, Section};
@@ -12,6 +13,16 @@ use c_types::{List, Memory};
 use std::alloc::Global;
 use std::mem;
 use tidy_tails::deeper;
+
+/// The next step of a way, 0 where it ends. The way stands with its last step in front.
+fn next_step(way: &mut List<usize>) -> usize
+    ensures { IsStep (reverse way.old) result (reverse way.new) }
+{
+    match way.pop() {
+        Some(step) => step,
+        None => 0,
+    }
+}
 
 /// Makes the next change of a list at this level, if one applies, and answers its slot. Else the list
 /// stays. The counts are those of the function.
@@ -21,17 +32,21 @@ fn change_list(
     counts: &List<u64>,
     level: u32,
     list: &mut List<Item>,
+    way: &mut List<usize>,
 ) -> Result<Option<u32>, Memory>
-    ensures made { IfOk result (λ it. (f : FunctionTree) → Tells counts.now f → changed_to it (trees_of list.new) ≡ next_list f level (trees_of list.old)) }
+    ensures made { IfOk result (λ it. (f : FunctionTree) → Tells counts.now f → IsWay f level (reverse way.old) (trees_of list.old) → changed_to it (trees_of list.new) ≡ next_list f level (trees_of list.old)) }
     ensures kept { IfOk result (λ it. it ≡ None → list.new ≡ list.old) }
+    ensures way { IfOk result (λ it. LeadsOn counts.now it (λ f. IsWay f level (reverse way.old) (trees_of list.old)) (λ (g : ℕ) h. IsWay h level (reverse way.new) (trees_of list.new))) }
 {
     let inside = deeper(level)?;
-    let mut i = 0;
+    let mut i = next_step(way);
     while i < list.len() {
-        let change = change_at(alloc, counts, inside, list, i)?;
+        let change = change_at(alloc, counts, inside, list, i, way)?;
         if change.is_some() {
+            way.push(i)?;
             return Ok(change);
         }
+        *way = List::new(alloc);
         i += 1;
     }
     Ok(None)
@@ -44,16 +59,19 @@ fn change_at(
     level: u32,
     list: &mut List<Item>,
     at: usize,
+    way: &mut List<usize>,
 ) -> Result<Option<u32>, Memory>
     requires { at < length list.old }
-    ensures made { IfOk result (λ it. (f : FunctionTree) → Tells counts.now f → changed_to it (trees_of list.new) ≡ put (join (trees_of (take at list.old))) (next_at f level (trees_of (drop at list.old)))) }
+    ensures made { IfOk result (λ it. (f : FunctionTree) → Tells counts.now f → IsWayAt f level (reverse way.old) (trees_of (drop at list.old)) → changed_to it (trees_of list.new) ≡ put (join (trees_of (take at list.old))) (next_at f level (trees_of (drop at list.old)))) }
     ensures kept { IfOk result (λ it. it ≡ None → list.new ≡ list.old) }
+    ensures way { IfOk result (λ it. LeadsOn counts.now it (λ f. IsWayAt f level (reverse way.old) (trees_of (drop at list.old))) (λ (g : ℕ) h. IsWayAt h level (reverse way.new) (trees_of (drop at list.new)))) }
 {
     let here = change_here(alloc, counts, level, list, at)?;
     if here.is_some() {
+        *way = List::new(alloc);
         return Ok(here);
     }
-    change_item(alloc, counts, level, list.at_mut(at))
+    change_item(alloc, counts, level, list.at_mut(at), way)
 }
 
 /// The same in an item, whose lists stand at this level.
@@ -63,28 +81,30 @@ pub fn change_item(
     counts: &List<u64>,
     level: u32,
     item: &mut Item,
+    way: &mut List<usize>,
 ) -> Result<Option<u32>, Memory>
-    ensures made { IfOk result (λ it. (f : FunctionTree) → Tells counts.now f → changed_to it (tree_at item.new) ≡ next_item f level (tree_at item.old)) }
+    ensures made { IfOk result (λ it. (f : FunctionTree) → Tells counts.now f → IsWayIn f level (reverse way.old) (tree_at item.old) → changed_to it (tree_at item.new) ≡ next_item f level (tree_at item.old)) }
     ensures kept { IfOk result (λ it. it ≡ None → item.new ≡ item.old) }
+    ensures way { IfOk result (λ it. LeadsOn counts.now it (λ f. IsWayIn f level (reverse way.old) (tree_at item.old)) (λ (g : ℕ) h. IsWayIn h level (reverse way.new) (tree_at item.new))) }
 {
     match mem::replace(item, Item::Break) {
         Item::If(test, mut a, mut b) => {
-            let change = change_either(alloc, counts, level, &mut a, &mut b);
+            let change = change_either(alloc, counts, level, &mut a, &mut b, way);
             *item = Item::If(test, a, b);
             change
         }
         Item::While(test, mut a) => {
-            let change = change_list(alloc, counts, level, &mut a);
+            let change = change_list(alloc, counts, level, &mut a, way);
             *item = Item::While(test, a);
             change
         }
         Item::Do(mut a, test) => {
-            let change = change_list(alloc, counts, level, &mut a);
+            let change = change_list(alloc, counts, level, &mut a, way);
             *item = Item::Do(a, test);
             change
         }
         Item::For(mut first, test, third, mut a) => {
-            let change = change_either(alloc, counts, level, &mut first, &mut a);
+            let change = change_either(alloc, counts, level, &mut first, &mut a, way);
             *item = Item::For(first, test, third, a);
             change
         }
@@ -94,7 +114,7 @@ pub fn change_item(
             change
         }
         Item::Block(mut a) => {
-            let change = change_list(alloc, counts, level, &mut a);
+            let change = change_list(alloc, counts, level, &mut a, way);
             *item = Item::Block(a);
             change
         }
@@ -113,15 +133,43 @@ fn change_either(
     level: u32,
     first: &mut List<Item>,
     second: &mut List<Item>,
+    way: &mut List<usize>,
 ) -> Result<Option<u32>, Memory>
-    ensures made { IfOk result (λ it. (f : FunctionTree) → Tells counts.now f → changed_to it (trees_of first.new, trees_of second.new) ≡ next_either f level (trees_of first.old) (trees_of second.old)) }
+    ensures made { IfOk result (λ it. (f : FunctionTree) → Tells counts.now f → IsWayOf f level (reverse way.old) (trees_of first.old) (trees_of second.old) → changed_to it (trees_of first.new, trees_of second.new) ≡ next_either f level (trees_of first.old) (trees_of second.old)) }
     ensures kept { IfOk result (λ it. it ≡ None → (first.new ≡ first.old) × (second.new ≡ second.old)) }
+    ensures way { IfOk result (λ it. LeadsOn counts.now it (λ f. IsWayOf f level (reverse way.old) (trees_of first.old) (trees_of second.old)) (λ (g : ℕ) h. IsWayOf h level (reverse way.new) (trees_of first.new) (trees_of second.new))) }
 {
-    let change = change_list(alloc, counts, level, first)?;
+    if next_step(way) > 0 {
+        return change_second(alloc, counts, level, second, way);
+    }
+    let change = change_list(alloc, counts, level, first, way)?;
     if change.is_some() {
+        way.push(0)?;
         return Ok(change);
     }
-    change_list(alloc, counts, level, second)
+    *way = List::new(alloc);
+    change_second(alloc, counts, level, second, way)
+}
+
+/// The same in the second of them.
+#[cycle(search)]
+fn change_second(
+    alloc: Global,
+    counts: &List<u64>,
+    level: u32,
+    second: &mut List<Item>,
+    way: &mut List<usize>,
+) -> Result<Option<u32>, Memory>
+    ensures made { IfOk result (λ it. (f : FunctionTree) → Tells counts.now f → IsWay f level (reverse way.old) (trees_of second.old) → changed_to it (trees_of second.new) ≡ next_list f level (trees_of second.old)) }
+    ensures kept { IfOk result (λ it. it ≡ None → second.new ≡ second.old) }
+    ensures way { IfOk result (λ it. LeadsOn counts.now it (λ f. IsWay f level (reverse way.old) (trees_of second.old)) (λ (g : ℕ) h. (w : List ℕ) × (reverse way.new ≡ 1 ∷ w) × IsWay h level w (trees_of second.new))) }
+{
+    let change = change_list(alloc, counts, level, second, way)?;
+    if change.is_some() {
+        way.push(1)?;
+        return Ok(change);
+    }
+    Ok(None)
 }
 
 #[cycle(search)]
@@ -156,5 +204,6 @@ fn change_section(
     ensures rest { IfOk result (λ it. section.new ≡ with_list (list_of section.new) section.old) }
     ensures kept { IfOk result (λ it. it ≡ None → section.new ≡ section.old) }
 {
-    change_list(alloc, counts, level, &mut section.list)
+    let mut way = List::new(alloc);
+    change_list(alloc, counts, level, &mut section.list, &mut way)
 }

@@ -9,3 +9,4 @@ pub mod RealTrees
 pub mod Underway
 pub mod Stays
 pub mod Places
+pub mod Ways

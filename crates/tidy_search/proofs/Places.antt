@@ -121,7 +121,7 @@ quiet_before f n zero (suc (suc d)) (Then x xs) i q = at_still f f (no_fewer (co
 quiet_before f n (suc j) (suc d) (Then x xs) i q = quiet_before f n j d xs (omega (arith, i)) q
 
 -- behind it
-moved_up : (j d : ℕ) (a : Forest) → d < suc j → behind j (removed d a) ≡ behind (suc j) a
+pub moved_up : (j d : ℕ) (a : Forest) → d < suc j → behind j (removed d a) ≡ behind (suc j) a
 moved_up j d Nil i = none_behind j
 moved_up j zero (Then x xs) i = refl
 moved_up zero (suc d) (Then x xs) i = absurd (omega (arith, i))

@@ -2,6 +2,7 @@ use Rattle.std.proofs.Common.{sym, subst}
 use Rattle.c_tree.specs.Trees.{trees_of}
 use Rattle.tidy_search.specs.Places.{IsFoundAt}
 use Rattle.tidy_search.proofs.Places.{none_next, none_some}
+use Rattle.break_recovery.proofs.Ways.{way_goes_on}
 use Rattle.break_recovery.proofs.Outermost.{found_changed, found_goes_on}
 use Rattle.break_recovery.proofs.Undeclared.{body_changed, body_settled}
 use Rattle.break_recovery.proofs.functions.change_list_of.Goals as goal
@@ -16,8 +17,11 @@ returns-in-Some c =
       made = λ f h q e. body_changed f g a b (trees_of c.undeclare-gone.new.list) e (found_changed f g k a b (subst (λ it. IsFoundAt f 2 it a b) c.in-Some.is (c.in_ok-change.ensures.made f h q))) c.undeclare-gone.ensures.gone;
       kept = λ e. none_some g (sym e);
       start = λ x e f h t l q.
-          let r = c.behind_change.result in
-          found_goes_on f h l g k a b (trees_of c.undeclare-gone.new.list) c.undeclare-gone.result r.doubt r.from (subst (λ it. IsFoundAt f 2 it a b) c.in-Some.is (c.in_ok-change.ensures.made f t q)) c.undeclare-gone.ensures.place c.behind_change.ensures;
+          let r = c.behind_change.result in (
+            found_goes_on f h l g k a b (trees_of c.undeclare-gone.new.list) c.undeclare-gone.result r.doubt r.from (subst (λ it. IsFoundAt f 2 it a b) c.in-Some.is (c.in_ok-change.ensures.made f t q)) c.undeclare-gone.ensures.place c.behind_change.ensures.goes_on,
+            way_goes_on h 2 c.change_from.new.way c.keep_way.new.way k c.undeclare-gone.result r.from b (trees_of c.undeclare-gone.new.list) c.undeclare-gone.ensures.place c.behind_change.ensures.way c.keep_way.ensures
+            (c.in_ok-change.ensures.way (g, k) c.in-Some.is f h t l q),
+          );
     }
 
 pub returns-in-None : goal.returns-in-None

@@ -1,14 +1,29 @@
-use Rattle.std.proofs.Common.{refl, ◌∙◌, arith}
+use Rattle.std.proofs.Common.{drop, reverse, refl, sym, subst, ◌∙◌, arith}
+use Rattle.c_tree.specs.Trees.{trees_of}
 use Rattle.tidy_tails.proofs.Counted.{if_ok_more}
-use Rattle.break_recovery.proofs.Outermost.{at_place, past_place}
+use Rattle.tidy_search.specs.Ways.{IsWayAt}
+use Rattle.tidy_search.proofs.Places.{none_some}
+use Rattle.break_recovery.proofs.Outermost.{behind_is, at_place, past_place}
 use Rattle.break_recovery.proofs.places.change_place.Goals as goal
 
 pub returns-then-place-len : goal.returns-then-place-len
 returns-then-place-len c =
+    let xs = c.args.list.now in
+    let n = c.args.level in
+    let i = c.args.place in
+    let v = reverse c.args.way.now in
     record {
-      made = if_ok_more c.change_at.result _ _ (λ it k f h. k f h ∙ at_place c.args.list.now c.args.place f c.args.level) c.change_at.ensures.made;
+      made = if_ok_more c.change_at.result _ _ (λ it k f h p. k f h (subst (IsWayAt f n v) (sym (behind_is i xs)) p) ∙ at_place xs i f n) c.change_at.ensures.made;
       kept = c.change_at.ensures.kept;
+      way = if_ok_more c.change_at.result _ _
+          (λ it k g r f h d l p. subst (IsWayAt h n (reverse c.change_at.new.way)) (behind_is i c.change_at.new.list) (k g r f h d l (subst (IsWayAt f n v) (sym (behind_is i xs)) p)))
+          c.change_at.ensures.way;
     }
 
 pub returns : goal.returns
-returns c = record { made = λ f h. past_place c.args.list.now c.args.place f c.args.level (omega (arith, c.if-place-len.false, c.len.ensures.value)); kept = λ e. refl }
+returns c =
+    record {
+      made = λ f h p. past_place c.args.list.now c.args.place f c.args.level (omega (arith, c.if-place-len.false, c.len.ensures.value));
+      kept = λ e. refl;
+      way = λ g e. none_some g e;
+    }

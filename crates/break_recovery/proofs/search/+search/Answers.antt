@@ -1,16 +1,22 @@
 use mathlib.Core.Path.{ap₂}
-use Rattle.std.proofs.Common.{◌<◌, ◌≤◌, length, take, drop, slice_get, slice_set, refl, sym, ap, ◌∙◌, arith}
+use Rattle.std.proofs.Common.{◌≡◌, suc, ◌+◌, ◌<◌, ◌≤◌, length, take, drop, slice_get, slice_set, reverse, refl, sym, ap, subst, ◌∙◌, arith}
 use Rattle.c_tree.specs.declared.tree.Item.{If, While, Do, For, Switch, Block}
 use Rattle.c_tree.specs.Trees.{trees_of, sections_of, join}
 use Rattle.c_tree.proofs.PathLemmas.{set_same}
 use Rattle.tidy_tails.proofs.Counted.{if_ok_more}
-use Rattle.tidy_search.specs.Next.{put, next_at, next_here, changed_to}
+use Rattle.tidy_search.specs.Next.{put, next_list, next_at, next_here, changed_to}
 use Rattle.break_recovery.proofs.Sizes.{items, items_in, of_if, of_while, of_do, of_for, of_switch, of_block, item_within, section_within}
-use Rattle.break_recovery.proofs.Steps.{starts, goes_on, found, ends, sections_start, sections_go_on, section_found, sections_end, an_entry, no_slot, no_answer, a_slot, an_answer, item_changed, entry_is, here_found, no_here, first_changed, second_changed, if_changed, while_changed, do_changed, for_changed, switch_changed, block_changed, leaf_stays, section_changed}
+use Rattle.tidy_search.specs.Places.{behind, replaced}
+use Rattle.tidy_search.specs.Ways.{IsWayOf}
+use Rattle.tidy_search.proofs.Places.{none_next, none_some}
+use Rattle.tidy_search.proofs.Ways.{no_way, step_in_first, step_in_second}
+use Rattle.break_recovery.proofs.Outermost.{none_found, more_quiet, all_quiet}
+use Rattle.break_recovery.proofs.Ways.{way_told, no_way_of_list, list_stepped, premise_at, at_told, list_found, list_way, item_in, item_out, nothing_made, second_alone, first_out, second_out, if_in, if_out, while_in, while_out, do_in, do_out, for_in, for_out, switch_out, block_in, block_out}
+use Rattle.break_recovery.proofs.Steps.{sections_start, sections_go_on, section_found, sections_end, an_entry, no_slot, no_answer, a_slot, an_answer, item_changed, entry_is, here_found, no_here, first_changed, if_changed, while_changed, do_changed, for_changed, switch_changed, block_changed, leaf_stays, section_changed}
 use Rattle.break_recovery.proofs.search.+search.Goals as goal
 
 pub change_list-loop-i-init : goal.change_list-loop-i-init
-change_list-loop-i-init t c = (refl, λ f h. starts f c.args.level c.args.list.now)
+change_list-loop-i-init t c = (refl, λ f h q. q)
 
 pub change_list-change_at-requires : goal.change_list-change_at-requires
 change_list-change_at-requires t c =
@@ -22,44 +28,67 @@ pub change_list-loop-i-preserved : goal.change_list-loop-i-preserved
 change_list-loop-i-preserved t c =
     let xs = c.args.list.now in
     let i = c.loop-i.i in
+    let n = c.args.level in
     let q = c.loop-i.invariant.0 in
-    let l : i < length xs = omega (arith, c.loop-i-test.true, c.len.ensures.value, ap length q) in
-    let x = an_entry xs i l in
-    let n = sym c.is_some.ensures ∙ c.if-is_some.false in (
-      c.in_ok-change.ensures.kept (no_answer c.in_ok-change.change n) ∙ q,
-      λ f h. goes_on f c.args.level xs i x.0 _ l x.1
-          (c.in_ok-change.ensures.made f h ∙ ap₂ (λ m ys. put (join (trees_of (take i ys))) (next_at f m (trees_of (drop i ys)))) c.in_ok-inside.ensures q)
-          (no_slot c.in_ok-change.change (trees_of c.change_at.new.list) n) (c.loop-i.invariant.1 f h),
+    let o = no_answer c.in_ok-change.change (sym c.is_some.ensures ∙ c.if-is_some.false) in (
+      c.in_ok-change.ensures.kept o ∙ q,
+      λ f h p.
+          let v = c.loop-i.invariant.1 f h p in
+          let k = c.in_ok-change.ensures.made f h (premise_at f n c.in_ok-inside.inside i xs c.loop-i.list (reverse c.loop-i.way) c.in_ok-inside.ensures q v.1) in (
+            more_quiet f (suc n) i (trees_of xs)
+            (none_found (λ c. replaced i c (trees_of xs)) c.in_ok-change.change (trees_of c.change_at.new.list) (next_at f (suc n) (behind i (trees_of xs)))
+            (at_told f n c.in_ok-inside.inside i xs c.loop-i.list c.in_ok-change.change (trees_of c.change_at.new.list) c.in_ok-inside.ensures q k) o) v.0,
+            no_way f (suc n) (reverse c.new.result) (trees_of (drop (i + 1) xs)) (ap reverse c.new.ensures),
+          ),
     )
 
 pub change_list-returns-then-is_some : goal.change_list-returns-then-is_some
 change_list-returns-then-is_some t c =
     let xs = c.args.list.now in
     let i = c.loop-i.i in
+    let n = c.args.level in
+    let m = c.in_ok-inside.inside in
+    let e = c.in_ok-inside.ensures in
     let q = c.loop-i.invariant.0 in
-    let l : i < length xs = omega (arith, c.loop-i-test.true, c.len.ensures.value, ap length q) in
-    let x = an_entry xs i l in
-    let n = sym c.is_some.ensures ∙ c.if-is_some.true in
+    let ys = c.change_at.new.list in
+    let s = c.in_ok-change.change in
+    let o = sym c.is_some.ensures ∙ c.if-is_some.true in
     record {
-      made = λ f h. found f c.args.level xs i x.0 _ l x.1
-          (c.in_ok-change.ensures.made f h ∙ ap₂ (λ m ys. put (join (trees_of (take i ys))) (next_at f m (trees_of (drop i ys)))) c.in_ok-inside.ensures q)
-          (a_slot c.in_ok-change.change (trees_of c.change_at.new.list) n) (c.loop-i.invariant.1 f h);
-      kept = an_answer c.in_ok-change.change n;
+      made = λ f h p.
+          let v = c.loop-i.invariant.1 f h (list_stepped f n c.next_step-i.result (reverse c.args.way.now) (reverse c.next_step-i.new.way) xs c.next_step-i.ensures p) in
+          list_found f n i (trees_of xs) (trees_of ys) s o
+          (at_told f n m i xs c.loop-i.list s (trees_of ys) e q (c.in_ok-change.ensures.made f h (premise_at f n m i xs c.loop-i.list (reverse c.loop-i.way) e q v.1))) v.0;
+      kept = an_answer s o;
+      way = λ g r f h d l p.
+          let v = c.loop-i.invariant.1 f d (list_stepped f n c.next_step-i.result (reverse c.args.way.now) (reverse c.next_step-i.new.way) xs c.next_step-i.ensures p) in
+          let u = premise_at f n m i xs c.loop-i.list (reverse c.loop-i.way) e q v.1 in
+          list_way f h l n m g i xs ys s c.push.new.self c.change_at.new.way e r
+          (at_told f n m i xs c.loop-i.list s (trees_of ys) e q (c.in_ok-change.ensures.made f d u)) v.0
+          c.in_ok-push.ensures.ok (c.in_ok-change.ensures.way g r f h d l u);
     }
 
 pub change_list-returns : goal.change_list-returns
 change_list-returns t c =
     let xs = c.args.list.now in
+    let n = c.args.level in
     let q = c.loop-i.invariant.0 in
     let l : length xs ≤ c.loop-i.i = omega (arith, c.loop-i-test.false, c.len.ensures.value, ap length q) in
-    record { made = λ f h. ends f c.args.level xs c.loop-i.i l (c.loop-i.invariant.1 f h); kept = λ e. q }
+    record {
+      made = λ f h p. sym (none_next f n (trees_of xs) (all_quiet f (suc n) xs c.loop-i.i l (c.loop-i.invariant.1 f h (list_stepped f n c.next_step-i.result (reverse c.args.way.now) (reverse c.next_step-i.new.way) xs c.next_step-i.ensures p)).0));
+      kept = λ e. q;
+      way = λ g e. none_some g e;
+    }
 
 pub change_at-returns-then-is_some : goal.change_at-returns-then-is_some
 change_at-returns-then-is_some t c =
     let xs = c.args.list.now in
     let x = an_entry xs c.args.at c.requires in
     let n = sym c.is_some.ensures ∙ c.if-is_some.true in
-    record { made = λ f h. here_found xs c.args.at x.0 f c.args.level _ c.requires x.1 (c.in_ok-here.ensures.made f h) (a_slot c.in_ok-here.here (trees_of c.change_here.new.list) n); kept = an_answer c.in_ok-here.here n }
+    record {
+      made = λ f h p. here_found xs c.args.at x.0 f c.args.level _ c.requires x.1 (c.in_ok-here.ensures.made f h) (a_slot c.in_ok-here.here (trees_of c.change_here.new.list) n);
+      kept = an_answer c.in_ok-here.here n;
+      way = λ g r f h d l p. no_way h c.args.level (reverse c.new.result) (trees_of (drop c.args.at c.change_here.new.list)) (ap reverse c.new.ensures);
+    }
 
 pub change_at-at_mut-requires : goal.change_at-at_mut-requires
 change_at-at_mut-requires t c =
@@ -75,42 +104,120 @@ change_at-change_item-requires t c =
 
 pub change_at-returns : goal.change_at-returns
 change_at-returns t c =
+    let xs = c.args.list.now in
     let at = c.args.at in
+    let v = reverse c.args.way.now in
     let n = sym c.is_some.ensures ∙ c.if-is_some.false in
     let q = c.in_ok-here.ensures.kept (no_answer c.in_ok-here.here n) in
     let ys = c.change_here.new.list in
     let x = c.at_mut.result.now in
     let l : at < length ys = omega (arith, c.requires, ap length q) in
+    let e = entry_is ys at x c.at_mut.ensures.value in
     record {
       made = if_ok_more c.change_item.result _ _
-          (λ it k f h. item_changed ys at x l (entry_is ys at x c.at_mut.ensures.value) f c.args.level c.change_item.new.item it
-          (ap (λ zs. next_here f c.args.level (trees_of (drop at zs))) q ∙ no_here c.args.list.now at f c.args.level c.in_ok-here.here (trees_of ys) (c.in_ok-here.ensures.made f h) n) (k f h)
+          (λ it k f h p. item_changed ys at x l e f c.args.level c.change_item.new.item it
+          (ap (λ zs. next_here f c.args.level (trees_of (drop at zs))) q ∙ no_here xs at f c.args.level c.in_ok-here.here (trees_of ys) (c.in_ok-here.ensures.made f h) n)
+          (k f h (item_in f c.args.level at v xs ys x l e q p))
           ∙ ap (λ zs. put (join (trees_of (take at zs))) (next_at f c.args.level (trees_of (drop at zs)))) q)
           c.change_item.ensures.made;
       kept = if_ok_more c.change_item.result _ _ (λ it k e. ap (slice_set ys at) (k e) ∙ set_same ys at x c.at_mut.ensures.value ∙ q) c.change_item.ensures.kept;
+      way = if_ok_more c.change_item.result _ _
+          (λ it k g r f h d m p. item_out h c.args.level at (reverse c.change_item.new.way) ys c.change_item.new.item l (k g r f h d m (item_in f c.args.level at v xs ys x l e q p)))
+          c.change_item.ensures.way;
     }
+
+pub change_either-change_second-requires : goal.change_either-change_second-requires
+change_either-change_second-requires t c = (omega (arith, c.decreases), tt)
 
 pub change_either-change_list-requires : goal.change_either-change_list-requires
 change_either-change_list-requires t c = (omega (arith, c.decreases), tt)
 
-pub change_either-change_list-requires-2 : goal.change_either-change_list-requires-2
-change_either-change_list-requires-2 t c = (omega (arith, c.decreases), tt)
+pub change_either-change_second-requires-2 : goal.change_either-change_second-requires-2
+change_either-change_second-requires-2 t c = (omega (arith, c.decreases), tt)
+
+pub change_either-returns-then-next_step-gt0 : goal.change_either-returns-then-next_step-gt0
+change_either-returns-then-next_step-gt0 t c =
+    let n = c.args.level in
+    let a = trees_of c.args.first.now in
+    let b = trees_of c.args.second.now in
+    let k = c.next_step.result in
+    let v = reverse c.args.way.now in
+    let w = reverse c.next_step.new.way in
+    let z = c.if-next_step-gt0.true in
+    let r = c.change_second.new.second in
+    record {
+      made = if_ok_more c.change_second.result _ _
+          (λ it m f h p.
+          let u = step_in_second f n k v w a b z c.next_step.ensures p in
+          second_alone f n a b (trees_of r) it u.0 (m f h u.1)) c.change_second.ensures.made;
+      kept = if_ok_more c.change_second.result _ _ (λ it m e. (refl, m e)) c.change_second.ensures.kept;
+      way = if_ok_more c.change_second.result _ _
+          (λ it m g e f h d l p.
+          let u = step_in_second f n k v w a b z c.next_step.ensures p in
+          second_out f h l n (reverse c.change_second.new.way) a (trees_of r) u.0 (m g e f h d l u.1)) c.change_second.ensures.way;
+    }
 
 pub change_either-returns-then-is_some : goal.change_either-returns-then-is_some
 change_either-returns-then-is_some t c =
-    let n = sym c.is_some.ensures ∙ c.if-is_some.true in
-    record { made = λ f h. first_changed f c.args.level (trees_of c.args.first.now) (trees_of c.args.second.now) (trees_of c.change_list.new.list) c.in_ok-change.change (c.in_ok-change.ensures.made f h) n; kept = an_answer c.in_ok-change.change n }
+    let n = c.args.level in
+    let a = trees_of c.args.first.now in
+    let b = trees_of c.args.second.now in
+    let k = c.next_step.result in
+    let v = reverse c.args.way.now in
+    let w = reverse c.next_step.new.way in
+    let o = sym c.is_some.ensures ∙ c.if-is_some.true in
+    let z : k ≡ 0 = omega (arith, c.if-next_step-gt0.false) in
+    record {
+      made = λ f h p. first_changed f n a b (trees_of c.change_list.new.list) c.in_ok-change.change (c.in_ok-change.ensures.made f h (step_in_first f n k v w a b z c.next_step.ensures p)) o;
+      kept = an_answer c.in_ok-change.change o;
+      way = λ g r f h d l p. first_out h n c.push.new.self c.change_list.new.way (trees_of c.change_list.new.list) b c.in_ok-push.ensures.ok
+          (c.in_ok-change.ensures.way g r f h d l (step_in_first f n k v w a b z c.next_step.ensures p));
+    }
 
 pub change_either-returns : goal.change_either-returns
 change_either-returns t c =
-    let n = sym c.is_some.ensures ∙ c.if-is_some.false in
-    let q = c.in_ok-change.ensures.kept (no_answer c.in_ok-change.change n) in
+    let n = c.args.level in
+    let a = trees_of c.args.first.now in
+    let b = trees_of c.args.second.now in
+    let k = c.next_step.result in
+    let v = reverse c.args.way.now in
+    let w = reverse c.next_step.new.way in
+    let o = no_answer c.in_ok-change.change (sym c.is_some.ensures ∙ c.if-is_some.false) in
+    let z : k ≡ 0 = omega (arith, c.if-next_step-gt0.false) in
+    let q = c.in_ok-change.ensures.kept o in
+    let r = trees_of c.change_second-2.new.second in
     record {
-      made = if_ok_more c.change_list-2.result _ _
-          (λ it k f h. ap (λ a. changed_to it (trees_of a, trees_of c.change_list-2.new.list)) q
-          ∙ second_changed f c.args.level (trees_of c.args.first.now) (trees_of c.args.second.now) (trees_of c.change_list.new.list) (trees_of c.change_list-2.new.list) c.in_ok-change.change it (c.in_ok-change.ensures.made f h) n (k f h))
-          c.change_list-2.ensures.made;
-      kept = if_ok_more c.change_list-2.result _ _ (λ it k e. (q, k e)) c.change_list-2.ensures.kept;
+      made = if_ok_more c.change_second-2.result _ _
+          (λ it m f h p. ap (λ xs. changed_to it (trees_of xs, r)) q
+          ∙ second_alone f n a b r it (nothing_made c.in_ok-change.change (trees_of c.change_list.new.list) (next_list f n a) o (c.in_ok-change.ensures.made f h (step_in_first f n k v w a b z c.next_step.ensures p)))
+          (m f h (no_way_of_list f n c.new.result b c.new.ensures))) c.change_second-2.ensures.made;
+      kept = if_ok_more c.change_second-2.result _ _ (λ it m e. (q, m e)) c.change_second-2.ensures.kept;
+      way = if_ok_more c.change_second-2.result _ _
+          (λ it m g e f h d l p. subst (λ xs. IsWayOf h n (reverse c.change_second-2.new.way) (trees_of xs) r) (sym q)
+          (second_out f h l n (reverse c.change_second-2.new.way) a r
+          (nothing_made c.in_ok-change.change (trees_of c.change_list.new.list) (next_list f n a) o (c.in_ok-change.ensures.made f d (step_in_first f n k v w a b z c.next_step.ensures p)))
+          (m g e f h d l (no_way_of_list f n c.new.result b c.new.ensures)))) c.change_second-2.ensures.way;
+    }
+
+pub change_second-change_list-requires : goal.change_second-change_list-requires
+change_second-change_list-requires t c = (omega (arith, c.decreases), tt)
+
+pub change_second-returns-then-is_some : goal.change_second-returns-then-is_some
+change_second-returns-then-is_some t c =
+    let o = sym c.is_some.ensures ∙ c.if-is_some.true in
+    record {
+      made = c.in_ok-change.ensures.made;
+      kept = an_answer c.in_ok-change.change o;
+      way = λ g r f h d l p. (reverse c.change_list.new.way, way_told c.push.new.self c.change_list.new.way 1 c.in_ok-push.ensures.ok, c.in_ok-change.ensures.way g r f h d l p);
+    }
+
+pub change_second-returns : goal.change_second-returns
+change_second-returns t c =
+    let o = no_answer c.in_ok-change.change (sym c.is_some.ensures ∙ c.if-is_some.false) in
+    record {
+      made = λ f h p. ap (λ s. changed_to s (trees_of c.change_list.new.list)) (sym o) ∙ c.in_ok-change.ensures.made f h p;
+      kept = λ e. c.in_ok-change.ensures.kept o;
+      way = λ g e. none_some g e;
     }
 
 pub change_section-change_list-requires : goal.change_section-change_list-requires
@@ -188,33 +295,82 @@ change_item-change_list-change-requires-in-Block t c = let n = of_block c.args.i
 pub change_item-returns-in-If : goal.change_item-returns-in-If
 change_item-returns-in-If t c =
     let e = sym c.replace.ensures.value ∙ c.in-If.is in
-    record { made = if_ok_more c.change_either-change.result _ _ (λ it k f h. if_changed f c.args.level c.args.item.now it c.in-If.test c.in-If.a c.in-If.b c.change_either-change.new.first c.change_either-change.new.second e (k f h)) c.change_either-change.ensures.made; kept = if_ok_more c.change_either-change.result _ _ (λ it k d. ap₂ (If c.in-If.test) (k d).0 (k d).1 ∙ sym e) c.change_either-change.ensures.kept }
+    let n = c.args.level in
+    let x = c.args.item.now in
+    let v = reverse c.args.way.now in
+    let w = reverse c.change_either-change.new.way in
+    record {
+      made = if_ok_more c.change_either-change.result _ _ (λ it k f h p. if_changed f n x it c.in-If.test c.in-If.a c.in-If.b c.change_either-change.new.first c.change_either-change.new.second e (k f h (if_in f n v x c.in-If.test c.in-If.a c.in-If.b e p))) c.change_either-change.ensures.made;
+      kept = if_ok_more c.change_either-change.result _ _ (λ it k d. ap₂ (If c.in-If.test) (k d).0 (k d).1 ∙ sym e) c.change_either-change.ensures.kept;
+      way = if_ok_more c.change_either-change.result _ _ (λ it k g r f h d l p. if_out h n w c.in-If.test c.change_either-change.new.first c.change_either-change.new.second (k g r f h d l (if_in f n v x c.in-If.test c.in-If.a c.in-If.b e p))) c.change_either-change.ensures.way;
+    }
 
 pub change_item-returns-in-While : goal.change_item-returns-in-While
 change_item-returns-in-While t c =
     let e = sym c.replace.ensures.value ∙ c.in-While.is in
-    record { made = if_ok_more c.change_list-change.result _ _ (λ it k f h. while_changed f c.args.level c.args.item.now it c.in-While.test c.in-While.a c.change_list-change.new.list e (k f h)) c.change_list-change.ensures.made; kept = if_ok_more c.change_list-change.result _ _ (λ it k d. ap (While c.in-While.test) (k d) ∙ sym e) c.change_list-change.ensures.kept }
+    let n = c.args.level in
+    let x = c.args.item.now in
+    let v = reverse c.args.way.now in
+    let w = reverse c.change_list-change.new.way in
+    record {
+      made = if_ok_more c.change_list-change.result _ _ (λ it k f h p. while_changed f n x it c.in-While.test c.in-While.a c.change_list-change.new.list e (k f h (while_in f n v x c.in-While.test c.in-While.a e p))) c.change_list-change.ensures.made;
+      kept = if_ok_more c.change_list-change.result _ _ (λ it k d. ap (While c.in-While.test) (k d) ∙ sym e) c.change_list-change.ensures.kept;
+      way = if_ok_more c.change_list-change.result _ _ (λ it k g r f h d l p. while_out h n w c.in-While.test c.change_list-change.new.list (k g r f h d l (while_in f n v x c.in-While.test c.in-While.a e p))) c.change_list-change.ensures.way;
+    }
 
 pub change_item-returns-in-Do : goal.change_item-returns-in-Do
 change_item-returns-in-Do t c =
     let e = sym c.replace.ensures.value ∙ c.in-Do.is in
-    record { made = if_ok_more c.change_list-change-in-Do.result _ _ (λ it k f h. do_changed f c.args.level c.args.item.now it c.in-Do.test c.in-Do.a c.change_list-change-in-Do.new.list e (k f h)) c.change_list-change-in-Do.ensures.made; kept = if_ok_more c.change_list-change-in-Do.result _ _ (λ it k d. ap (λ a. Do a c.in-Do.test) (k d) ∙ sym e) c.change_list-change-in-Do.ensures.kept }
+    let n = c.args.level in
+    let x = c.args.item.now in
+    let v = reverse c.args.way.now in
+    let w = reverse c.change_list-change-in-Do.new.way in
+    record {
+      made = if_ok_more c.change_list-change-in-Do.result _ _ (λ it k f h p. do_changed f n x it c.in-Do.test c.in-Do.a c.change_list-change-in-Do.new.list e (k f h (do_in f n v x c.in-Do.test c.in-Do.a e p))) c.change_list-change-in-Do.ensures.made;
+      kept = if_ok_more c.change_list-change-in-Do.result _ _ (λ it k d. ap (λ a. Do a c.in-Do.test) (k d) ∙ sym e) c.change_list-change-in-Do.ensures.kept;
+      way = if_ok_more c.change_list-change-in-Do.result _ _ (λ it k g r f h d l p. do_out h n w c.in-Do.test c.change_list-change-in-Do.new.list (k g r f h d l (do_in f n v x c.in-Do.test c.in-Do.a e p))) c.change_list-change-in-Do.ensures.way;
+    }
 
 pub change_item-returns-in-For : goal.change_item-returns-in-For
 change_item-returns-in-For t c =
     let e = sym c.replace.ensures.value ∙ c.in-For.is in
-    record { made = if_ok_more c.change_either-change-in-For.result _ _ (λ it k f h. for_changed f c.args.level c.args.item.now it c.in-For.test c.in-For.third c.in-For.first c.in-For.a c.change_either-change-in-For.new.first c.change_either-change-in-For.new.second e (k f h)) c.change_either-change-in-For.ensures.made; kept = if_ok_more c.change_either-change-in-For.result _ _ (λ it k d. ap₂ (λ a b. For a c.in-For.test c.in-For.third b) (k d).0 (k d).1 ∙ sym e) c.change_either-change-in-For.ensures.kept }
+    let n = c.args.level in
+    let x = c.args.item.now in
+    let v = reverse c.args.way.now in
+    let w = reverse c.change_either-change-in-For.new.way in
+    record {
+      made = if_ok_more c.change_either-change-in-For.result _ _ (λ it k f h p. for_changed f n x it c.in-For.test c.in-For.third c.in-For.first c.in-For.a c.change_either-change-in-For.new.first c.change_either-change-in-For.new.second e (k f h (for_in f n v x c.in-For.first c.in-For.test c.in-For.third c.in-For.a e p))) c.change_either-change-in-For.ensures.made;
+      kept = if_ok_more c.change_either-change-in-For.result _ _ (λ it k d. ap₂ (λ a b. For a c.in-For.test c.in-For.third b) (k d).0 (k d).1 ∙ sym e) c.change_either-change-in-For.ensures.kept;
+      way = if_ok_more c.change_either-change-in-For.result _ _ (λ it k g r f h d l p. for_out h n w c.change_either-change-in-For.new.first c.in-For.test c.in-For.third c.change_either-change-in-For.new.second (k g r f h d l (for_in f n v x c.in-For.first c.in-For.test c.in-For.third c.in-For.a e p))) c.change_either-change-in-For.ensures.way;
+    }
 
 pub change_item-returns-in-Switch : goal.change_item-returns-in-Switch
 change_item-returns-in-Switch t c =
     let e = sym c.replace.ensures.value ∙ c.in-Switch.is in
-    record { made = if_ok_more c.change_sections-change.result _ _ (λ it k f h. switch_changed f c.args.level c.args.item.now it c.in-Switch.selector c.in-Switch.sections c.change_sections-change.new.sections e (k f h)) c.change_sections-change.ensures.made; kept = if_ok_more c.change_sections-change.result _ _ (λ it k d. ap (Switch c.in-Switch.selector) (k d) ∙ sym e) c.change_sections-change.ensures.kept }
+    let n = c.args.level in
+    record {
+      made = if_ok_more c.change_sections-change.result _ _ (λ it k f h p. switch_changed f n c.args.item.now it c.in-Switch.selector c.in-Switch.sections c.change_sections-change.new.sections e (k f h)) c.change_sections-change.ensures.made;
+      kept = if_ok_more c.change_sections-change.result _ _ (λ it k d. ap (Switch c.in-Switch.selector) (k d) ∙ sym e) c.change_sections-change.ensures.kept;
+      way = if_ok_more c.change_sections-change.result _ _ (λ it k g r f h d l p. switch_out h n (reverse c.args.way.now) c.in-Switch.selector c.change_sections-change.new.sections) c.change_sections-change.ensures.kept;
+    }
 
 pub change_item-returns-in-Block : goal.change_item-returns-in-Block
 change_item-returns-in-Block t c =
     let e = sym c.replace.ensures.value ∙ c.in-Block.is in
-    record { made = if_ok_more c.change_list-change-in-Block.result _ _ (λ it k f h. block_changed f c.args.level c.args.item.now it c.in-Block.a c.change_list-change-in-Block.new.list e (k f h)) c.change_list-change-in-Block.ensures.made; kept = if_ok_more c.change_list-change-in-Block.result _ _ (λ it k d. ap Block (k d) ∙ sym e) c.change_list-change-in-Block.ensures.kept }
+    let n = c.args.level in
+    let x = c.args.item.now in
+    let v = reverse c.args.way.now in
+    let w = reverse c.change_list-change-in-Block.new.way in
+    record {
+      made = if_ok_more c.change_list-change-in-Block.result _ _ (λ it k f h p. block_changed f n x it c.in-Block.a c.change_list-change-in-Block.new.list e (k f h (block_in f n v x c.in-Block.a e p))) c.change_list-change-in-Block.ensures.made;
+      kept = if_ok_more c.change_list-change-in-Block.result _ _ (λ it k d. ap Block (k d) ∙ sym e) c.change_list-change-in-Block.ensures.kept;
+      way = if_ok_more c.change_list-change-in-Block.result _ _ (λ it k g r f h d l p. block_out h n w c.change_list-change-in-Block.new.list (k g r f h d l (block_in f n v x c.in-Block.a e p))) c.change_list-change-in-Block.ensures.way;
+    }
 
 pub change_item-returns-in_default : goal.change_item-returns-in_default
 change_item-returns-in_default t c =
-    record { made = λ f h. leaf_stays f c.args.level c.args.item.now c.replace.result (sym c.replace.ensures.value) c.in_default.not-If c.in_default.not-While c.in_default.not-Do c.in_default.not-For c.in_default.not-Switch c.in_default.not-Block; kept = λ e. c.replace.ensures.value }
+    record {
+      made = λ f h p. leaf_stays f c.args.level c.args.item.now c.replace.result (sym c.replace.ensures.value) c.in_default.not-If c.in_default.not-While c.in_default.not-Do c.in_default.not-For c.in_default.not-Switch c.in_default.not-Block;
+      kept = λ e. c.replace.ensures.value;
+      way = λ g e. none_some g e;
+    }

@@ -1,10 +1,12 @@
-use Rattle.std.proofs.Common.{◌≡◌, ◌+◌, ◌-◌, ◌*◌, length}
+use Rattle.std.proofs.Common.{◌≡◌, suc, ◌+◌, ◌-◌, ◌*◌, length, drop, reverse}
 use Rattle.c_tree.specs.Paths.{list_of}
 use Rattle.c_tree.specs.Trees.{tree_of, trees_of, sections_of}
 use Rattle.jump_meaning.specs.Code.{FunctionTree}
 use Rattle.tidy_loops.specs.Slots.{Tells}
 use Rattle.break_recovery.proofs.Sizes.{items, items_of, items_in}
-use Rattle.break_recovery.proofs.Steps.{Goes, SectionsGo}
+use Rattle.tidy_search.specs.Places.{AreQuiet}
+use Rattle.tidy_search.specs.Ways.{IsWayAt}
+use Rattle.break_recovery.proofs.Steps.{SectionsGo}
 use Rattle.break_recovery.proofs.search.+search.Given as goal
 
 abbrev pub decreases-change_item : goal.decreases-change_item
@@ -17,7 +19,10 @@ abbrev pub decreases-change_list : goal.decreases-change_list
 decreases-change_list l = 6 * items (trees_of l.list.now) + 2
 
 abbrev pub decreases-change_either : goal.decreases-change_either
-decreases-change_either l = 6 * (items (trees_of l.first.now) + items (trees_of l.second.now)) + 3
+decreases-change_either l = 6 * (items (trees_of l.first.now) + items (trees_of l.second.now)) + 4
+
+abbrev pub decreases-change_second : goal.decreases-change_second
+decreases-change_second l = 6 * items (trees_of l.second.now) + 3
 
 abbrev pub decreases-change_section : goal.decreases-change_section
 decreases-change_section l = 6 * items (trees_of (list_of l.section.now)) + 3
@@ -26,7 +31,10 @@ abbrev pub decreases-change_sections : goal.decreases-change_sections
 decreases-change_sections l = 6 * items_in (sections_of l.sections.now) + 4
 
 abbrev pub invariant-change_list-loop-i : goal.invariant-change_list-loop-i
-invariant-change_list-loop-i l = (l.list ≡ l.initial.list) × ((f : FunctionTree) → Tells l.counts f → Goes f l.level l.initial.list l.i)
+invariant-change_list-loop-i l =
+    (l.list ≡ l.initial.list)
+    × ((f : FunctionTree) → Tells l.counts f → AreQuiet f (suc l.level) l.initial.i (trees_of l.initial.list) × IsWayAt f (suc l.level) (reverse l.initial.way) (trees_of (drop l.initial.i l.initial.list))
+    → AreQuiet f (suc l.level) l.i (trees_of l.initial.list) × IsWayAt f (suc l.level) (reverse l.way) (trees_of (drop l.i l.initial.list)))
 
 abbrev pub decreases-change_list-loop-i : goal.decreases-change_list-loop-i
 decreases-change_list-loop-i l = length l.list - l.i
