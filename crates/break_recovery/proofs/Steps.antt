@@ -1,4 +1,4 @@
--- A search that goes on from one item to the next.
+-- A search of sections that goes on from one to the next, and what is changed in place.
 use mathlib.Core.Path.{ap₂}
 use Rattle.std.proofs.Common.{ℕ, zero, suc, ◌+◌, ◌<◌, ◌≤◌, arith, true, false, List, [], ◌∷◌, ◌++◌, length, take, drop, get_or, slice_get, slice_set, option_map, Option, Some, None, is_some, ◌≡◌, refl, sym, ap, ◌∙◌}
 use Rattle.std.specs.Prelude.{remove}
@@ -14,15 +14,13 @@ use Rattle.c_tree.specs.TestTrees.{test_tree, selector_tree}
 use Rattle.c_tree.specs.Trees as P
 use Rattle.c_tree.specs.declared.tree.Section as Real
 use Rattle.c_tree.specs.Trees.{Tree, Forest, Then, Sections, Section, trees_of, sections_of, expression_trees, join}
-use Rattle.c_tree.specs.Changed.{one}
 use Rattle.c_tree.proofs.TreeLaws.{trees-none, sections-none}
 use Rattle.jump_meaning.specs.Code.{FunctionTree}
 use Rattle.c_tree.specs.Views.{layer_at, tree_at, before}
-use Rattle.c_tree.proofs.Views.{trees-first, trees-at, trees-end, trees-push, section-first, sections-at, sections-end, at-If, at-While, at-Do, at-For, at-Switch, at-Block}
+use Rattle.c_tree.proofs.Views.{trees-first, trees-at, trees-end, section-first, sections-at, sections-end, at-If, at-While, at-Do, at-For, at-Switch, at-Block}
 use Rattle.c_tree.specs.Paths.{list_of}
 use Rattle.c_tree.specs.Paths as Paths
 use Rattle.tidy_loops.specs.Slots.{broken, continued, but_first}
-use Rattle.tidy_tails.proofs.Made.{join_join}
 use Rattle.tidy_search.specs.Next.{or_else, put, next_list, next_sections, next_at, next_here, next_item, next_either, with_list, behind_sections, broken_first, continued_first, changed_to}
 use Rattle.tidy_search.proofs.NextLaws.{more, in_if, in_while, in_do, in_for, in_switch, in_block, more_sections}
 
@@ -46,39 +44,6 @@ nothing F r (Some c) e h = absurd (some_none (c.0, F c.1) (sym e ∙ h))
 something : {A B : Type 0} (F : A → B) (r : Option (ℕ × B)) (o more : Option (ℕ × A)) → r ≡ put F o → (r ≡ None → ⊥) → put F (or_else o more) ≡ r
 something F r None more e h = absurd (h e)
 something F r (Some c) more e h = sym e
-
--- ---- lists
-
-module _ (f : FunctionTree) (n : ℕ) (xs : List Item) where
-  -- the search goes on at this place
-  abbrev pub Goes : ℕ → Type 0
-  Goes i = next_list f n (trees_of xs) ≡ put (join (trees_of (take i xs))) (next_list f n (trees_of (drop i xs)))
-
-  pub starts : Goes 0
-  starts = sym (put_all (join (trees_of (take 0 xs))) (λ x. ap (λ z. join z x) trees-none) (next_list f n (trees_of xs)))
-
-  front : (i : ℕ) (x : Item) → i < length xs → x ≡ get_or xs i x → (a : Forest) → join (trees_of (take i xs)) (Then (tree_at x) a) ≡ join (trees_of (take (i + 1) xs)) a
-  front i x h e a =
-      sym (ap (λ z. join z a) (ap trees_of (take_more xs i x h ∙ ap (λ z. take i xs ++ z ∷ []) (sym e)) ∙ trees-push (take i xs) x) ∙ join_join (trees_of (take i xs)) (one (tree_at x)) a)
-
-  pub goes_on : (i : ℕ) (x : Item) (r : Option (ℕ × Forest)) → i < length xs → x ≡ get_or xs i x → r ≡ put (join (trees_of (take i xs))) (next_at f (suc n) (trees_of (drop i xs))) → r ≡ None → Goes i → Goes (i + 1)
-  goes_on i x r h e k o g =
-      let F = join (trees_of (take i xs)) in
-      let rest = trees_of (drop (i + 1) xs) in
-      let t = trees-at xs i x h e in
-      g ∙ ap (put F) (ap (next_list f n) t ∙ more f n (tree_at x) rest ∙ ap (λ z. or_else z (put (Then (tree_at x)) (next_list f n rest))) (ap (next_at f (suc n)) (sym t) ∙ nothing F r (next_at f (suc n) (trees_of (drop i xs))) k o))
-      ∙ put_put F (Then (tree_at x)) (join (trees_of (take (i + 1) xs))) (front i x h e) (next_list f n rest)
-
-  pub found : (i : ℕ) (x : Item) (r : Option (ℕ × Forest)) → i < length xs → x ≡ get_or xs i x → r ≡ put (join (trees_of (take i xs))) (next_at f (suc n) (trees_of (drop i xs))) → (r ≡ None → ⊥) → Goes i → r ≡ next_list f n (trees_of xs)
-  found i x r h e k o g =
-      let F = join (trees_of (take i xs)) in
-      let rest = trees_of (drop (i + 1) xs) in
-      let t = trees-at xs i x h e in
-      sym (g ∙ ap (put F) (ap (next_list f n) t ∙ more f n (tree_at x) rest ∙ ap (λ z. or_else (next_at f (suc n) z) (put (Then (tree_at x)) (next_list f n rest))) (sym t))
-      ∙ something F r (next_at f (suc n) (trees_of (drop i xs))) (put (Then (tree_at x)) (next_list f n rest)) k o)
-
-  pub ends : (i : ℕ) → length xs ≤ i → Goes i → None ≡ next_list f n (trees_of xs)
-  ends i h g = sym (g ∙ ap (λ z. put (join (trees_of (take i xs))) (next_list f n z)) (trees-end xs i h))
 
 -- ---- sections
 
@@ -270,11 +235,6 @@ either_in F (Some c) p a b = refl
 pub first_changed : (f : FunctionTree) (n : ℕ) (a b v : Forest) (s : Option ℕ) → changed_to s v ≡ next_list f n a → is_some s ≡ true → changed_to s (v, b) ≡ next_either f n a b
 first_changed f n a b v None k h = cc
 first_changed f n a b v (Some g) k h = ap (λ o. or_else (put (λ c. (c, b)) o) (put (λ c. (a, c)) (next_list f n b))) k
-
-pub second_changed : (f : FunctionTree) (n : ℕ) (a b v w : Forest) (s r : Option ℕ) → changed_to s v ≡ next_list f n a → is_some s ≡ false → changed_to r w ≡ next_list f n b → changed_to r (a, w) ≡ next_either f n a b
-second_changed f n a b v w s r k h l =
-    sym (put_changed (λ c. (a, c)) r w) ∙ ap (put (λ c. (a, c))) l
-    ∙ ap (λ o. or_else (put (λ c. (c, b)) o) (put (λ c. (a, c)) (next_list f n b))) (sym (no_slot s v h) ∙ k)
 
 module _ (f : FunctionTree) (n : ℕ) (x : Item) (s : Option ℕ) where
   abbrev pub Changes : Item → Type 0

@@ -1,6 +1,6 @@
 -- Ways of lists of items, and how the search goes on with them.
 use mathlib.Core.Path.{ap₂}
-use Rattle.std.proofs.Common.{ℕ, zero, suc, ◌+◌, ◌<◌, ◌≤◌, ◌⊎◌, inl, inr, arith, true, false, List, [], ◌∷◌, ◌++◌, length, take, drop, get_or, slice_set, reverse, option_map, Option, Some, None, is_some, ◌≡◌, refl, sym, ap, subst, ◌∙◌}
+use Rattle.std.proofs.Common.{ℕ, zero, suc, ◌+◌, ◌<◌, ◌⊎◌, inl, inr, arith, true, List, [], ◌∷◌, ◌++◌, length, take, drop, get_or, slice_set, reverse, option_map, Option, Some, None, is_some, ◌≡◌, refl, sym, ap, subst, ◌∙◌}
 use Rattle.std.proofs.lemmas.List.{reverse-append}
 use Rattle.c_tree.specs.declared.tree.Item.{Item, If, While, Do, For, Switch, Block}
 use Rattle.c_tree.specs.declared.tree.Expression.{Expression}

@@ -1,9 +1,9 @@
 -- The search goes on at the end of a way, and a change makes one.
-use Rattle.std.proofs.Common.{ℕ, zero, suc, ◌-◌, ◌<◌, ◌≤◌, ◌⊎◌, inl, inr, List, [], ◌∷◌, Option, Some, None, ◌≡◌, refl, sym, ap, subst, ◌∙◌, arith}
+use Rattle.std.proofs.Common.{ℕ, zero, suc, ◌-◌, ◌<◌, ◌≤◌, inl, inr, List, [], ◌∷◌, Option, Some, None, ◌≡◌, refl, sym, ap, subst, ◌∙◌, arith}
 use Rattle.std.proofs.lemmas.Bool.{cases_lt}
 use Rattle.c_tree.specs.ExpressionTrees.{ExpressionTree}
 use Rattle.c_tree.specs.TestTrees.{TestTree}
-use Rattle.c_tree.specs.Trees.{Tree, Forest, Nil, Then, If, While, Do, For, Block}
+use Rattle.c_tree.specs.Trees.{Forest, Nil, Then, If, While, Do, For, Block}
 use Rattle.jump_meaning.specs.Code.{FunctionTree}
 use Rattle.tidy_loops.specs.Slots.{counts_of}
 use Rattle.tidy_search.specs.Next.{next_list, next_at}

@@ -20,7 +20,7 @@ returns-in-Some c =
           let r = c.behind_change.result in (
             found_goes_on f h l g k a b (trees_of c.undeclare-gone.new.list) c.undeclare-gone.result r.doubt r.from (subst (λ it. IsFoundAt f 2 it a b) c.in-Some.is (c.in_ok-change.ensures.made f t q)) c.undeclare-gone.ensures.place c.behind_change.ensures.goes_on,
             way_goes_on h 2 c.change_from.new.way c.keep_way.new.way k c.undeclare-gone.result r.from b (trees_of c.undeclare-gone.new.list) c.undeclare-gone.ensures.place c.behind_change.ensures.way c.keep_way.ensures
-            (c.in_ok-change.ensures.way (g, k) c.in-Some.is f h t l q),
+                (c.in_ok-change.ensures.way (g, k) c.in-Some.is f h t l q),
           );
     }
 

@@ -1,6 +1,6 @@
-use Rattle.std.proofs.Common.{◌≤◌, ◌+◌, length, reverse, refl, sym, ap, subst, ◌∙◌, arith}
+use Rattle.std.proofs.Common.{◌≤◌, ◌+◌, length, reverse, refl, ap, subst, ◌∙◌, arith}
 use Rattle.c_tree.specs.Trees.{trees_of}
-use Rattle.tidy_search.specs.Next.{put, next_at}
+use Rattle.tidy_search.specs.Next.{next_at}
 use Rattle.tidy_search.specs.Places.{behind, replaced}
 use Rattle.tidy_search.specs.Ways.{IsWayAt}
 use Rattle.tidy_search.proofs.Places.{none_some}
@@ -22,9 +22,9 @@ loop-i-preserved c =
       λ f h g p.
           let v = c.loop-i.invariant.1 f h g p in (
             more_quiet f n i (trees_of xs)
-            (none_found (λ c. replaced i c (trees_of xs)) c.in_ok-change.change (trees_of c.change_place.new.list) (next_at f n (behind i (trees_of xs)))
-            (place_told f n i xs c.loop-i.list c.in_ok-change.change (trees_of c.change_place.new.list) q
-            (c.in_ok-change.ensures.made f h (place_in f n i xs c.loop-i.list (reverse c.loop-i.way) q v.1))) c.in-None.is) v.0,
+                (none_found (λ c. replaced i c (trees_of xs)) c.in_ok-change.change (trees_of c.change_place.new.list) (next_at f n (behind i (trees_of xs)))
+                (place_told f n i xs c.loop-i.list c.in_ok-change.change (trees_of c.change_place.new.list) q
+                (c.in_ok-change.ensures.made f h (place_in f n i xs c.loop-i.list (reverse c.loop-i.way) q v.1))) c.in-None.is) v.0,
             no_way f n (reverse c.new.result) (behind (i + 1) (trees_of xs)) (ap reverse c.new.ensures),
           ),
     )

@@ -35,12 +35,12 @@ returns-in-None c =
     let u = c.new-inside.result in
     let v = reverse c.args.way.now in
     let r : (f : FunctionTree) → Tells c.args.counts.now f → AreQuietBut f n s.doubt s.from a → AreQuiet f n s.from (trees_of c.change_place.new.list) = λ f h q.
-        subst (λ xs. AreQuiet f n s.from (trees_of xs)) (sym e)
-        (doubt_gone f n s.doubt s.from a
-        (none_found (λ c. replaced s.doubt c a) c.in_ok-change.change (trees_of c.change_place.new.list) (next_at f n (behind s.doubt a))
-        (c.in_ok-change.ensures.made f h (no_way f n (reverse u) (behind s.doubt a) (ap reverse c.new-inside.ensures))) c.in-None.is) q) in
+    subst (λ xs. AreQuiet f n s.from (trees_of xs)) (sym e)
+    (doubt_gone f n s.doubt s.from a
+    (none_found (λ c. replaced s.doubt c a) c.in_ok-change.change (trees_of c.change_place.new.list) (next_at f n (behind s.doubt a))
+    (c.in_ok-change.ensures.made f h (no_way f n (reverse u) (behind s.doubt a) (ap reverse c.new-inside.ensures))) c.in-None.is) q) in
     let w : (f : FunctionTree) → IsWayAt f n v (behind s.from a) → IsWayAt f n v (behind s.from (trees_of c.change_place.new.list)) = λ f p.
-        subst (λ xs. IsWayAt f n v (behind s.from (trees_of xs))) (sym e) p in
+    subst (λ xs. IsWayAt f n v (behind s.from (trees_of xs))) (sym e) p in
     record {
       made = if_ok_more c.change_behind.result _ _
           (λ it k f h q. subst (λ xs. IsFoundAt f n it (trees_of xs) (trees_of c.change_behind.new.list)) e (k f h (r f h q.0) (w f q.1)))

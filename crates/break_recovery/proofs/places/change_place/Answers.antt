@@ -1,5 +1,4 @@
-use Rattle.std.proofs.Common.{drop, reverse, refl, sym, subst, ◌∙◌, arith}
-use Rattle.c_tree.specs.Trees.{trees_of}
+use Rattle.std.proofs.Common.{reverse, refl, sym, subst, ◌∙◌, arith}
 use Rattle.tidy_tails.proofs.Counted.{if_ok_more}
 use Rattle.tidy_search.specs.Ways.{IsWayAt}
 use Rattle.tidy_search.proofs.Places.{none_some}

@@ -36,8 +36,8 @@ change_list-loop-i-preserved t c =
           let v = c.loop-i.invariant.1 f h p in
           let k = c.in_ok-change.ensures.made f h (premise_at f n c.in_ok-inside.inside i xs c.loop-i.list (reverse c.loop-i.way) c.in_ok-inside.ensures q v.1) in (
             more_quiet f (suc n) i (trees_of xs)
-            (none_found (λ c. replaced i c (trees_of xs)) c.in_ok-change.change (trees_of c.change_at.new.list) (next_at f (suc n) (behind i (trees_of xs)))
-            (at_told f n c.in_ok-inside.inside i xs c.loop-i.list c.in_ok-change.change (trees_of c.change_at.new.list) c.in_ok-inside.ensures q k) o) v.0,
+                (none_found (λ c. replaced i c (trees_of xs)) c.in_ok-change.change (trees_of c.change_at.new.list) (next_at f (suc n) (behind i (trees_of xs)))
+                (at_told f n c.in_ok-inside.inside i xs c.loop-i.list c.in_ok-change.change (trees_of c.change_at.new.list) c.in_ok-inside.ensures q k) o) v.0,
             no_way f (suc n) (reverse c.new.result) (trees_of (drop (i + 1) xs)) (ap reverse c.new.ensures),
           ),
     )
