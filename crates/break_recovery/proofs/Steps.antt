@@ -1,8 +1,7 @@
--- A search of sections that goes on from one to the next, and what is changed in place.
+-- The search among sections, and what is changed in place.
 use mathlib.Core.Path.{ap₂}
-use Rattle.std.proofs.Common.{ℕ, zero, suc, ◌+◌, ◌<◌, ◌≤◌, arith, true, false, List, [], ◌∷◌, ◌++◌, length, take, drop, get_or, slice_get, slice_set, option_map, Option, Some, None, is_some, ◌≡◌, refl, sym, ap, ◌∙◌}
+use Rattle.std.proofs.Common.{ℕ, zero, suc, ◌+◌, ◌<◌, ◌≤◌, arith, true, false, List, [], ◌∷◌, length, take, drop, get_or, slice_get, slice_set, option_map, Option, Some, None, is_some, ◌≡◌, refl, sym, ap, subst, ◌∙◌}
 use Rattle.std.specs.Prelude.{remove}
-use Rattle.std.proofs.lemmas.List.{take_more}
 use Rattle.c_tree.specs.declared.tree.Item.{Item, Item-F, out-Item, roll-Item, roll-out-Item, If, While, Do, For, Switch, Block}
 use Rattle.c_tree.specs.declared.tree.Item.TheOpen as O
 use Rattle.c_tree.specs.declared.tree.Item.TheVariants.{rolls-If, rolls-While, rolls-Do, rolls-For, rolls-Switch, rolls-Block}
@@ -22,6 +21,7 @@ use Rattle.c_tree.specs.Paths.{list_of}
 use Rattle.c_tree.specs.Paths as Paths
 use Rattle.tidy_loops.specs.Slots.{broken, continued, but_first}
 use Rattle.tidy_search.specs.Next.{or_else, put, next_list, next_sections, next_at, next_here, next_item, next_either, with_list, behind_sections, broken_first, continued_first, changed_to}
+use Rattle.tidy_search.specs.Ways.{AreQuietSections}
 use Rattle.tidy_search.proofs.NextLaws.{more, in_if, in_while, in_do, in_for, in_switch, in_block, more_sections}
 
 put_all : {A : Type 0} (F : A → A) → ((x : A) → F x ≡ x) → (o : Option (ℕ × A)) → put F o ≡ o
@@ -47,11 +47,6 @@ something F r (Some c) more e h = sym e
 
 -- ---- sections
 
-pub one_section : (cs : List Real.Section) (c : Real.Section) (d : Sections) → behind_sections (sections_of (cs ++ c ∷ [])) d ≡ behind_sections (sections_of cs) (before c d)
-one_section [] c d = ap (λ z. behind_sections z d) (section-first c [] ∙ ap (before c) sections-none) ∙ sym (ap (λ z. behind_sections z (before c d)) sections-none)
-one_section (x ∷ xs) c d =
-    ap (λ z. behind_sections z d) (section-first x (xs ++ c ∷ [])) ∙ ap (before x) (one_section xs c d) ∙ sym (ap (λ z. behind_sections z (before c d)) (section-first x xs))
-
 module _ (f : FunctionTree) (n : ℕ) (cs : List Real.Section) where
   abbrev pub SectionsGo : ℕ → Type 0
   SectionsGo i = next_sections f n (sections_of cs) ≡ put (behind_sections (sections_of (take i cs))) (next_sections f n (sections_of (drop i cs)))
@@ -59,19 +54,8 @@ module _ (f : FunctionTree) (n : ℕ) (cs : List Real.Section) where
   pub sections_start : SectionsGo 0
   sections_start = sym (put_all (behind_sections (sections_of (take 0 cs))) (λ x. ap (λ z. behind_sections z x) sections-none) (next_sections f n (sections_of cs)))
 
-  section_front : (i : ℕ) (x : Real.Section) → i < length cs → x ≡ get_or cs i x → (d : Sections) → behind_sections (sections_of (take i cs)) (before x d) ≡ behind_sections (sections_of (take (i + 1) cs)) d
-  section_front i x h e d = sym (ap (λ z. behind_sections (sections_of z) d) (take_more cs i x h ∙ ap (λ z. take i cs ++ z ∷ []) (sym e)) ∙ one_section (take i cs) x d)
-
   split : (x : Real.Section) (d : Sections) → next_sections f n (before x d) ≡ or_else (put (λ b. with_list b x d) (next_list f n (trees_of (list_of x)))) (put (before x) (next_sections f n d))
   split x d = let o = Real.out-Section x in more_sections f n (expression_trees o.cases) o.default (trees_of o.list) o.ends d
-
-  pub sections_go_on : (i : ℕ) (x : Real.Section) (r : Option (ℕ × Sections)) → i < length cs → x ≡ get_or cs i x → r ≡ put (behind_sections (sections_of (take i cs))) (put (λ b. with_list b x (sections_of (drop (i + 1) cs))) (next_list f n (trees_of (list_of x)))) → r ≡ None → SectionsGo i → SectionsGo (i + 1)
-  sections_go_on i x r h e k o g =
-      let F = behind_sections (sections_of (take i cs)) in
-      let rest = sections_of (drop (i + 1) cs) in
-      let t = sections-at cs i x h e in
-      g ∙ ap (put F) (ap (next_sections f n) t ∙ split x rest ∙ ap (λ z. or_else z (put (before x) (next_sections f n rest))) (nothing F r (put (λ b. with_list b x rest) (next_list f n (trees_of (list_of x)))) k o))
-      ∙ put_put F (before x) (behind_sections (sections_of (take (i + 1) cs))) (section_front i x h e) (next_sections f n rest)
 
   pub section_found : (i : ℕ) (x : Real.Section) (r : Option (ℕ × Sections)) → i < length cs → x ≡ get_or cs i x → r ≡ put (behind_sections (sections_of (take i cs))) (put (λ b. with_list b x (sections_of (drop (i + 1) cs))) (next_list f n (trees_of (list_of x)))) → (r ≡ None → ⊥) → SectionsGo i → r ≡ next_sections f n (sections_of cs)
   section_found i x r h e k o g =
@@ -83,6 +67,18 @@ module _ (f : FunctionTree) (n : ℕ) (cs : List Real.Section) where
 
   pub sections_end : (i : ℕ) → length cs ≤ i → SectionsGo i → None ≡ next_sections f n (sections_of cs)
   sections_end i h g = sym (g ∙ ap (λ z. put (behind_sections (sections_of (take i cs))) (next_sections f n z)) (sections-end cs i h))
+
+-- where the first are quiet, the search goes on behind them
+pub quiet_go : (f : FunctionTree) (n k : ℕ) (cs : List Real.Section) → AreQuietSections f n k (sections_of cs) → SectionsGo f n cs k
+quiet_go f n zero cs q = sections_start f n cs
+quiet_go f n (suc k) [] q = sections_start f n []
+quiet_go f n (suc k) (x ∷ xs) q =
+    let d = sections_of xs in
+    let p : (next_list f n (trees_of (list_of x)) ≡ None) × AreQuietSections f n k d = subst (AreQuietSections f n (suc k)) (section-first x xs) q in
+    ap (next_sections f n) (section-first x xs) ∙ split f n xs x d
+    ∙ ap (λ z. or_else (put (λ b. with_list b x d) z) (put (before x) (next_sections f n d))) p.0
+    ∙ ap (put (before x)) (quiet_go f n k xs p.1)
+    ∙ put_put (before x) (behind_sections (sections_of (take k xs))) (behind_sections (sections_of (x ∷ take k xs))) (λ e. sym (ap (λ z. behind_sections z e) (section-first x (take k xs)))) (next_sections f n (sections_of (drop k xs)))
 
 -- ---- an entry within bounds
 

@@ -8,18 +8,18 @@ use Rattle.c_tree.specs.declared.tree.Test.{Test}
 use Rattle.c_tree.specs.declared.tree.Selector.{Selector}
 use Rattle.c_tree.specs.declared.tree.Section as Real
 use Rattle.c_tree.specs.ExpressionTrees.{expression_tree}
-use Rattle.c_tree.specs.TestTrees.{SelectorTree, test_tree, selector_tree}
-use Rattle.c_tree.specs.Trees as P
-use Rattle.c_tree.specs.Trees.{Tree, Forest, Then, Sections, trees_of, sections_of, join}
+use Rattle.c_tree.specs.TestTrees.{test_tree, selector_tree}
+use Rattle.c_tree.specs.Trees.{Forest, Then, trees_of, sections_of, join}
 use Rattle.c_tree.specs.Views.{tree_at}
-use Rattle.c_tree.proofs.Views.{trees-first, trees-at, at-If, at-While, at-Do, at-For, at-Switch, at-Block}
+use Rattle.c_tree.proofs.Views.{trees-first, trees-at, at-If, at-While, at-Do, at-For, at-Switch, at-Block, section-first}
 use Rattle.jump_meaning.specs.Code.{FunctionTree}
 use Rattle.tidy_loops.specs.Slots.{counts_of}
 use Rattle.tidy_search.specs.Next.{or_else, put, next_list, next_at, next_either, changed_to}
 use Rattle.tidy_search.specs.Places.{behind, replaced, removed_at, AreQuiet, IsFoundAt, Fewer}
-use Rattle.tidy_search.specs.Ways.{IsStep, IsWayIn, IsWayAt, IsWay, IsWayOf, KeepsWay}
+use Rattle.tidy_search.specs.Ways.{IsStep, IsWayIn, IsWayAt, IsWay, IsWayOf, KeepsWay, AreQuietSections, list_there, IsWayThrough}
+use Rattle.c_tree.specs.Paths.{list_of}
 use Rattle.tidy_search.proofs.Places.{found_next}
-use Rattle.tidy_search.proofs.Ways.{in_if_way, if_way, in_while_way, while_way, in_do_way, do_way, in_for_way, for_way, in_block_way, block_way, step_in_list, found_way, second_way, no_way}
+use Rattle.tidy_search.proofs.Ways.{in_if_way, if_way, in_while_way, while_way, in_do_way, do_way, in_for_way, for_way, in_block_way, block_way, step_in_list, found_way, second_way, no_way, in_switch_way, switch_way, quiet_sections_still}
 use Rattle.break_recovery.proofs.Outermost.{behind_is, at_place, one_found}
 use Rattle.break_recovery.proofs.Steps.{put_changed}
 
@@ -118,6 +118,41 @@ way_goes_on f n v w k o from b d e h (inl r) p = no_way f n (reverse w) (behind 
 way_goes_on f n v w k o from b d e h (inr (q, r)) p =
     subst (λ z. IsWayAt f n (reverse w) (behind from z)) (sym e) (h q f n (reverse w) b (subst (λ u. IsWayAt f n (reverse u) (behind k b)) (sym r) p))
 
+-- ---- sections
+
+pub more_quiet_sections : (f : FunctionTree) (n i : ℕ) (cs : List Real.Section) (s : Real.Section) → i < length cs → s ≡ get_or cs i s → next_list f n (trees_of (list_of s)) ≡ None
+    → AreQuietSections f n i (sections_of cs) → AreQuietSections f n (i + 1) (sections_of cs)
+more_quiet_sections f n i [] s h e k q = absurd (omega (arith, h))
+more_quiet_sections f n zero (x ∷ xs) s h e k q = subst (AreQuietSections f n 1) (sym (section-first x xs)) (ap (λ z. next_list f n (trees_of (list_of z))) (sym e) ∙ k, tt)
+more_quiet_sections f n (suc i) (x ∷ xs) s h e k q =
+    let p : (next_list f n (trees_of (list_of x)) ≡ None) × AreQuietSections f n i (sections_of xs) = subst (AreQuietSections f n (suc i)) (section-first x xs) q in
+    let j : suc (i + 1) ≡ suc i + 1 = omega arith in
+    subst (λ m. AreQuietSections f n m (sections_of (x ∷ xs))) j
+    (subst (AreQuietSections f n (suc (i + 1))) (sym (section-first x xs)) (p.0, more_quiet_sections f n i xs s (omega (arith, h)) e k p.1))
+
+pub list_there_is : (i : ℕ) (cs : List Real.Section) (s : Real.Section) → i < length cs → s ≡ get_or cs i s → list_there i (sections_of cs) ≡ trees_of (list_of s)
+list_there_is i [] s h e = absurd (omega (arith, h))
+list_there_is zero (x ∷ xs) s h e = ap (list_there zero) (section-first x xs) ∙ ap (λ z. trees_of (list_of z)) (sym e)
+list_there_is (suc i) (x ∷ xs) s h e = ap (list_there (suc i)) (section-first x xs) ∙ list_there_is i xs s (omega (arith, h)) e
+
+list_there_set : (i : ℕ) (cs : List Real.Section) (t : Real.Section) → i < length cs → list_there i (sections_of (slice_set cs i t)) ≡ trees_of (list_of t)
+list_there_set i [] t h = absurd (omega (arith, h))
+list_there_set zero (x ∷ xs) t h = ap (list_there zero) (section-first t xs)
+list_there_set (suc i) (x ∷ xs) t h = ap (list_there (suc i)) (section-first x (slice_set xs i t)) ∙ list_there_set i xs t (omega (arith, h))
+
+quiet_set : (f : FunctionTree) (n i : ℕ) (cs : List Real.Section) (t : Real.Section) → AreQuietSections f n i (sections_of cs) → AreQuietSections f n i (sections_of (slice_set cs i t))
+quiet_set f n zero cs t q = tt
+quiet_set f n (suc i) [] t q = q
+quiet_set f n (suc i) (x ∷ xs) t q =
+    let p : (next_list f n (trees_of (list_of x)) ≡ None) × AreQuietSections f n i (sections_of xs) = subst (AreQuietSections f n (suc i)) (section-first x xs) q in
+    subst (AreQuietSections f n (suc i)) (sym (section-first x (slice_set xs i t))) (p.0, quiet_set f n i xs t p.1)
+
+pub section_way : (f h : FunctionTree) → Fewer (counts_of f) (counts_of h) → (n i : ℕ) (cs : List Real.Section) (t : Real.Section) (v w : List ℕ) → i < length cs → AreQuietSections f n i (sections_of cs)
+    → v ≡ w ++ i ∷ [] → IsWay h n (reverse w) (trees_of (list_of t)) → IsWayThrough h n (reverse v) (sections_of (slice_set cs i t))
+section_way f h l n i cs t v w b q o p =
+    subst (λ u. IsWayThrough h n u (sections_of (slice_set cs i t))) (sym (way_told v w i o))
+    (quiet_set h n i cs t (quiet_sections_still f h l n i (sections_of cs) q), subst (IsWay h n (reverse w)) (sym (list_there_set i cs t b)) p)
+
 -- ---- the forms of an item
 
 module _ (f : FunctionTree) (n : ℕ) (w : List ℕ) where
@@ -152,9 +187,8 @@ module _ (f : FunctionTree) (n : ℕ) (w : List ℕ) where
   pub block_out : (a : List Item) → IsWay f n w (trees_of a) → IsWayIn f n w (tree_at (Block a))
   block_out a q = subst (IsWayIn f n w) (sym (at-Block a)) (block_way f n w (trees_of a) q)
 
-switch_tree : (f : FunctionTree) (n : ℕ) (w : List ℕ) (s : SelectorTree) (c : Sections) → IsWayIn f n w (P.Switch s c)
-switch_tree f n [] s c = tt
-switch_tree f n (k ∷ w) s c = tt
+pub switch_in : (f : FunctionTree) (n : ℕ) (w : List ℕ) (x : Item) (s : Selector) (c : List Real.Section) → x ≡ Switch s c → IsWayIn f n w (tree_at x) → IsWayThrough f n w (sections_of c)
+switch_in f n w x s c e q = in_switch_way f n w (selector_tree s) (sections_of c) (subst (IsWayIn f n w) (ap tree_at e ∙ at-Switch s c) q)
 
-pub switch_out : (f : FunctionTree) (n : ℕ) (w : List ℕ) (s : Selector) (c : List Real.Section) → IsWayIn f n w (tree_at (Switch s c))
-switch_out f n w s c = subst (IsWayIn f n w) (sym (at-Switch s c)) (switch_tree f n w (selector_tree s) (sections_of c))
+pub switch_out : (f : FunctionTree) (n : ℕ) (w : List ℕ) (s : Selector) (c : List Real.Section) → IsWayThrough f n w (sections_of c) → IsWayIn f n w (tree_at (Switch s c))
+switch_out f n w s c q = subst (IsWayIn f n w) (sym (at-Switch s c)) (switch_way f n w (selector_tree s) (sections_of c) q)

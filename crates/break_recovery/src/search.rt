@@ -5,7 +5,7 @@ ghost use Rattle.jump_meaning.specs.Code.{FunctionTree};
 ghost use Rattle.c_tree.specs.Views.{tree_at};
 ghost use Rattle.tidy_loops.specs.Slots.{Tells};
 ghost use Rattle.tidy_search.specs.Next.{put, next_list, next_at, next_item, next_either, next_sections, changed_to};
-ghost use Rattle.tidy_search.specs.Ways.{IsWay, IsWayAt, IsWayIn, IsWayOf, IsStep, LeadsOn};
+ghost use Rattle.tidy_search.specs.Ways.{IsWay, IsWayAt, IsWayIn, IsWayOf, IsWayThrough, IsStep, LeadsOn};
 
 use crate::here::change_here;
 use c_tree::{Item, Section};
@@ -109,7 +109,7 @@ pub fn change_item(
             change
         }
         Item::Switch(selector, mut sections) => {
-            let change = change_sections(alloc, counts, level, &mut sections);
+            let change = change_sections(alloc, counts, level, &mut sections, way);
             *item = Item::Switch(selector, sections);
             change
         }
@@ -178,16 +178,20 @@ fn change_sections(
     counts: &List<u64>,
     level: u32,
     sections: &mut List<Section>,
+    way: &mut List<usize>,
 ) -> Result<Option<u32>, Memory>
-    ensures made { IfOk result (λ it. (f : FunctionTree) → Tells counts.now f → changed_to it (sections_of sections.new) ≡ next_sections f level (sections_of sections.old)) }
+    ensures made { IfOk result (λ it. (f : FunctionTree) → Tells counts.now f → IsWayThrough f level (reverse way.old) (sections_of sections.old) → changed_to it (sections_of sections.new) ≡ next_sections f level (sections_of sections.old)) }
     ensures kept { IfOk result (λ it. it ≡ None → sections.new ≡ sections.old) }
+    ensures way { IfOk result (λ it. LeadsOn counts.now it (λ f. IsWayThrough f level (reverse way.old) (sections_of sections.old)) (λ (g : ℕ) h. IsWayThrough h level (reverse way.new) (sections_of sections.new))) }
 {
-    let mut i = 0;
+    let mut i = next_step(way);
     while i < sections.len() {
-        let change = change_section(alloc, counts, level, sections.at_mut(i))?;
+        let change = change_section(alloc, counts, level, sections.at_mut(i), way)?;
         if change.is_some() {
+            way.push(i)?;
             return Ok(change);
         }
+        *way = List::new(alloc);
         i += 1;
     }
     Ok(None)
@@ -199,11 +203,12 @@ fn change_section(
     counts: &List<u64>,
     level: u32,
     section: &mut Section,
+    way: &mut List<usize>,
 ) -> Result<Option<u32>, Memory>
-    ensures made { IfOk result (λ it. (f : FunctionTree) → Tells counts.now f → changed_to it (trees_of (list_of section.new)) ≡ next_list f level (trees_of (list_of section.old))) }
+    ensures made { IfOk result (λ it. (f : FunctionTree) → Tells counts.now f → IsWay f level (reverse way.old) (trees_of (list_of section.old)) → changed_to it (trees_of (list_of section.new)) ≡ next_list f level (trees_of (list_of section.old))) }
     ensures rest { IfOk result (λ it. section.new ≡ with_list (list_of section.new) section.old) }
     ensures kept { IfOk result (λ it. it ≡ None → section.new ≡ section.old) }
+    ensures way { IfOk result (λ it. LeadsOn counts.now it (λ f. IsWay f level (reverse way.old) (trees_of (list_of section.old))) (λ (g : ℕ) h. IsWay h level (reverse way.new) (trees_of (list_of section.new)))) }
 {
-    let mut way = List::new(alloc);
-    change_list(alloc, counts, level, &mut section.list, &mut way)
+    change_list(alloc, counts, level, &mut section.list, way)
 }

@@ -2,13 +2,13 @@
 use Rattle.std.proofs.Common.{ℕ, zero, suc, ◌-◌, ◌<◌, ◌≤◌, inl, inr, List, [], ◌∷◌, Option, Some, None, ◌≡◌, refl, sym, ap, subst, ◌∙◌, arith}
 use Rattle.std.proofs.lemmas.Bool.{cases_lt}
 use Rattle.c_tree.specs.ExpressionTrees.{ExpressionTree}
-use Rattle.c_tree.specs.TestTrees.{TestTree}
-use Rattle.c_tree.specs.Trees.{Forest, Nil, Then, If, While, Do, For, Block}
+use Rattle.c_tree.specs.TestTrees.{TestTree, SelectorTree}
+use Rattle.c_tree.specs.Trees.{Forest, Nil, Then, Sections, NoSection, Section, If, While, Do, For, Switch, Block}
 use Rattle.jump_meaning.specs.Code.{FunctionTree}
 use Rattle.tidy_loops.specs.Slots.{counts_of}
 use Rattle.tidy_search.specs.Next.{next_list, next_at}
 use Rattle.tidy_search.specs.Places.{behind, replaced, removed, AreQuiet, Fewer, IsFoundAt}
-use Rattle.tidy_search.specs.Ways.{IsWay, IsWayAt, IsWayIn, IsWayOf, IsStep, KeepsWay}
+use Rattle.tidy_search.specs.Ways.{AreQuietSections, list_there, IsWay, IsWayAt, IsWayIn, IsWayOf, IsWayThrough, IsStep, KeepsWay}
 use Rattle.tidy_search.proofs.Places.{quiet_replaced, moved_up}
 use Rattle.tidy_search.proofs.Stays.{list_still}
 
@@ -66,6 +66,16 @@ for_way f n (zero ∷ k ∷ w) a t u b q = q
 for_way f n (suc j ∷ []) a t u b q = q
 for_way f n (suc j ∷ k ∷ w) a t u b q = q
 
+pub in_switch_way : (f : FunctionTree) (n : ℕ) (w : List ℕ) (s : SelectorTree) (c : Sections) → IsWayIn f n w (Switch s c) → IsWayThrough f n w c
+in_switch_way f n [] s c q = tt
+in_switch_way f n (j ∷ []) s c q = q
+in_switch_way f n (j ∷ k ∷ w) s c q = q
+
+pub switch_way : (f : FunctionTree) (n : ℕ) (w : List ℕ) (s : SelectorTree) (c : Sections) → IsWayThrough f n w c → IsWayIn f n w (Switch s c)
+switch_way f n [] s c q = tt
+switch_way f n (j ∷ []) s c q = q
+switch_way f n (j ∷ k ∷ w) s c q = q
+
 -- the places before that of a change stay quiet
 pub still_quiet : (f h : FunctionTree) → Fewer (counts_of f) (counts_of h) → (n k : ℕ) (a : Forest) (g : ℕ) (c : Forest) → next_at f n (behind k a) ≡ Some (g, c) → AreQuiet f n k a → AreQuiet h n k (replaced k c a)
 still_quiet f h l n k a g c e q j i = quiet_replaced f h l n j k a g c e i (q j i)
@@ -83,6 +93,15 @@ pub step_in_second : (f : FunctionTree) (n k : ℕ) (v w : List ℕ) (a b : Fore
 step_in_second f n zero v w a b z s q = absurd (omega (arith, z))
 step_in_second f n (suc k) v w a b z (inl e) q = subst (λ v. IsWayOf f n v a b) e q
 step_in_second f n (suc k) v w a b z (inr (e, (y, r))) q = absurd (omega (arith, y))
+
+pub step_in_sections : (f : FunctionTree) (n k : ℕ) (v w : List ℕ) (c : Sections) → IsStep v k w → IsWayThrough f n v c → AreQuietSections f n k c × IsWay f n w (list_there k c)
+step_in_sections f n k v w c (inl e) q = subst (λ v. IsWayThrough f n v c) e q
+step_in_sections f n k v w c (inr (e, (z, r))) q = (subst (λ k. AreQuietSections f n k c) (sym z) tt, subst (λ w. IsWay f n w (list_there k c)) (sym r) tt)
+
+pub quiet_sections_still : (f h : FunctionTree) → Fewer (counts_of f) (counts_of h) → (n k : ℕ) (c : Sections) → AreQuietSections f n k c → AreQuietSections h n k c
+quiet_sections_still f h l n zero c q = tt
+quiet_sections_still f h l n (suc k) NoSection q = tt
+quiet_sections_still f h l n (suc k) (Section cases default a ends c) (e, q) = (list_still f h l a n e, quiet_sections_still f h l n k c q)
 
 -- a change at a place, or in it, makes a way
 pub found_way : (f h : FunctionTree) → Fewer (counts_of f) (counts_of h) → (n g k : ℕ) (a b : Forest) (w : List ℕ) → IsFoundAt f (suc n) (Some (g, k)) a b → IsWayAt h (suc n) w (behind k b) → IsWay h n (k ∷ w) b

@@ -9,7 +9,11 @@ returns c =
     let a = trees_of c.args.list.now in
     let o = c.if-start.false in
     record {
-      made = if_ok_more c.change_behind.result _ _ (λ it k f h q. k f h (no_doubt f c.args.level s.doubt s.from a o q.0) q.1) c.change_behind.ensures.made;
+      made = if_ok_more c.change_behind.result _ _
+          (λ it k f h q. k f h (no_doubt f c.args.level s.doubt s.from a o q.0) q.1)
+          c.change_behind.ensures.made;
       kept = c.change_behind.ensures.kept;
-      way = if_ok_more c.change_behind.result _ _ (λ it k x e f h d l q. k x e f h d l (no_doubt f c.args.level s.doubt s.from a o q.0, q.1)) c.change_behind.ensures.way;
+      way = if_ok_more c.change_behind.result _ _
+          (λ it k x e f h d l q. k x e f h d l (no_doubt f c.args.level s.doubt s.from a o q.0, q.1))
+          c.change_behind.ensures.way;
     }

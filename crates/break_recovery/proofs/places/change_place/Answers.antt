@@ -12,7 +12,9 @@ returns-then-place-len c =
     let i = c.args.place in
     let v = reverse c.args.way.now in
     record {
-      made = if_ok_more c.change_at.result _ _ (λ it k f h p. k f h (subst (IsWayAt f n v) (sym (behind_is i xs)) p) ∙ at_place xs i f n) c.change_at.ensures.made;
+      made = if_ok_more c.change_at.result _ _
+          (λ it k f h p. k f h (subst (IsWayAt f n v) (sym (behind_is i xs)) p) ∙ at_place xs i f n)
+          c.change_at.ensures.made;
       kept = c.change_at.ensures.kept;
       way = if_ok_more c.change_at.result _ _
           (λ it k g r f h d l p. subst (IsWayAt h n (reverse c.change_at.new.way)) (behind_is i c.change_at.new.list) (k g r f h d l (subst (IsWayAt f n v) (sym (behind_is i xs)) p)))

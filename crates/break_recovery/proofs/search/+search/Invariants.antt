@@ -5,8 +5,7 @@ use Rattle.jump_meaning.specs.Code.{FunctionTree}
 use Rattle.tidy_loops.specs.Slots.{Tells}
 use Rattle.break_recovery.proofs.Sizes.{items, items_of, items_in}
 use Rattle.tidy_search.specs.Places.{AreQuiet}
-use Rattle.tidy_search.specs.Ways.{IsWayAt}
-use Rattle.break_recovery.proofs.Steps.{SectionsGo}
+use Rattle.tidy_search.specs.Ways.{AreQuietSections, list_there, IsWay, IsWayAt}
 use Rattle.break_recovery.proofs.search.+search.Given as goal
 
 abbrev pub decreases-change_item : goal.decreases-change_item
@@ -33,14 +32,17 @@ decreases-change_sections l = 6 * items_in (sections_of l.sections.now) + 4
 abbrev pub invariant-change_list-loop-i : goal.invariant-change_list-loop-i
 invariant-change_list-loop-i l =
     (l.list ≡ l.initial.list)
-    × ((f : FunctionTree) → Tells l.counts f → AreQuiet f (suc l.level) l.initial.i (trees_of l.initial.list) × IsWayAt f (suc l.level) (reverse l.initial.way) (trees_of (drop l.initial.i l.initial.list))
+    × ((f : FunctionTree) → Tells l.counts f
+    → AreQuiet f (suc l.level) l.initial.i (trees_of l.initial.list) × IsWayAt f (suc l.level) (reverse l.initial.way) (trees_of (drop l.initial.i l.initial.list))
     → AreQuiet f (suc l.level) l.i (trees_of l.initial.list) × IsWayAt f (suc l.level) (reverse l.way) (trees_of (drop l.i l.initial.list)))
 
 abbrev pub decreases-change_list-loop-i : goal.decreases-change_list-loop-i
 decreases-change_list-loop-i l = length l.list - l.i
 
 abbrev pub invariant-change_sections-loop-i : goal.invariant-change_sections-loop-i
-invariant-change_sections-loop-i l = (l.sections ≡ l.initial.sections) × ((f : FunctionTree) → Tells l.counts f → SectionsGo f l.level l.initial.sections l.i)
+invariant-change_sections-loop-i l = (l.sections ≡ l.initial.sections) × ((f : FunctionTree) → Tells l.counts f
+    → AreQuietSections f l.level l.initial.i (sections_of l.initial.sections) × IsWay f l.level (reverse l.initial.way) (list_there l.initial.i (sections_of l.initial.sections))
+    → AreQuietSections f l.level l.i (sections_of l.initial.sections) × IsWay f l.level (reverse l.way) (list_there l.i (sections_of l.initial.sections)))
 
 abbrev pub decreases-change_sections-loop-i : goal.decreases-change_sections-loop-i
 decreases-change_sections-loop-i l = length l.sections - l.i
