@@ -131,6 +131,8 @@ KINDS = {
     "guards of loops, 1,000 in a function": guards(1000, SET),
     "guards of loops, all in one function": parts.all_guards(SET),
     "guards of loops, all in one block of a function": parts.all_guards(SET, "{\n", "}\n"),
+    "guards of loops, all in one section of a switch": parts.all_guards(SET, "switch (a) { case 1:\n", "break; }\n"),
+    "guards of loops, all in one loop, which ends with `g = 0;`": parts.all_guards(SET, "while (a) {\n", "}\n"),
     "guards of turns, 1,000 in a function": guards(1000, "while (a) { # = a == 3; if (!#) { a--; } # = 0; }\n"),
     "guards that stay, 1,000 in a function": guards(1000, "while (!# && a) { # = a == 3; a--; }\n# = 0;\n"),
     "guards of loops one inside the other": kind("", parts.deep_guards),
