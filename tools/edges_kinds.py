@@ -135,7 +135,10 @@ KINDS = {
     "guards of loops, all in one loop, which ends with `g = 0;`": parts.all_guards(SET, "while (a) {\n", "}\n"),
     "guards of turns, 1,000 in a function": guards(1000, "while (a) { # = a == 3; if (!#) { a--; } # = 0; }\n"),
     "guards that stay, 1,000 in a function": guards(1000, "while (!# && a) { # = a == 3; a--; }\n# = 0;\n"),
+    "guards of loops, all in one loop, each set by `!g` of its guard": parts.all_guards(
+        "while (!# && a) { a--; # = !q; }\n# = 0;\n", "int q = 0;\nwhile (a) {\nif (a == 7) { q = 1; }\n", "q = 0;\n}\n"),
     "guards of loops one inside the other": kind("", parts.deep_guards),
+    "guards of 380 loops one inside the other round all of it": parts.guards_round("a++;\n"),
     "one guard with many sets": kind("", parts.many_sets),
     "one violation at the end": kind("", parts.ordinary, "int z(void) { return q; }\n"),
 }

@@ -80,12 +80,22 @@ def all_guards(part, before="", behind=""):
     return text
 
 
-def deep_guards(number):
-    """Loops one inside the other, with a guard each, which only the innermost sets."""
-    depth = 90
+def loops_with_guards(depth):
+    """Loops one inside the other, with a guard each, which the innermost sets: the text in front of theirs, and behind."""
+    declared = each(depth, lambda i: f"int g{i} = 0;\n")
     opened = each(depth, lambda i: f"while (!g{i} && a) {{\n")
     closed = each(depth, lambda i: f"}}\ng{depth - 1 - i} = 0;\n")
-    return function(number, each(depth, lambda i: f"int g{i} = 0;\n") + opened + f"a--;\ng{depth - 1} = a == 3;\n" + closed)
+    return declared + opened, f"a--;\ng{depth - 1} = a == 3;\n" + closed
+
+
+def deep_guards(number):
+    return function(number, "".join(loops_with_guards(90)))
+
+
+def guards_round(part, depth=380):
+    """As many parts as fit, inside so many loops with a guard each."""
+    front, behind = loops_with_guards(depth)
+    return kind("int f(int a) {\n" + front, part, behind + "return a; }\n")
 
 
 def many_sets(number):
@@ -182,7 +192,7 @@ def called(first, main):
 
 
 def writing(step):
-    """A function with as many variables as fit, which jumps over them, writes to each `step`th and to the last, and calls itself."""
+    """A function with as many variables as fit, which jumps over them, writes to some and to the last, and calls itself."""
     def text(most):
         front = filled(most - 200 - 2 * most // step, "int f(void) {\ngoto L;\n", lambda n: f"int a{n};\n", "L:\n")
         count = front.count("int a")

@@ -38,7 +38,8 @@ def said_of(crate: str) -> str:
 
 def table_of_crates() -> str:
     """The table of what each crate holds, stage by stage; in a stage in the order of crates.txt."""
-    rows = (f"| {stage if it == names[0] else ''} | {it} | {said_of(it)} |" for stage, names in stages().items() for it in names)
+    rows = (f"| {stage if it == names[0] else ''} | {it} | {said_of(it)} |"
+            for stage, names in stages().items() for it in names)
     return "\n".join(["| stage | crate | what it holds |", "|---|---|---|", *rows])
 
 

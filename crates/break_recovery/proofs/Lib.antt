@@ -1,3 +1,17 @@
+pub mod NextLaws
+pub mod BodyLaws
+pub mod RenamedCounts
+pub mod RenamedExits
+pub mod RenamedNext
+pub mod Others
+pub mod RenamedDeclared
+pub mod RealTrees
+pub mod Underway
+pub mod Stays
+pub mod NothingBefore
+pub mod SteadyChanges
+pub mod Alike
+pub mod WaysSearched
 pub mod Chains
 pub mod Steps
 pub mod Undeclared
@@ -6,3 +20,5 @@ mod Sizes
 pub mod Numbered
 pub mod Outermost
 pub mod Ways
+pub mod Likeness
+pub mod Steadily

@@ -8,10 +8,10 @@ use Rattle.c_tree.proofs.TreeLaws.{trees-none}
 use Rattle.c_tree.proofs.Views.{trees-first, trees-at, trees-end}
 use Rattle.jump_meaning.specs.Code.{FunctionTree}
 use Rattle.tidy_laws.specs.Changes.{are_low}
-use Rattle.tidy_tails.specs.Exits.{exits_in}
-use Rattle.tidy_tails.specs.Views.{is_it}
+use Rattle.tidy_loops.specs.Exits.{exits_in}
+use Rattle.tidy_loops.specs.Views.{is_it}
 use Rattle.tidy_loops.specs.Slots.{counts_of, allowed, stop_slot, first_reset, break_slot, continue_slot}
-use Rattle.tidy_search.specs.Next.{or_else, put, of_slot, next_here, broken_first, continued_first, changed_to}
+use Rattle.break_recovery.specs.Next.{or_else, put, of_slot, next_here, broken_first, continued_first, changed_to}
 use Rattle.break_recovery.specs.declared.here.Change.{Change}
 use Rattle.break_recovery.specs.declared.here.Change.TheVariants as V
 use Rattle.break_recovery.specs.Loops.{slot_of, keeps_next, continue_there, change_there, change_first, loop_after, list_after}

@@ -7,9 +7,9 @@ use Rattle.jump_meaning.specs.Code.{FunctionTree, function_tree}
 use Rattle.tidy_laws.specs.Changes.{changes_of, changed}
 use Rattle.tidy_laws.specs.Gone.{left}
 use Rattle.tidy_loops.specs.Slots.{Tells}
-use Rattle.tidy_search.specs.Underway.{TreeChangedTimes, Underway}
-use Rattle.tidy_search.proofs.RealTrees.{real_body}
-use Rattle.tidy_search.proofs.Underway.{starts, goes_on, settles, numbered}
+use Rattle.break_recovery.specs.Underway.{TreeChangedTimes, Underway}
+use Rattle.break_recovery.proofs.RealTrees.{real_body}
+use Rattle.break_recovery.proofs.Underway.{starts, goes_on, settles, numbered}
 use Rattle.break_recovery.specs.Ends.{with_body, IsBodyChanged, WentOn, AreMade, IsNumbered, FunctionChangedTimes, IsFunctionTidied}
 use Rattle.break_recovery.proofs.Undeclared.{no_body}
 

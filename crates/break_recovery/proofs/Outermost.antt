@@ -9,9 +9,9 @@ use Rattle.jump_meaning.specs.Code.{FunctionTree}
 use Rattle.c_tree.specs.Views.{tree_at}
 use Rattle.c_tree.proofs.Views.{trees-first, trees-end}
 use Rattle.tidy_loops.specs.Slots.{Tells, counts_of}
-use Rattle.tidy_search.specs.Next.{put, next_list, next_at, changed_to}
-use Rattle.tidy_search.specs.Places.{behind, replaced, removed, removed_at, AreQuiet, AreQuietBut, IsFoundAt, Fewer, GoesOn}
-use Rattle.tidy_search.proofs.Places.{goes_on_at, found_next}
+use Rattle.break_recovery.specs.Next.{put, next_list, next_at, changed_to}
+use Rattle.break_recovery.specs.Places.{behind, replaced, removed, removed_at, AreQuiet, AreQuietBut, IsFoundAt, Fewer, GoesOn}
+use Rattle.break_recovery.proofs.NothingBefore.{goes_on_at, found_next}
 
 -- ---- items and trees
 
@@ -152,3 +152,18 @@ fewer_counted f h counts after s e t u g = by (set_or counts s g)
     by : (get_or (slice_set counts s 0) g 0 ≡ get_or counts g 0) ⊎ (get_or (slice_set counts s 0) g 0 ≡ 0) → (counts_of h g ≡ counts_of f g) ⊎ (counts_of h g ≡ 0)
     by (inl k) = inl (now ∙ k ∙ t g)
     by (inr k) = inr (now ∙ k)
+
+set_zero : (xs : List ℕ) (s : ℕ) → get_or (slice_set xs s 0) s 0 ≡ 0
+set_zero [] s = refl
+set_zero (x ∷ xs) zero = refl
+set_zero (x ∷ xs) (suc s) = set_zero xs s
+
+pub none_counted : (h : FunctionTree) (counts after : List ℕ) (s : ℕ) → after ≡ slice_set counts s 0 → Tells after h → counts_of h s ≡ 0
+none_counted h counts after s e u = sym (u s) ∙ ap (λ xs. get_or xs s 0) e ∙ set_zero counts s
+
+pub one_slot : (g x : ℕ) → Some g ≡ Some x → g ≡ x
+one_slot g x e = ap slot_there e
+  where
+    slot_there : Option ℕ → ℕ
+    slot_there None = 0
+    slot_there (Some y) = y

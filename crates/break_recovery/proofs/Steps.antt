@@ -20,9 +20,9 @@ use Rattle.c_tree.proofs.Views.{trees-first, trees-at, trees-end, section-first,
 use Rattle.c_tree.specs.Paths.{list_of}
 use Rattle.c_tree.specs.Paths as Paths
 use Rattle.tidy_loops.specs.Slots.{broken, continued, but_first}
-use Rattle.tidy_search.specs.Next.{or_else, put, next_list, next_sections, next_at, next_here, next_item, next_either, with_list, behind_sections, broken_first, continued_first, changed_to}
-use Rattle.tidy_search.specs.Ways.{AreQuietSections}
-use Rattle.tidy_search.proofs.NextLaws.{more, in_if, in_while, in_do, in_for, in_switch, in_block, more_sections}
+use Rattle.break_recovery.specs.Next.{or_else, put, next_list, next_sections, next_at, next_here, next_item, next_either, with_list, behind_sections, broken_first, continued_first, changed_to}
+use Rattle.break_recovery.specs.Ways.{AreQuietSections}
+use Rattle.break_recovery.proofs.NextLaws.{more, in_if, in_while, in_do, in_for, in_switch, in_block, more_sections}
 
 put_all : {A : Type 0} (F : A → A) → ((x : A) → F x ≡ x) → (o : Option (ℕ × A)) → put F o ≡ o
 put_all F h None = refl

@@ -11,12 +11,12 @@ use Rattle.c_tree.specs.Changed.{one}
 use Rattle.c_tree.proofs.TreeLaws.{trees-none}
 use Rattle.c_tree.specs.Views.{tree_at}
 use Rattle.c_tree.proofs.Views.{trees-first, trees-at, trees-end, trees-push}
-use Rattle.tidy_tails.proofs.Made.{join_join, join_nil}
+use Rattle.tidy_loops.proofs.Made.{join_join, join_nil}
 use Rattle.tidy_laws.specs.Changes.{undeclared, is_declaration, changes, changes_of}
-use Rattle.tidy_search.specs.Next.{first, next_list}
+use Rattle.break_recovery.specs.Next.{first, next_list}
 use Rattle.break_recovery.specs.Ends.{IsBodyChanged}
 use Rattle.break_recovery.proofs.Steps.{some_none}
-use Rattle.tidy_search.proofs.BodyLaws.{search_laws_hold}
+use Rattle.break_recovery.proofs.BodyLaws.{search_laws_hold}
 
 -- the first so many items are not the declaration
 pub record Passed (g i : ℕ) (old now : List Item) : Type 0 where

@@ -9,7 +9,7 @@ use Rattle.tidy_laws.specs.Changes.{changes_of, undeclared}
 use Rattle.tidy_laws.specs.Renamed.{renamed_list}
 use Rattle.tidy_laws.specs.Gone.{gone_before, left}
 use Rattle.tidy_loops.specs.Slots.{Tells}
-use Rattle.tidy_search.specs.Underway.{Underway}
+use Rattle.break_recovery.specs.Underway.{Underway}
 use Rattle.tidy_laws.specs.Ends.{IsChangedFirst, TopIsChangedFirst, TopIsSettled, AreChangedTimes}
 
 -- the function with this body

@@ -1,3 +1,9 @@
+pub mod Next
+pub mod Laws
+pub mod Underway
+pub mod Places
+pub mod Steady
+pub mod Ways
 pub mod Ends
 pub mod Loops
 pub mod Starts

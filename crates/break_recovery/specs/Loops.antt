@@ -2,7 +2,7 @@
 use Rattle.std.specs.Prelude.{ℕ, Bool, true, false, Option, None, option_map}
 use Rattle.c_tree.specs.Trees.{Tree, Forest, Nil, Then}
 use Rattle.tidy_loops.specs.Slots.{break_slot, continue_slot, broken, continued}
-use Rattle.tidy_search.specs.Next.{or_else, broken_first, continued_first}
+use Rattle.break_recovery.specs.Next.{or_else, broken_first, continued_first}
 use Rattle.break_recovery.specs.declared.here.Change.{Change}
 use Rattle.break_recovery.specs.declared.here.Change.TheVariants as V
 

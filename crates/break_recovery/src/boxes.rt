@@ -6,13 +6,13 @@ ghost use Rattle.c_tree.specs.Trees.{trees_of, join};
 ghost use Rattle.jump_meaning.specs.Code.{FunctionTree};
 ghost use Rattle.tidy_laws.specs.Changes.{undeclared};
 ghost use Rattle.tidy_loops.specs.Slots.{Tells, count_in};
-ghost use Rattle.tidy_search.specs.Next.{put, next_at, next_here, changed_to};
-ghost use Rattle.tidy_search.specs.Places.{removed_at};
-ghost use Rattle.tidy_search.specs.Ways.{IsWayAt, LeadsOn};
+ghost use Rattle.break_recovery.specs.Next.{put, next_at, next_here, changed_to};
+ghost use Rattle.break_recovery.specs.Places.{removed_at};
+ghost use Rattle.break_recovery.specs.Ways.{IsWayAt, LeadsOn};
 ghost use Rattle.break_recovery.specs.Loops.{change_first, list_after};
 
 use crate::here::{Change, change_of, changed_loop, keeps_next, slot_of};
-use crate::search::change_item;
+use crate::search::{change_item, was_asked};
 use c_tree::Item;
 use c_types::{Boxed, List, Memory};
 use std::alloc::Global;
@@ -66,12 +66,12 @@ fn make(
     requires { at < length list.old }
     ensures { OnOk result (trees_of list.new ≡ join (trees_of (take at list.old)) (list_after change (trees_of (drop at list.old)))) }
 {
-    let made = changed_loop(alloc, change, list.as_slice()[at].get())?;
-    list.at_mut(at).set(made);
+    changed_loop(alloc, change, list.at_mut(at).get_mut())?;
     if keeps_next(change) {
         return Ok(());
     }
-    if at + 1 < list.len() {
+    let count = list.len();
+    if at + 1 < count {
         drop(list.remove(at + 1));
     }
     Ok(())
@@ -106,18 +106,58 @@ pub fn change_at(
     list: &mut List<Boxed<Item>>,
     at: usize,
     way: &mut List<usize>,
+    sure: &mut bool,
 ) -> Result<Option<u32>, Memory>
     requires { at < length list.old }
-    ensures made { IfOk result (λ it. (f : FunctionTree) → Tells counts.now f → IsWayAt f level (reverse way.old) (trees_of (drop at list.old)) → changed_to it (trees_of list.new) ≡ put (join (trees_of (take at list.old))) (next_at f level (trees_of (drop at list.old)))) }
+    ensures made { IfOk result (λ it. (f : FunctionTree) → Tells counts.now f → IsWayAt sure.old f level (reverse way.old) (trees_of (drop at list.old)) → changed_to it (trees_of list.new) ≡ put (join (trees_of (take at list.old))) (next_at f level (trees_of (drop at list.old)))) }
     ensures kept { IfOk result (λ it. it ≡ None → list.new ≡ list.old) }
-    ensures way { IfOk result (λ it. LeadsOn counts.now it (λ f. IsWayAt f level (reverse way.old) (trees_of (drop at list.old))) (λ (g : ℕ) h. IsWayAt h level (reverse way.new) (trees_of (drop at list.new)))) }
+    ensures way { IfOk result (λ it. LeadsOn counts.now it (λ g. g) (λ f. IsWayAt sure.old f level (reverse way.old) (trees_of (drop at list.old))) (λ (g : ℕ) h. IsWayAt sure.new h level (reverse way.new) (trees_of (drop at list.new)))) }
+{
+    if was_asked(way, *sure) {
+        return change_within(alloc, counts, level, list, at, way, sure);
+    }
+    change_asked(alloc, counts, level, list, at, way, sure)
+}
+
+/// Makes the next change at this place, whose item may allow one itself.
+fn change_asked(
+    alloc: Global,
+    counts: &List<u64>,
+    level: u32,
+    list: &mut List<Boxed<Item>>,
+    at: usize,
+    way: &mut List<usize>,
+    sure: &mut bool,
+) -> Result<Option<u32>, Memory>
+    requires { at < length list.old }
+    ensures made { IfOk result (λ it. (f : FunctionTree) → Tells counts.now f → IsWayAt sure.old f level (reverse way.old) (trees_of (drop at list.old)) → changed_to it (trees_of list.new) ≡ put (join (trees_of (take at list.old))) (next_at f level (trees_of (drop at list.old)))) }
+    ensures kept { IfOk result (λ it. it ≡ None → list.new ≡ list.old) }
+    ensures way { IfOk result (λ it. LeadsOn counts.now it (λ g. g) (λ f. IsWayAt sure.old f level (reverse way.old) (trees_of (drop at list.old))) (λ (g : ℕ) h. IsWayAt sure.new h level (reverse way.new) (trees_of (drop at list.new)))) }
 {
     let here = change_here(alloc, counts, level, list, at)?;
     if here.is_some() {
         *way = List::new(alloc);
         return Ok(here);
     }
-    change_item(alloc, counts, level, list.at_mut(at).get_mut(), way)
+    change_within(alloc, counts, level, list, at, way, sure)
+}
+
+/// Makes the next change in the item at this place, which allows none itself.
+fn change_within(
+    alloc: Global,
+    counts: &List<u64>,
+    level: u32,
+    list: &mut List<Boxed<Item>>,
+    at: usize,
+    way: &mut List<usize>,
+    sure: &mut bool,
+) -> Result<Option<u32>, Memory>
+    requires { at < length list.old }
+    ensures made { IfOk result (λ it. (f : FunctionTree) → Tells counts.now f → next_here f level (trees_of (drop at list.old)) ≡ None → IsWayAt sure.old f level (reverse way.old) (trees_of (drop at list.old)) → changed_to it (trees_of list.new) ≡ put (join (trees_of (take at list.old))) (next_at f level (trees_of (drop at list.old)))) }
+    ensures kept { IfOk result (λ it. it ≡ None → list.new ≡ list.old) }
+    ensures way { IfOk result (λ it. LeadsOn counts.now it (λ g. g) (λ f. (next_here f level (trees_of (drop at list.old)) ≡ None) × IsWayAt sure.old f level (reverse way.old) (trees_of (drop at list.old))) (λ (g : ℕ) h. IsWayAt sure.new h level (reverse way.new) (trees_of (drop at list.new)))) }
+{
+    change_item(alloc, counts, level, list.at_mut(at).get_mut(), way, sure)
 }
 
 /// Takes the first `int g = 0;` out, and answers where it stood.

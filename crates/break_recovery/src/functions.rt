@@ -2,9 +2,9 @@ ghost use Rattle.std.specs.Prelude.{◌≡◌, ◌+◌, ℕ, suc, false, true, l
 ghost use Rattle.c_tree.specs.Trees.{trees_of};
 ghost use Rattle.jump_meaning.specs.Code.{FunctionTree, function_tree};
 ghost use Rattle.tidy_loops.specs.Slots.{Tells};
-ghost use Rattle.tidy_search.specs.Ways.{LeadsOn, IsAhead};
+ghost use Rattle.break_recovery.specs.Ways.{LeadsOn, IsAhead};
 ghost use Rattle.tidy_laws.specs.Renamed.{renamed_list};
-ghost use Rattle.tidy_renumber.specs.Numbers.{number};
+ghost use Rattle.tidy_slots.specs.Numbers.{number};
 ghost use Rattle.break_recovery.specs.Starts.{IsStart};
 ghost use Rattle.break_recovery.specs.Ends.{with_body, IsBodyChanged, WentOn, AreMade, IsNumbered, IsFunctionTidied, TopTidied, AreTidied};
 
@@ -15,7 +15,7 @@ use c_types::{Boxed, List, Memory};
 use std::alloc::Global;
 use std::mem;
 use tidy_loops::guard_counts;
-use tidy_renumber::{Numbers, new_numbers, remove_gone, renumber_list};
+use tidy_slots::{Numbers, new_numbers, remove_gone, renumber_list};
 
 /// Makes the next change of a body, if one applies, and answers its slot: the declaration goes too. Each slot
 /// keeps its number. Else the body stays. The counts are those of the function. The search starts where no
@@ -25,13 +25,14 @@ fn change_list_of(
     counts: &List<u64>,
     start: &mut Start,
     way: &mut List<usize>,
+    sure: &mut bool,
     list: &mut List<Boxed<Item>>,
 ) -> Result<Option<u32>, Memory>
-    ensures made { IfOk result (λ it. (f : FunctionTree) → Tells counts.now f → IsAhead f 2 start.old.doubt start.old.from (reverse way.old) (trees_of list.old) → f.body ≡ Some (trees_of list.old) → IsBodyChanged f it (Some (trees_of list.new))) }
+    ensures made { IfOk result (λ it. (f : FunctionTree) → Tells counts.now f → IsAhead sure.old f 2 start.old.doubt start.old.from (reverse way.old) (trees_of list.old) → f.body ≡ Some (trees_of list.old) → IsBodyChanged f it (Some (trees_of list.new))) }
     ensures kept { IfOk result (λ it. it ≡ None → list.new ≡ list.old) }
-    ensures start { IfOk result (λ it. LeadsOn counts.now it (λ f. IsAhead f 2 start.old.doubt start.old.from (reverse way.old) (trees_of list.old)) (λ (g : ℕ) h. IsAhead h 2 start.new.doubt start.new.from (reverse way.new) (trees_of list.new))) }
+    ensures start { IfOk result (λ it. LeadsOn counts.now it (λ g. g) (λ f. IsAhead sure.old f 2 start.old.doubt start.old.from (reverse way.old) (trees_of list.old)) (λ (g : ℕ) h. IsAhead sure.new h 2 start.new.doubt start.new.from (reverse way.new) (trees_of list.new))) }
 {
-    let change = change_from(alloc, counts, 2, list, *start, way)?;
+    let change = change_from(alloc, counts, 2, list, *start, way, sure)?;
     match change {
         Some((slot, place)) => {
             let gone = undeclare(slot, list);
@@ -66,14 +67,15 @@ fn change_once(
     alloc: Global,
     start: &mut Start,
     way: &mut List<usize>,
+    sure: &mut bool,
     gone: &mut List<bool>,
     counts: &mut List<u64>,
     list: &mut List<Boxed<Item>>,
 ) -> Result<bool, Memory>
-    ensures went { IfOk result (λ went. (f : Function) → IsStart counts.old start.old (reverse way.old) (trees_of list.old) → WentOn went gone.old counts.old (with_body f list.old) gone.new counts.new (with_body f list.new)) }
-    ensures start { IfOk result (λ went. went ≡ true → (f : Function) → Tells counts.old (function_tree (with_body f list.old)) → IsStart counts.old start.old (reverse way.old) (trees_of list.old) → IsStart counts.new start.new (reverse way.new) (trees_of list.new)) }
+    ensures went { IfOk result (λ went. (f : Function) → IsStart counts.old start.old sure.old (reverse way.old) (trees_of list.old) → WentOn went gone.old counts.old (with_body f list.old) gone.new counts.new (with_body f list.new)) }
+    ensures start { IfOk result (λ went. went ≡ true → (f : Function) → Tells counts.old (function_tree (with_body f list.old)) → IsStart counts.old start.old sure.old (reverse way.old) (trees_of list.old) → IsStart counts.new start.new sure.new (reverse way.new) (trees_of list.new)) }
 {
-    let change = change_list_of(alloc, counts, start, way, list)?;
+    let change = change_list_of(alloc, counts, start, way, sure, list)?;
     match change {
         Some(slot) => {
             mark(slot, gone);
@@ -119,14 +121,24 @@ fn change_boxes(
     let mut gone = none_gone(alloc, function.slots.len())?;
     let mut start = Start { doubt: 0, from: 0 };
     let mut way = List::new(alloc);
+    let mut sure = true;
     let mut count = 0;
-    'changes: while change_once(alloc, &mut start, &mut way, &mut gone, &mut counts, list)? {
+    'changes: while change_once(
+        alloc,
+        &mut start,
+        &mut way,
+        &mut sure,
+        &mut gone,
+        &mut counts,
+        list,
+    )? {
         count = one_more(count)?;
     }
     Ok((count, gone))
 }
 
-/// The same of a function. The items of its outermost list are boxed meanwhile. After `Memory` its body is gone.
+/// Makes one change after another in a function until none applies, with the old numbers. The items of its
+/// outermost list are boxed meanwhile. After `Memory` its body is gone.
 fn change_all(alloc: Global, function: &mut Function) -> Result<(u64, List<bool>), Memory>
     ensures { IfOk result (λ r. AreMade r.0 function.old r.1 function.new) }
 {
@@ -187,7 +199,8 @@ fn change_top(alloc: Global, top: &mut Top) -> Result<u64, Memory>
     }
 }
 
-/// The same of each function in file order. After `Memory` some changes are made, and a body may be gone.
+/// Makes the changes of each function in file order, and says how many. After `Memory` some are made, and a body may be
+/// gone.
 pub fn change_tops(alloc: Global, tops: &mut List<Top>) -> Result<u64, Memory>
     ensures { IfOk result (λ n. AreTidied n tops.old tops.new) }
 {

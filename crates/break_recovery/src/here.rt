@@ -5,9 +5,11 @@ ghost use Rattle.c_tree.specs.Trees.{trees_of, join};
 ghost use Rattle.c_tree.specs.Views.{tree_at};
 ghost use Rattle.jump_meaning.specs.Code.{FunctionTree};
 ghost use Rattle.tidy_loops.specs.Slots.{Tells, count_in};
-ghost use Rattle.tidy_search.specs.Next.{put, next_here, changed_to};
+ghost use Rattle.break_recovery.specs.Steady.{AreAlike, IsSaid};
+ghost use Rattle.break_recovery.specs.Next.{put, next_here, changed_to};
 ghost use Rattle.break_recovery.specs.Loops.{continue_there, change_there, change_first, loop_after, list_after, slot_of as the_slot_of, keeps_next as the_keeps_next};
 
+use crate::steady::item_is_steady;
 use c_tree::Item;
 use c_types::{List, Memory};
 use std::alloc::Global;
@@ -63,9 +65,9 @@ pub fn change_of(
     }
 }
 
-/// What the loop becomes.
-pub fn changed_loop(alloc: Global, change: Change, item: &Item) -> Result<Item, Memory>
-    ensures { IfOk result (λ it. tree_at it ≡ loop_after change (tree_at item.now)) }
+/// Makes the change at the loop. After `Memory` the loop is given up.
+pub fn changed_loop(alloc: Global, change: Change, item: &mut Item) -> Result<(), Memory>
+    ensures { OnOk result (tree_at item.new ≡ loop_after change (tree_at item.old)) }
 {
     match change {
         Change::Break(slot) => broken(alloc, slot, item),
@@ -91,34 +93,39 @@ fn make(alloc: Global, change: Change, list: &mut List<Item>, at: usize) -> Resu
     requires { at < length list.old }
     ensures { OnOk result (trees_of list.new ≡ join (trees_of (take at list.old)) (list_after change (trees_of (drop at list.old)))) }
 {
-    let made = changed_loop(alloc, change, &list.as_slice()[at])?;
-    list.set(at, made);
+    changed_loop(alloc, change, list.at_mut(at))?;
     if keeps_next(change) {
         return Ok(());
     }
-    if at + 1 < list.len() {
+    let count = list.len();
+    if at + 1 < count {
         drop(list.remove(at + 1));
     }
     Ok(())
 }
 
-/// Makes the change at a loop whose body stands at this level, if one applies, and answers its slot.
-/// Else the list stays.
+/// Makes the change at a loop whose body stands at this level, if one applies, and answers its slot, and whether
+/// that is sure to leave all other slots as they are. Else the list stays.
 pub fn change_here(
     alloc: Global,
     counts: &List<u64>,
     level: u32,
     list: &mut List<Item>,
     at: usize,
+    sure: &mut bool,
 ) -> Result<Option<u32>, Memory>
     requires { at < length list.old }
     ensures made { IfOk result (λ it. (f : FunctionTree) → Tells counts.now f → changed_to it (trees_of list.new) ≡ put (join (trees_of (take at list.old))) (next_here f level (trees_of (drop at list.old)))) }
-    ensures kept { IfOk result (λ it. it ≡ None → list.new ≡ list.old) }
+    ensures kept { IfOk result (λ it. it ≡ None → (list.new ≡ list.old) × (sure.new ≡ sure.old)) }
+    ensures alike { IfOk result (λ it. IsSaid it sure.new (λ g. AreAlike g (trees_of list.old) (trees_of list.new))) }
 {
     match find(counts, level, list, at)? {
         Some(change) => {
+            let slot = slot_of(change);
+            let steady = item_is_steady(slot, &list.as_slice()[at]);
             make(alloc, change, list, at)?;
-            Ok(Some(slot_of(change)))
+            *sure = steady;
+            Ok(Some(slot))
         }
         None => Ok(None),
     }

@@ -1,4 +1,5 @@
-//! Guards turned back into `break` and `continue`, one change after another.
+//! Guards turned back into `break` and `continue`, one change after another, and the law of which change comes
+//! next.
 #![tactic(auto)]
 
 mod boxes;
@@ -7,5 +8,8 @@ mod here;
 mod places;
 mod program;
 mod search;
+mod search_law;
+mod steady;
 
 pub use program::tidy;
+pub use search_law::search_laws;

@@ -4,9 +4,9 @@ ghost use Rattle.std.specs.Prelude.{◌≡◌, ◌<◌, ◌⊎◌, ℕ, [], reve
 ghost use Rattle.c_tree.specs.Trees.{trees_of};
 ghost use Rattle.jump_meaning.specs.Code.{FunctionTree};
 ghost use Rattle.tidy_loops.specs.Slots.{Tells};
-ghost use Rattle.tidy_search.specs.Next.{put, next_at, changed_to};
-ghost use Rattle.tidy_search.specs.Places.{behind, replaced, AreQuiet, IsFoundAt, GoesOn};
-ghost use Rattle.tidy_search.specs.Ways.{IsWayAt, LeadsOn, IsAhead, KeepsWay};
+ghost use Rattle.break_recovery.specs.Next.{put, next_at, changed_to};
+ghost use Rattle.break_recovery.specs.Places.{behind, replaced, AreQuiet, IsFoundAt, GoesOn};
+ghost use Rattle.break_recovery.specs.Ways.{IsWayAt, LeadsOn, IsAhead, IsBefore, KeepsWay};
 
 use crate::boxes::change_at;
 use c_tree::Item;
@@ -20,7 +20,8 @@ pub struct Start {
     pub from: usize,
 }
 
-/// Makes the change at this place, if one applies, and answers its slot. Else the list stays.
+/// Makes the change at this place, if one applies, and answers its slot. Else the list stays. No item on a sure
+/// way is asked whether it allows a change itself.
 fn change_place(
     alloc: Global,
     counts: &List<u64>,
@@ -28,13 +29,14 @@ fn change_place(
     list: &mut List<Boxed<Item>>,
     place: usize,
     way: &mut List<usize>,
+    sure: &mut bool,
 ) -> Result<Option<u32>, Memory>
-    ensures made { IfOk result (λ it. (f : FunctionTree) → Tells counts.now f → IsWayAt f level (reverse way.old) (behind place (trees_of list.old)) → changed_to it (trees_of list.new) ≡ put (λ c. replaced place c (trees_of list.old)) (next_at f level (behind place (trees_of list.old)))) }
+    ensures made { IfOk result (λ it. (f : FunctionTree) → Tells counts.now f → IsWayAt sure.old f level (reverse way.old) (behind place (trees_of list.old)) → changed_to it (trees_of list.new) ≡ put (λ c. replaced place c (trees_of list.old)) (next_at f level (behind place (trees_of list.old)))) }
     ensures kept { IfOk result (λ it. it ≡ None → list.new ≡ list.old) }
-    ensures way { IfOk result (λ it. LeadsOn counts.now it (λ f. IsWayAt f level (reverse way.old) (behind place (trees_of list.old))) (λ (g : ℕ) h. IsWayAt h level (reverse way.new) (behind place (trees_of list.new)))) }
+    ensures way { IfOk result (λ it. LeadsOn counts.now it (λ g. g) (λ f. IsWayAt sure.old f level (reverse way.old) (behind place (trees_of list.old))) (λ (g : ℕ) h. IsWayAt sure.new h level (reverse way.new) (behind place (trees_of list.new)))) }
 {
     if place < list.len() {
-        return change_at(alloc, counts, level, list, place, way);
+        return change_at(alloc, counts, level, list, place, way, sure);
     }
     Ok(None)
 }
@@ -47,14 +49,15 @@ fn change_behind(
     list: &mut List<Boxed<Item>>,
     from: usize,
     way: &mut List<usize>,
+    sure: &mut bool,
 ) -> Result<Option<(u32, usize)>, Memory>
-    ensures made { IfOk result (λ it. (f : FunctionTree) → Tells counts.now f → AreQuiet f level from (trees_of list.old) → IsWayAt f level (reverse way.old) (behind from (trees_of list.old)) → IsFoundAt f level it (trees_of list.old) (trees_of list.new)) }
+    ensures made { IfOk result (λ it. (f : FunctionTree) → Tells counts.now f → AreQuiet f level from (trees_of list.old) → IsWayAt sure.old f level (reverse way.old) (behind from (trees_of list.old)) → IsFoundAt f level it (trees_of list.old) (trees_of list.new)) }
     ensures kept { IfOk result (λ it. it ≡ None → list.new ≡ list.old) }
-    ensures way { IfOk result (λ it. LeadsOn counts.now it (λ f. AreQuiet f level from (trees_of list.old) × IsWayAt f level (reverse way.old) (behind from (trees_of list.old))) (λ (c : ℕ × ℕ) h. IsWayAt h level (reverse way.new) (behind c.1 (trees_of list.new)))) }
+    ensures way { IfOk result (λ it. LeadsOn counts.now it (λ c. c.0) (λ f. AreQuiet f level from (trees_of list.old) × IsWayAt sure.old f level (reverse way.old) (behind from (trees_of list.old))) (λ (c : ℕ × ℕ) h. IsWayAt sure.new h level (reverse way.new) (behind c.1 (trees_of list.new)))) }
 {
     let mut i = from;
     while i < list.len() {
-        let change = change_place(alloc, counts, level, list, i, way)?;
+        let change = change_place(alloc, counts, level, list, i, way, sure)?;
         match change {
             Some(slot) => return Ok(Some((slot, i))),
             None => {
@@ -66,7 +69,7 @@ fn change_behind(
     Ok(None)
 }
 
-/// The same of the whole list, at the place in doubt first.
+/// Makes the first change of the whole list, at the place in doubt first.
 fn change_doubt(
     alloc: Global,
     counts: &List<u64>,
@@ -74,24 +77,35 @@ fn change_doubt(
     list: &mut List<Boxed<Item>>,
     start: Start,
     way: &mut List<usize>,
+    sure: &mut bool,
 ) -> Result<Option<(u32, usize)>, Memory>
     requires { start.doubt < start.from }
-    ensures made { IfOk result (λ it. (f : FunctionTree) → Tells counts.now f → IsAhead f level start.doubt start.from (reverse way.old) (trees_of list.old) → IsFoundAt f level it (trees_of list.old) (trees_of list.new)) }
+    ensures made { IfOk result (λ it. (f : FunctionTree) → Tells counts.now f → IsAhead sure.old f level start.doubt start.from (reverse way.old) (trees_of list.old) → IsFoundAt f level it (trees_of list.old) (trees_of list.new)) }
     ensures kept { IfOk result (λ it. it ≡ None → list.new ≡ list.old) }
-    ensures way { IfOk result (λ it. LeadsOn counts.now it (λ f. IsAhead f level start.doubt start.from (reverse way.old) (trees_of list.old)) (λ (c : ℕ × ℕ) h. IsWayAt h level (reverse way.new) (behind c.1 (trees_of list.new)))) }
+    ensures way { IfOk result (λ it. LeadsOn counts.now it (λ c. c.0) (λ f. IsAhead sure.old f level start.doubt start.from (reverse way.old) (trees_of list.old)) (λ (c : ℕ × ℕ) h. IsWayAt sure.new h level (reverse way.new) (behind c.1 (trees_of list.new)))) }
 {
     let mut inside = List::new(alloc);
-    let change = change_place(alloc, counts, level, list, start.doubt, &mut inside)?;
+    let mut steady = true;
+    let change = change_place(
+        alloc,
+        counts,
+        level,
+        list,
+        start.doubt,
+        &mut inside,
+        &mut steady,
+    )?;
     match change {
         Some(slot) => {
             *way = inside;
+            *sure = steady;
             Ok(Some((slot, start.doubt)))
         }
-        None => change_behind(alloc, counts, level, list, start.from, way),
+        None => change_behind(alloc, counts, level, list, start.from, way, sure),
     }
 }
 
-/// The same of the whole list, where no change applies before the start, but for the place in doubt.
+/// Makes the first change of the whole list, where none applies before the start but at the place in doubt.
 pub fn change_from(
     alloc: Global,
     counts: &List<u64>,
@@ -99,15 +113,16 @@ pub fn change_from(
     list: &mut List<Boxed<Item>>,
     start: Start,
     way: &mut List<usize>,
+    sure: &mut bool,
 ) -> Result<Option<(u32, usize)>, Memory>
-    ensures made { IfOk result (λ it. (f : FunctionTree) → Tells counts.now f → IsAhead f level start.doubt start.from (reverse way.old) (trees_of list.old) → IsFoundAt f level it (trees_of list.old) (trees_of list.new)) }
+    ensures made { IfOk result (λ it. (f : FunctionTree) → Tells counts.now f → IsAhead sure.old f level start.doubt start.from (reverse way.old) (trees_of list.old) → IsFoundAt f level it (trees_of list.old) (trees_of list.new)) }
     ensures kept { IfOk result (λ it. it ≡ None → list.new ≡ list.old) }
-    ensures way { IfOk result (λ it. LeadsOn counts.now it (λ f. IsAhead f level start.doubt start.from (reverse way.old) (trees_of list.old)) (λ (c : ℕ × ℕ) h. IsWayAt h level (reverse way.new) (behind c.1 (trees_of list.new)))) }
+    ensures way { IfOk result (λ it. LeadsOn counts.now it (λ c. c.0) (λ f. IsAhead sure.old f level start.doubt start.from (reverse way.old) (trees_of list.old)) (λ (c : ℕ × ℕ) h. IsWayAt sure.new h level (reverse way.new) (behind c.1 (trees_of list.new)))) }
 {
     if start.doubt < start.from {
-        return change_doubt(alloc, counts, level, list, start, way);
+        return change_doubt(alloc, counts, level, list, start, way, sure);
     }
-    change_behind(alloc, counts, level, list, start.from, way)
+    change_behind(alloc, counts, level, list, start.from, way, sure)
 }
 
 /// Where the search goes on behind a change at this place, with the declaration gone from that one.
@@ -140,13 +155,13 @@ fn behind_removal(place: usize, at: usize) -> Start
     }
 }
 
-/// Gives the way up where the declaration went from this place.
+/// Gives the way up where the declaration went from this place, or from behind it.
 pub fn keep_way(alloc: Global, place: usize, gone: Option<usize>, way: &mut List<usize>)
-    ensures { (way.new ≡ []) ⊎ ((gone ≡ Some place → ⊥) × (way.new ≡ way.old)) }
+    ensures { (way.new ≡ []) ⊎ (IsBefore gone place × (way.new ≡ way.old)) }
 {
     match gone {
         Some(at) => {
-            if at == place {
+            if at >= place {
                 *way = List::new(alloc);
             }
         }

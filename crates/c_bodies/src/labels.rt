@@ -143,7 +143,7 @@ fn add_label<'n, 'a>(
     }
 }
 
-/// The same of a node, which may be no label.
+/// Puts the item of a node behind others, if the node is a label.
 #[tactic(auto, using(crate::proofs::Walks::one_label))]
 fn add_node<'n, 'a>(
     alloc: Global,
@@ -235,7 +235,7 @@ fn read_label<'n, 'a>(
     }
 }
 
-/// The same of a node, which may be no label.
+/// Puts a node where it belongs in its section, if it is a label.
 #[tactic(auto, using(crate::proofs::Walks::one_label))]
 fn read_node<'n, 'a>(
     alloc: Global,

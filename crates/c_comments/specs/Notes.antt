@@ -41,7 +41,7 @@ abbrev pub labels_place : List Label → ℕ → Option Anchor
 labels_place [] t = None
 labels_place (l ∷ ls) t = elim (nat_lt t (label_after l)) [ true ↦ Some (Before (label_first l)) | false ↦ labels_place ls t ]
 
--- the same of a statement that begins a section: all its labels, and those that are left
+-- the place of token t, if it stands in the labels of a statement that begins a section: all its labels, and those that are left
 abbrev pub section_place : List Label → List Label → ℕ → Option Anchor
 section_place all [] t = None
 section_place all (l ∷ ls) t = elim (nat_lt t (label_after l)) [ true ↦ Some (section_label_place all l) | false ↦ section_place all ls t ]

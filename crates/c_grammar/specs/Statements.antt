@@ -79,7 +79,7 @@ abbrev pub more_tokens : {X : Type 0} → (X → List Class → List Class) → 
 more_tokens y [] r = r
 more_tokens y (x ∷ xs) r = c.Comma ∷ y x (more_tokens y xs r)
 
--- the same, up to a `}` that may have a comma before it
+-- each behind a comma, up to a `}` that may have a comma before it
 abbrev pub rest_tokens : {X : Type 0} → (X → List Class → List Class) → List X → Bool → List Class → List Class
 rest_tokens y [] trailing r = word_tokens c.Comma trailing (c.CloseBlock ∷ r)
 rest_tokens y (x ∷ xs) trailing r = c.Comma ∷ y x (rest_tokens y xs trailing r)

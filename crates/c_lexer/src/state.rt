@@ -35,7 +35,7 @@ pub(crate) enum Closing {
     Starred,
     /// A `*`, continued line ends, possibly none, a `\` and white space without a newline.
     Continued,
-    /// The same, with a carriage return as its last byte, which may end the line as well.
+    /// What `Continued` is, with a carriage return as its last byte, which may end the line as well.
     Returned,
     /// A `*` and continued line ends: with the lines joined, a `/` would close the comment.
     Joined,

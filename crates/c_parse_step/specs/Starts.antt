@@ -65,7 +65,7 @@ assignment at z = conditional at (s.Assigns at ∷ z)
 abbrev pub expression : ℕ → Frames → Frames
 expression at z = assignment at (s.Commas at at [] ∷ z)
 
--- the same without the frame that awaits the first token
+-- the frames of a full expression behind the one that awaits its first token
 abbrev pub behind_full : Full → ℕ → Frames → Frames
 behind_full f.Conditional at z = s.Operand at ∷ s.Choice at ∷ s.Whole f.Conditional at ∷ z
 behind_full f.Assignment at z = s.Operand at ∷ s.Choice at ∷ s.Assigns at ∷ s.Whole f.Assignment at ∷ z

@@ -47,7 +47,7 @@ pub enum Want {
     Optional(Lead),
     /// The further members of a list, up to its `}`.
     Tail(Member),
-    /// The same behind a comma.
+    /// The further members of a list behind a comma, up to its `}`.
     Next(Member),
     Declarator,
     Enumerator,

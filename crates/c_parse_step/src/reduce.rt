@@ -323,7 +323,8 @@ fn assigns(
     }
 }
 
-/// The same where it may be the first of assignments with commas between them.
+/// What an expression becomes that may be the first of assignments with commas between them: the target of an assignment,
+/// such a list, or whole.
 fn first_of_commas(
     alloc: Global,
     stack: &mut FrameStack,

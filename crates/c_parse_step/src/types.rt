@@ -36,7 +36,7 @@ pub fn begun_with(
     taken(stack, load, Entry::Rest(rule, at, level, parts, todo))
 }
 
-/// The same with a list of what is left.
+/// Behind the first token of a node, which it has alone so far, with room for so many parts, where these are left.
 pub fn begun(
     alloc: Global,
     stack: &mut FrameStack,

@@ -70,7 +70,7 @@ pub data CalledBreaks (env : Env) (at : ℕ) : Binding → Terms → Fault → T
   no_format : {xs : Terms} → HasNoFormat env xs → CalledBreaks env at Printf xs (broken at 40)
   other_conversion : {f : Term} {xs : Terms} (bytes : List ℕ) → Means env f (Text bytes) → ((ws : List Want) → IsFormat bytes ws → ⊥) → CalledBreaks env at Printf (Then f xs) (broken at 40)
   other_count : {f : Term} {xs : Terms} (bytes : List ℕ) (ws : List Want) → Means env f (Text bytes) → IsFormat bytes ws → length ws ≢ count xs → CalledBreaks env at Printf (Then f xs) (broken at 40)
-  -- the same of `printf`
+  -- an argument of `printf` breaks what its format wants
   printed : {f : Term} {xs : Terms} {v : Fault} (bytes : List ℕ) (ws : List Want) → Means env f (Text bytes) → IsFormat bytes ws → length ws ≡ count xs → SomeArgumentBreaks env ws xs v
       → CalledBreaks env at Printf (Then f xs) v
   text_printed : {f : Term} {xs : Terms} {v : Fault} → HasText env xs v → CalledBreaks env at Printf (Then f xs) v

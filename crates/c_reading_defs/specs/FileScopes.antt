@@ -27,7 +27,7 @@ number_behind typing word scopes [] e = written_or typing (names_at word scopes 
 number_behind typing word scopes (d ∷ before) e =
     written_or typing (names_at word scopes e.name) e.value (next_value (int_only (number_behind typing word scopes before d)))
 
--- the same of a constant with these in front of it, in text order
+-- the number of a constant with these in front of it, in text order
 abbrev pub enumerator_number : Typing → (ℕ → List ℕ) → List (List Identifier) → List Enumerator → Enumerator → Option ℤ
 enumerator_number typing word scopes front e = number_behind typing word scopes (reverse front) e
 

@@ -102,6 +102,6 @@ abbrev mutual
   all_counted NoArgument = 0
   all_counted (Argument x xs) = counted x + bracket_count (level_of x) 2 + all_counted xs
 
--- the same where the grammar needs a level
+-- the counted tokens of an expression where the grammar needs a level
 abbrev pub counted_at : ℕ → ExpressionTree → ℕ
 counted_at need x = counted x + bracket_count (level_of x) need

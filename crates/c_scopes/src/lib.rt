@@ -1,4 +1,4 @@
-//! Files: names of file scope, and the resolved program of a text.
+//! Files: names of file scope, and the resolved program of a text, or its first fault.
 #![tactic(auto)]
 
 mod blocks;
@@ -13,6 +13,7 @@ mod functions;
 mod globals;
 mod outermost;
 mod parameters;
+mod reading;
 mod resolving;
 mod signatures;
 mod tangle;
@@ -29,6 +30,7 @@ pub use function_names::{FunctionNames, add_body, bodies_of, declare_function, h
 pub use functions::{Outside, read_function};
 pub use globals::read_globals;
 pub use parameters::read_parameters;
+pub use reading::read;
 pub use resolving::{resolve, resolve_with};
 pub use signatures::{same_signature, signature};
 pub use tangle::{is_tangled, measures_of};

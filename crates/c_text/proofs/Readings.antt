@@ -38,7 +38,7 @@ use Rattle.c_violation_laws.proofs.TheProgramLaws.{program_laws}
 use Rattle.c_violation_laws.proofs.TheFileLaws.{file_laws}
 use Rattle.c_scopes.specs.Resolving.{resolved, answer, program_of, violation_of, file_at, refused}
 use Rattle.c_tree.specs.declared.tree.Program.{Program}
-use Rattle.c_reading.specs.Reading.{of_syntax, of_tokens}
+use Rattle.c_scopes.specs.Reading.{of_syntax, of_tokens}
 use Rattle.c_text.specs.Reading.{counts_of, reading, HasFaultyToken, HasViolation, IsRefusedFor, IsProgramOf, IsInSubset}
 
 -- ---- one step after another

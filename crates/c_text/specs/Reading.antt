@@ -8,7 +8,7 @@ use Rattle.c_parser.specs.Reads.{IsRefusedAt}
 use Rattle.c_layers.specs.Tops.{Top}
 use Rattle.c_kinds.specs.declared.typed.Fault.{Fault}
 use Rattle.c_statements.specs.Functions.{FlatCounts}
-use Rattle.c_reading.specs.Reading.{reading as reading_with}
+use Rattle.c_scopes.specs.Reading.{reading as reading_with}
 use Rattle.c_scopes.specs.Resolving.{refused}
 use Rattle.c_reading_defs.specs.Derivations.{DeriveFile, IsUnexpected, IsTooMany}
 use Rattle.c_reading_defs.specs.Violations.{IsLeast, IsFaultless}
@@ -25,7 +25,7 @@ use Rattle.c_resolved_laws.specs.Counts.{flat_counts}
 abbrev pub counts_of : FlatCounts
 counts_of body = flat_counts (trees_of body)
 
--- the same as a function: its tokens and comments are read, then the syntax that the tokens derive, then the program of
+-- reading as a function: the tokens and comments are read, then the syntax that the tokens derive, then the program of
 -- that syntax (`IsProgramOf` and `IsRefusedFor` say of which texts it answers what)
 abbrev pub reading : List ℕ → Result Program Refusal
 reading t = reading_with counts_of t

@@ -24,5 +24,5 @@ pub fn read(alloc: Global, text: &[u8]) -> Result<Program, ReadStop>
     ensures fault_back { (refusal : Refusal) → IsRefusedFor text.now refusal → reading text.now ≡ Err refusal }
     ensures complete { IsInSubset text.now → IfErr result (λ stop. stop ≡ ReadStop.Memory) }
 {
-    c_reading::read(alloc, &FlatForms { alloc }, text)
+    c_scopes::read(alloc, &FlatForms { alloc }, text)
 }

@@ -10,7 +10,7 @@ use Rattle.jump_meaning.specs.Values.{Event}
 use Rattle.c_resolved_laws.specs.Counts.{IsResolved}
 use Rattle.cmd_run.specs.Runnable.{IsRunnable}
 use Rattle.c_text.specs.Reading.{IsProgramOf}
-use Rattle.cmd_run_text.proofs.Mains.{enters}
+use Rattle.cmd_run.proofs.Mains.{enters}
 use Rattle.move_driver.specs.Text.{Output, IsTextRestructured, IsOnlyOutput}
 use Rattle.cmd_demo.specs.declared.alone.End.{End}
 use Rattle.cmd_demo.specs.declared.alone.Stop.{Stop}

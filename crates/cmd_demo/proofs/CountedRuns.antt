@@ -10,7 +10,7 @@ use Rattle.jump_meaning.proofs.RunFacts.{run_grows}
 use Rattle.rg_ports.specs.Count.{Rose}
 use Rattle.rg_ports.specs.Written.{Written, Counted}
 use Rattle.cmd_run.specs.Runnable.{main_entry}
-use Rattle.step_library.specs.Shown.{bytes_in}
+use Rattle.step_interp.specs.Shown.{bytes_in}
 use Rattle.step_interp.specs.declared.entry.Entry.{Entry}
 use Rattle.step_interp.specs.declared.runs.RunAnswer.{RunAnswer}
 use Rattle.step_interp.specs.declared.runs.RunAnswer.TheVariants as answer

@@ -6,7 +6,7 @@ use Rattle.jump_meaning.specs.Behaviour.{Shown, Ended, Trapped, More}
 use Rattle.jump_meaning.specs.Code.{code_of}
 use Rattle.jump_meaning.specs.Runs.{jump_run}
 use Rattle.jump_meaning.specs.Values.{Event}
-use Rattle.step_library.specs.Shown.{bytes_in}
+use Rattle.step_interp.specs.Shown.{bytes_in}
 use Rattle.cmd_demo.specs.declared.alone.End.{End}
 use Rattle.cmd_demo.specs.declared.alone.Stop.{Stop}
 use Rattle.cmd_demo.specs.declared.alone.Stop.TheVariants as stop

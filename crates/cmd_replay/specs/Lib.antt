@@ -1,2 +1,5 @@
 pub mod Replayed
 pub mod Replays
+pub mod Reports
+pub mod Laws
+pub mod Texts

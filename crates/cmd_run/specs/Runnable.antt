@@ -67,7 +67,7 @@ Unrun said gives refuses from before reads reads' status.WriteFault = ⊥
 Unrun said gives refuses from before reads reads' (status.Trapped trap) = ⊥
 Unrun said gives refuses from before reads reads' status.Spent = ⊥
 
--- the same of what was read, which can't be run for this reason
+-- what was read can't be run for this reason, and the status says so
 abbrev pub Unfit : (List ℕ → Type 0) → (Refusal → Type 0) → List ℕ → Status → Type 0
 Unfit said reason from (status.Refused refusal) = reason refusal × said (refusal_line from refusal)
 Unfit said reason from status.Memory = said memory_line

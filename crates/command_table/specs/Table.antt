@@ -80,7 +80,7 @@ Does works (Lower from to) untouched old new ended =
     × works.lowers (says old new) from to old.held new.held old.reads new.reads old.writes new.writes ended
     × works.completes_lower from old.held old.reads new.reads old.writes new.writes ended
 
--- the same by the words, where those that fit no form leave each port but `err` as it was
+-- what the words are answered with, where those that fit no form leave each port but `err` as it was
 abbrev pub Answers : Effects → Option Command → Untouched → Ports → Ports → Status → Type 0
 Answers works None untouched old new ended = untouched.shelf × untouched.out × says old new usage_line
 Answers works (Some command) untouched old new ended = Does works command untouched old new ended

@@ -20,7 +20,7 @@ IsBodyForm used taken f body (Calm new) = (has_jumps (trees_of body) ≡ false) 
 IsBodyForm used taken f body (Flat m) =
     (has_jumps (trees_of body) ≡ true) × (trees_of m.body ≡ flat_body constant f.slots (length f.labels) (trees_of body)) × (m.names ≡ flat_names_beside used taken f (trees_of body) (label_codes f (trees_of body)))
 
--- the same of a function, which may be a prototype
+-- what becomes of a function, which may be a prototype, where these names are used and taken
 abbrev pub IsFormBeside : List (List ℕ) → List (List ℕ) → Function → Form → Type 0
 IsFormBeside used taken f form = elim f.body [ None ↦ form ≡ Same | Some body ↦ IsBodyForm used taken f body form ]
 
@@ -40,6 +40,6 @@ pub record IsFlattenedBeside (used taken : List (List ℕ)) (f g : Function) : T
   pub is : IsFormBeside used taken f form
   pub whole : g ≡ applied form f
 
--- the same with the names of a program and those of its file scope
+-- g is f flattened, with the names of a program and those of its file scope
 abbrev pub IsFlattened : List (List ℕ) → List (List ℕ) → Function → Function → Type 0
 IsFlattened names file f g = IsFlattenedBeside (with_known names) (with_known file) f g

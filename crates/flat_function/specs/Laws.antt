@@ -17,7 +17,7 @@ named_beside used taken f old new =
     let n = flat_names_beside used taken f (trees_of old) (label_codes f (trees_of old)) in
     record f { slots = n.slots; labels = n.labels; body = Some new; flat = true }
 
--- the same with the names of a program and those of its file scope
+-- a function with the names of its flat form, of a program with these names and those at file scope, and this body
 abbrev pub named_flat : List (List ℕ) → List (List ℕ) → Function → List Item → List Item → Function
 named_flat names file f old new = named_beside (with_known names) (with_known file) f old new
 

@@ -90,7 +90,7 @@ assigned k x None (e ∷ es) = one (Evaluate (assign_number k x e))
 assigned k x None [] = Nil
 assigned k x (Some n) es = assigned_cells k x 0 es (n - length es)
 
--- the same of slot x of the function
+-- the assignments that initialise slot x of the function
 abbrev pub initialised : Plan → ℕ → List ExpressionTree → Forest
 initialised p x es = assigned (entry_or no_slot p.slots x).kind x (entry_or no_slot p.slots x).cells es
 

@@ -27,7 +27,7 @@ hops xs = total hop_of xs
 abbrev pub IsSettled : Forest → Type 0
 IsSettled a = 0 < hops a → breaks a + continues a ≡ 0
 
--- the same of a switch
+-- where the sections of a switch hold a jump or a label, no exit is bound to the switch
 abbrev pub AreSettled : Sections → Type 0
 AreSettled d = 0 < total_in hop_of d → breaks_in d ≡ 0
 

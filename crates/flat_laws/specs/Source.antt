@@ -17,7 +17,7 @@ abbrev pub InTest : Setting → TestTree → Type 0
 InTest s (Source e) = In s e
 InTest s _ = ⊥
 
--- the same of a selector
+-- a selector of the source names slots of the first
 abbrev pub InSelector : Setting → SelectorTree → Type 0
 InSelector s (Selects e) = In s e
 InSelector s _ = ⊥

@@ -35,7 +35,7 @@ pub record Setting : Type 0 where
 abbrev pub In : Setting → ExpressionTree → Type 0
 In s e = ExpressionSlots (λ x. x < length s.old) e
 
--- the same of each of these
+-- each of these expressions of the first names slots of the first
 abbrev pub AreIn : Setting → List ExpressionTree → Type 0
 AreIn s [] = Unit {0}
 AreIn s (e ∷ es) = In s e × AreIn s es
@@ -206,7 +206,7 @@ pub data LooserTop : Top → Top → Type 0 where
   lt_same : {t u : Top} → t ≡ u → LooserTop t u
   lt_function : {f h : Function} → f.name ≡ h.name → IsLooser (function_tree f) (function_tree h) → LooserTop (T.Function f) (T.Function h)
 
--- the same of each of two lists of file-scope items, in order
+-- two lists of file-scope items are, place by place, the same, or looser functions in the second
 pub data LooserTops : List Top → List Top → Type 0 where
   lt_none : LooserTops [] []
   lt_more : {t u : Top} {ts us : List Top} → LooserTop t u → LooserTops ts us → LooserTops (t ∷ ts) (u ∷ us)

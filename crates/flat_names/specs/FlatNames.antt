@@ -202,6 +202,6 @@ flat_names_beside used taken f body codes' =
 abbrev pub with_known : List (List ℕ) → List (List ℕ)
 with_known names = with_names (with_names [] names) known_functions
 
--- the same with the names of a program and those of its file scope
+-- the variables and labels of the flat form of a function, with the names of its program and those of its file scope
 abbrev pub flat_names : List (List ℕ) → List (List ℕ) → Function → Forest → List ℕ → FlatNames
 flat_names names file f body codes' = flat_names_beside (with_known names) (with_known file) f body codes'

@@ -1,4 +1,5 @@
-ghost use Rattle.std.specs.Prelude.{◌≡◌, ◌++◌, IfOk};
+ghost use Rattle.std.specs.Prelude.{◌≡◌, ◌≤◌, ◌++◌, IfOk, OnOk, length};
+ghost use Rattle.c_copies.specs.Names.{names as the_names, file_names as the_file_names};
 ghost use Rattle.c_tree.specs.Trees.{trees_of};
 ghost use Rattle.flat_names.specs.Gathered.{given_of, AreGathered};
 ghost use Rattle.flat_names.specs.FlatNames.{constructs as the_constructs, none_given, name_constructs as the_name_constructs, flat_names_beside};
@@ -7,8 +8,9 @@ use crate::constructs::constructs;
 use crate::giving::{GivenNames, Made, name_constructs};
 use crate::labels::label_names;
 use crate::variables::name_slots;
+use c_copies::{file_names, names};
 use c_fresh_names::UsedNames;
-use c_tree::{Function, Item, Slot};
+use c_tree::{Function, Item, Program, Slot};
 use c_types::{List, Memory, Name};
 use std::alloc::Global;
 
@@ -40,6 +42,24 @@ impl ProgramNames {
         let used = UsedNames::new(alloc, names.as_slice())?;
         let taken = UsedNames::new(alloc, file_names.as_slice())?;
         Ok(ProgramNames { used, taken })
+    }
+
+    /// Gathers all names of a program, and those of its file scope. All names are answered as a list, too. Want of memory is
+    /// the only failure.
+    pub fn of_program(
+        alloc: Global,
+        program: &Program,
+    ) -> Result<(List<Name>, ProgramNames), Memory>
+        ensures names { IfOk result (λ it. it.0 ≡ the_names program.now) }
+        ensures held { OnOk result (length (the_names program.now) ≤ 4294967295) }
+        ensures gathered { IfOk result (λ it. AreGathered (the_names program.now) (the_file_names program.now) it.1) }
+    {
+        let used = names(alloc, program)?;
+        // a list holds at most 4,294,967,295 names, which its slice tells
+        let _ = used.as_slice();
+        let of_file = file_names(alloc, program)?;
+        let gathered = ProgramNames::new(alloc, &used, &of_file)?;
+        Ok((used, gathered))
     }
 }
 

@@ -34,6 +34,12 @@ pub two_or_one : (r m k : ℕ) → r ≡ min (0 + m) 2 → m ≡ suc k → nat_e
 two_or_one r m zero e f = let g : r ≡ 1 = omega (arith, e, f) in ap (λ z. nat_eq z 2) g
 two_or_one r m (suc k) e f = let g : r ≡ 2 = omega (arith, e, f) in ap (λ z. nat_eq z 2) g
 
+-- counted up to two, there are some where there is one
+pub some_counted : (r m : ℕ) → r ≡ min (0 + m) 2 → not (nat_eq r 0) ≡ is_some_number m
+some_counted r zero e = let g : r ≡ 0 = omega (arith, e) in ap (λ z. not (nat_eq z 0)) g
+some_counted r (suc zero) e = let g : r ≡ 1 = omega (arith, e) in ap (λ z. not (nat_eq z 0)) g
+some_counted r (suc (suc m)) e = let g : r ≡ 2 = omega (arith, e) in ap (λ z. not (nat_eq z 0)) g
+
 -- of an item with m breaks and what stands behind it, with n
 by_last : (e f : Ending) (m n a b : ℕ) → (is_gone e ≡ true → n ≡ 0) → (f ≡ Breaks → m ≡ suc a) → (e ≡ Breaks → n ≡ suc b) → later e f ≡ Breaks → m + n ≡ suc (cond (is_gone e) a (m + b))
 by_last Gone f m n a b z g k h = let i = z refl in let j = g h in omega (arith, i, j)

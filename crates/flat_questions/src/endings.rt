@@ -92,7 +92,8 @@ fn items_end_by(named: &[bool], items: &[Item]) -> Ending
     Ending::Gone
 }
 
-fn declared(given: &Option<List<Expression>>) -> Ending
+/// How a list ends that ends by a declaration.
+fn declaration_ends_by(given: &Option<List<Expression>>) -> Ending
     ensures { ending_as result ≡ the_ending_of (λ l. false) (Local 0 (option_map expression_trees given.now)) }
 {
     match given {
@@ -101,7 +102,8 @@ fn declared(given: &Option<List<Expression>>) -> Ending
     }
 }
 
-fn marked(named: bool) -> Ending
+/// How a list ends that ends by a label.
+fn label_ends_by(named: bool) -> Ending
     ensures { ending_as result ≡ gone_or named }
 {
     if named {
@@ -118,8 +120,8 @@ fn item_ends_by(named: &[bool], item: &Item) -> Ending
     match item {
         Item::Break => Ending::Breaks,
         Item::Goto(_) => Ending::Jumps,
-        Item::Mark(label) => marked(is_flagged(named, *label)),
-        Item::Local(_, given) => declared(given),
+        Item::Mark(label) => label_ends_by(is_flagged(named, *label)),
+        Item::Local(_, given) => declaration_ends_by(given),
         Item::Block(a) => ends_by(named, a),
         Item::Switch(_, sections) => {
             let sections = sections.as_slice();

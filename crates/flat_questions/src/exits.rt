@@ -8,37 +8,10 @@ use c_tree::{Item, Section};
 use c_types::List;
 
 /// Whether a `break` of a list is bound to a loop or switch around it.
-#[cycle(breaking)]
 pub fn has_break(list: &List<Item>) -> bool
     ensures { result ≡ is_some_number (breaks (trees_of list.now)) }
 {
-    items_have_break(list.as_slice())
-}
-
-#[cycle(breaking)]
-fn items_have_break(items: &[Item]) -> bool
-    ensures { result ≡ is_some_number (breaks (trees_of items.now)) }
-{
-    for i in 0..items.len() {
-        if is_break_in(&items[i]) {
-            return true;
-        }
-    }
-    false
-}
-
-/// Whether an item is or holds a `break` that is bound to a loop or switch around it.
-#[cycle(breaking)]
-fn is_break_in(item: &Item) -> bool
-    ensures { result ≡ is_some_number (breaks_of (tree_at item.now)) }
-{
-    match item {
-        Item::If(_, a, b) => has_break(a) || has_break(b),
-        Item::For(first, _, _, _) => has_break(first),
-        Item::Block(a) => has_break(a),
-        Item::Break => true,
-        _ => false,
-    }
+    count_breaks(list, 0) != 0
 }
 
 /// How many breaks of a list are bound to a loop or switch around it, added to a count that stops at two.

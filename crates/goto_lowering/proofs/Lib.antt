@@ -1,1 +1,4 @@
+pub mod NumberLaws
+pub mod Layouts
+pub mod Steps
 pub mod Tops

@@ -1,10 +1,8 @@
 -- What stands at file scope, one after another.
-use Rattle.std.proofs.Common.{◌≡◌, ℕ, ◌+◌, ◌≤◌, length, List, [], ◌∷◌, ◌++◌, append_assoc, arith, refl, sym, ap, ◌∙◌, subst}
+use Rattle.std.proofs.Common.{◌≡◌, ℕ, ◌+◌, List, [], ◌∷◌, ◌++◌, append_assoc, arith, refl, sym, ap, ◌∙◌, subst}
 use Rattle.std.proofs.lemmas.List.{append-nil}
 use Rattle.c_tree.specs.declared.tree.Top.{Top}
-use Rattle.c_tree.specs.declared.tree.Program.{Program}
-use Rattle.c_copies.specs.Names.{names, file_names}
-use Rattle.lower_laws.specs.Lowering.{LoweredTops, lt_none, lt_more, top_gotos, tops_gotos, most_held, IsLoweredProgram}
+use Rattle.lower_laws.specs.Lowering.{LoweredTops, lt_none, lt_more, top_gotos, tops_gotos}
 use Rattle.goto_lowering.specs.Tops.{IsNext}
 
 -- whatever the rest is lowered to stands behind what is there
@@ -25,9 +23,3 @@ gotos_next (y ∷ xs) x = let e = gotos_next xs x in omega arith
 -- one more behind the others
 pub gotos_more : (old new : List Top) (t : Top) (m n s : ℕ) → m ≡ tops_gotos old → n ≡ top_gotos t → s ≡ m + n → new ≡ old ++ t ∷ [] → s ≡ tops_gotos new
 gotos_more old new t m n s o g e p = let b = gotos_next old t in let all : s ≡ tops_gotos (old ++ t ∷ []) = omega (arith, o, g, e, b) in all ∙ sym (ap tops_gotos p)
-
-pub whole : (p q : Program) (used file : List (List ℕ)) → used ≡ names p → file ≡ file_names p → length used ≤ most_held → LoweredTops used file p.tops q.tops → IsLoweredProgram p q
-whole p q used file e f held tops = record {
-  held = subst (λ ns. length ns ≤ most_held) e held;
-  tops = subst (λ fs. LoweredTops (names p) fs p.tops q.tops) f (subst (λ ns. LoweredTops ns file p.tops q.tops) e tops);
-}

@@ -1,1 +1,4 @@
+pub mod Renumbered
+pub mod Codes
+pub mod Steps
 pub mod Tops

@@ -3,14 +3,15 @@ ghost use Rattle.c_tree.specs.InRange.{body_of};
 ghost use Rattle.lower_laws.specs.Lowered.{gotos};
 ghost use Rattle.lower_laws.specs.Lowering.{IsBodyLowered, IsLoweredBeside};
 
+use crate::bodies::{LoweredBody, lower_body};
+use crate::listing::constructs;
+use crate::whole::name_lowered;
 use c_tree::{Function, Item};
 use c_types::{List, Memory};
 use flat_form::gotos_in;
 use flat_names::{FlatNames, ProgramNames};
 use flat_questions::named_labels;
-use lower_bodies::{LoweredBody, lower_body};
 use lower_items::Plan;
-use lower_names::{constructs, name_lowered};
 use std::alloc::Global;
 use std::mem;
 

@@ -7,7 +7,6 @@ ghost use Rattle.lower_result_laws.specs.Expressions.{KeepsExpressions};
 ghost use Rattle.lower_laws.specs.Lowering.{LoweredTops as AreLowered, IsTopLowered, IsLoweredProgram, top_gotos, tops_gotos, program_gotos};
 
 use crate::functions::{LoweredFunction, lower_function};
-use c_copies::{file_names, names};
 use c_tree::{Program, Top};
 use c_types::{List, Memory};
 use flat_names::ProgramNames;
@@ -107,11 +106,8 @@ pub fn lower(alloc: Global, program: Program) -> Result<(Program, u64), Memory>
     ensures behaves { IfOk result (λ r. BehaveTheSame program r.0) }
     ensures expressions { IfOk result (λ r. KeepsExpressions program r.0) }
 {
-    let used = names(alloc, &program)?;
-    // a list holds at most 4,294,967,295 names, which its slice tells
-    let _ = used.as_slice();
-    let of_file = file_names(alloc, &program)?;
-    let mut gathered = ProgramNames::new(alloc, &used, &of_file)?;
-    let LoweredTops { tops, gotos } = lower_tops(alloc, &mut gathered, program.tops)?;
+    let (_, names) = ProgramNames::of_program(alloc, &program)?;
+    let mut names = names;
+    let LoweredTops { tops, gotos } = lower_tops(alloc, &mut names, program.tops)?;
     Ok((Program { tops }, gotos))
 }

@@ -3,3 +3,4 @@ pub mod Places
 pub mod Nests
 pub mod Pairs
 pub mod Chosen
+pub mod GuardGone

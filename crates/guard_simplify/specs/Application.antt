@@ -22,7 +22,7 @@ without (suc n) (AndOff l t) = AndOff l (without n t)
 without (suc n) (OrOn l t) = OrOn l (without n t)
 without _ t = t
 
--- the same of a selector
+-- a selector without the wrapper that n wrappers stand round
 abbrev pub without_pick : ℕ → SelectorTree → SelectorTree
 without_pick zero (Pick l k s) = s
 without_pick (suc n) (Pick l k s) = Pick l k (without_pick n s)
@@ -33,7 +33,7 @@ abbrev pub without_repeat : Option Repeat → TestTree → TestTree
 without_repeat None t = t
 without_repeat (Some r) t = without r.at t
 
--- the same of a selector
+-- a selector without the wrapper that was found, if there is one
 abbrev pub without_repeat_pick : Option Repeat → SelectorTree → SelectorTree
 without_repeat_pick None s = s
 without_repeat_pick (Some r) s = without_pick r.at s

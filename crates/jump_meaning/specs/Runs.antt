@@ -54,6 +54,6 @@ pub record SameBehaviour (p q : Code) : Type 0 where
   pub runs : (m : List ℕ) (arguments : List ℤ) → IsEntry p m arguments → (input : List ℕ) (answers : List ℤ)
       → AreSameRuns (jump_run p m arguments input answers) (jump_run q m arguments input answers)
 
--- the same of two resolved programs
+-- two resolved programs have the same entries, and their runs from each, on each input and all answers, behave the same
 pub record BehaveTheSame (p q : Program) : Type 0 where
   pub codes : SameBehaviour (code_of p) (code_of q)

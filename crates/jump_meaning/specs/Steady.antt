@@ -43,7 +43,7 @@ pub record IsMadeWell (f : Function) : Type 0 where
   pub converted : IsConvertedFunction f → IsWellMade (body_of f)
   pub other : ¬ (IsConvertedFunction f) → Everywhere IsUnarmed (body_of f)
 
--- the same of what stands at file scope
+-- a function at file scope is made well
 abbrev pub IsTopMadeWell : Top → Type 0
 IsTopMadeWell (T.Function f) = IsMadeWell f
 IsTopMadeWell _ = Unit {0}

@@ -1,7 +1,8 @@
 ghost use Rattle.std.specs.Prelude.{◌≡◌, [], IfOk, length, ◌≤◌, ◌+◌, take};
 ghost use Rattle.label_offsets.specs.Leaps.{leaps_of, leaps_from, first, under, sections_leaps};
 
-use c_tree::{Branch, Item, Path, Section, Step};
+use crate::places::path_under;
+use c_tree::{Branch, Item, Path, Section};
 use c_types::{List, Memory};
 use std::alloc::Global;
 
@@ -15,8 +16,8 @@ pub fn first_leap(alloc: Global, body: &List<Item>) -> Result<Option<Path>, Memo
     first_among(alloc, body.as_slice(), 0)
 }
 
-/// The same where the first items of the body, so many as `from` says, have no Leap. They are not looked
-/// at.
+/// The path of the first Leap of a body in text order, where the first items of the body, so many as `from` says, have
+/// none. They are not looked at.
 pub fn first_leap_from(alloc: Global, body: &List<Item>, from: u32) -> Result<Option<Path>, Memory>
     requires { leaps_from 0 (take from body.now) ≡ [] }
     ensures { IfOk result (λ r. r ≡ first (leaps_from 0 body.now)) }
@@ -48,18 +49,7 @@ fn first_under(
     ensures { IfOk result (λ r. r ≡ first (under item branch (leaps_from 0 list.now))) }
 {
     match first_leap(alloc, list)? {
-        Some(path) => {
-            let Path { steps, item: last } = path;
-            let mut all = steps.into_vec();
-            all.insert(0, Step { item, branch })?;
-            if all.len() > 4294967295 {
-                return Err(Memory);
-            }
-            Ok(Some(Path {
-                steps: List::from_vec(all),
-                item: last,
-            }))
-        }
+        Some(path) => Ok(Some(path_under(path, item, branch)?)),
         None => Ok(None),
     }
 }

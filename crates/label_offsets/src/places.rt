@@ -4,7 +4,7 @@ ghost use Rattle.label_offsets.specs.Relation.{same_branch, same_step, relation 
 ghost use Rattle.label_offsets.specs.Offset.{count as the_count, counts as the_counts, section_count as the_section_count, section_counts as the_section_counts, before_branch as the_before_branch, before as the_before};
 
 use c_tree::{Branch, Item, Path, Section, Step, child};
-use c_types::{List, Memory};
+use c_types::{List, MOST, Memory};
 use std::alloc::Global;
 
 /// How a jump stands to its label, which says the rule that moves it (docs/REWRITING.md).
@@ -194,5 +194,21 @@ pub fn path_into(alloc: Global, steps: &[Step], step: Step) -> Result<Path, Memo
     Ok(Path {
         steps: all,
         item: 0,
+    })
+}
+
+/// A path in a list of an item, as one of the list that the item stands in.
+pub fn path_under(path: Path, item: u32, branch: Branch) -> Result<Path, Memory>
+    ensures { IfOk result (λ to. to ≡ record { steps = record { item = item; branch = branch } ∷ path.steps; item = path.item }) }
+{
+    let Path { steps, item: last } = path;
+    let mut steps = steps.into_vec();
+    steps.insert(0, Step { item, branch })?;
+    if steps.len() > MOST {
+        return Err(Memory);
+    }
+    Ok(Path {
+        steps: List::from_vec(steps),
+        item: last,
     })
 }

@@ -7,7 +7,8 @@ ghost use Rattle.label_offsets.specs.Marks.{held};
 ghost use Rattle.label_offsets.specs.Standing.{IsPlaceOf, IsUnder, IsInSections, IsInside, HasPlainFors, HasNoLandAt};
 
 use crate::marks::is_land;
-use c_tree::{Branch, Item, Path, Section, Step};
+use crate::places::path_under;
+use c_tree::{Branch, Item, Path, Section};
 use c_types::{List, Memory};
 use std::alloc::Global;
 
@@ -108,18 +109,7 @@ fn place_under(
     ensures none { IfOk result (λ r. IfNone r (Everywhere IsPlainFor (trees_of list.now) → lands label (trees_of list.now) ≡ 0)) }
 {
     match place_among(alloc, list.as_slice(), label)? {
-        Some(path) => {
-            let Path { steps, item: last } = path;
-            let mut all = steps.into_vec();
-            all.insert(0, Step { item, branch })?;
-            if all.len() > 4294967295 {
-                return Err(Memory);
-            }
-            Ok(Some(Path {
-                steps: List::from_vec(all),
-                item: last,
-            }))
-        }
+        Some(path) => Ok(Some(path_under(path, item, branch)?)),
         None => Ok(None),
     }
 }

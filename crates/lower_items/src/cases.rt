@@ -163,7 +163,12 @@ fn otherwise(labels: Labels, sections: &[Section]) -> u32
     }
 }
 
-fn chosen(alloc: Global, kind: IntKind, sections: &[Section], here: Here) -> Result<Choice, Memory>
+fn choice_of(
+    alloc: Global,
+    kind: IntKind,
+    sections: &[Section],
+    here: Here,
+) -> Result<Choice, Memory>
     ensures cases { IfOk result (λ it. AreCases it.cases kind (sections_of sections.now) (here_of here)) }
     ensures breaks { IfOk result (λ it. aim_of it.breaks ≡ breaks_of (sections_of sections.now) here.construct) }
     ensures otherwise { IfOk result (λ it. it.otherwise ≡ otherwise_of (sections_of sections.now) here.construct) }
@@ -206,7 +211,7 @@ pub fn add_choice(
         out,
         assignment(alloc, kind, here.variable, into_source(selector))?,
     )?;
-    let chosen = chosen(alloc, kind, sections, here)?;
+    let chosen = choice_of(alloc, kind, sections, here)?;
     let cases = &chosen.cases;
     add_tests(alloc, cases, cases.numbers.as_slice(), here.variable, out)?;
     add_goto(chosen.otherwise, out)?;

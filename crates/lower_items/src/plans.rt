@@ -53,6 +53,30 @@ pub struct Cases {
     pub places: CasePlaces,
 }
 
+/// How many sorts of labels there are.
+const SORTS: usize = 7;
+
+/// The labels of the source.
+const SOURCE: u32 = 0;
+
+/// The labels behind an `if`, loop or switch.
+const BEHIND: u32 = 1;
+
+/// The labels behind the list of a loop.
+const NEXT: u32 = 2;
+
+/// The labels of defaults.
+const DEFAULT: u32 = 3;
+
+/// The labels of cases.
+const CASE: u32 = 4;
+
+/// The labels in front of loops.
+const HEAD: u32 = 5;
+
+/// The labels in front of the lists of loops and of `if`s.
+const LIST: u32 = 6;
+
 /// The code of a label: each sort of labels has every seventh number. A code past `u32` counts as want
 /// of memory, here and below.
 fn code(number: usize, sort: u32) -> Result<u32, Memory>
@@ -60,8 +84,8 @@ fn code(number: usize, sort: u32) -> Result<u32, Memory>
     requires sort { sort < 7 }
     ensures { IfOk result (λ it. it ≡ 7 * number + sort) }
 {
-    let code = 7 * number + sort as usize;
-    if code > 4294967295 {
+    let code = SORTS * number + sort as usize;
+    if code > u32::MAX as usize {
         Err(Memory)
     } else {
         Ok(code as u32)
@@ -72,7 +96,7 @@ fn code(number: usize, sort: u32) -> Result<u32, Memory>
 pub fn source_label(label: u32) -> Result<u32, Memory>
     ensures { IfOk result (λ it. it ≡ 7 * label) }
 {
-    code(label as usize, 0)
+    code(label as usize, SOURCE)
 }
 
 /// The label of a case.
@@ -80,20 +104,20 @@ pub fn case_label(case: usize) -> Result<u32, Memory>
     requires { case < 2 ^ 34 }
     ensures { IfOk result (λ it. it ≡ 7 * case + 4) }
 {
-    code(case, 4)
+    code(case, CASE)
 }
 
 /// The labels of the `if`, loop or switch of this number.
 fn labels_of(construct: u32) -> Result<Labels, Memory>
     ensures { IfOk result (λ it. it ≡ labels_at construct) }
 {
-    let construct = construct as usize;
-    let list = code(construct, 6)?;
+    let list = code(construct as usize, LIST)?;
+    let first = list - LIST;
     Ok(Labels {
-        behind: list - 5,
-        next: list - 4,
-        default: list - 3,
-        head: list - 1,
+        behind: first + BEHIND,
+        next: first + NEXT,
+        default: first + DEFAULT,
+        head: first + HEAD,
         list,
     })
 }

@@ -96,7 +96,7 @@ lowered_for p h None u a b c = join (ever_items (p.head_label h.construct) (with
 abbrev pub break_aim : Layout → Here → Forest → Aim
 break_aim p h a = aim true (breaks a) (p.plan.break_label h.construct)
 
--- the same of a `for`, behind which the label always stands where it has a test
+-- what a `break` of a `for` becomes; the label always stands behind a `for` with a test
 abbrev pub for_aim : Layout → Here → Option ExpressionTree → Forest → Aim
 for_aim p h (Some t) a = Becomes (p.plan.break_label h.construct)
 for_aim p h None a = break_aim p h a

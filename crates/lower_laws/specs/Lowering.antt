@@ -93,7 +93,7 @@ pub record IsBodyLowered (used taken : List (List ℕ)) (f : Function) (body : L
 abbrev pub IsLoweredBeside : List (List ℕ) → List (List ℕ) → Function → Function → Type 0
 IsLoweredBeside used taken f h = elim f.body [ None ↦ h ≡ f | Some body ↦ IsBodyLowered used taken f body h ]
 
--- the same with the names of a program and those of its file scope
+-- h is f lowered, with the names of a program and those of its file scope; a prototype stays as it is
 abbrev pub IsLoweredFunction : List (List ℕ) → List (List ℕ) → Function → Function → Type 0
 IsLoweredFunction names file f h = IsLoweredBeside (with_known names) (with_known file) f h
 

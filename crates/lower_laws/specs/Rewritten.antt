@@ -10,7 +10,7 @@ pub data Rewritten (R : FunctionTree → FunctionTree → Type 0) : FunctionTree
   rw_same : {f h : FunctionTree} → f ≡ h → Rewritten R f h
   rw_by : {f h : FunctionTree} → R f h → Rewritten R f h
 
--- the same of each function
+-- each function of the second program is that of the first, or a related one
 pub record RewrittenCode (R : FunctionTree → FunctionTree → Type 0) (p q : Code) : Type 0 where
   pub functions : (m : List ℕ) → Rewritten R (p.functions m) (q.functions m)
   pub globals : (m : List ℕ) → p.globals m ≡ q.globals m

@@ -2,7 +2,7 @@
 use Rattle.std.proofs.Common.{◌≡◌, Ok}
 use Rattle.c_tree.specs.declared.tree.Program.{Program}
 use Rattle.c_tree.specs.Text.{text_of}
-use Rattle.c_reading.specs.Reading.{reading}
+use Rattle.c_scopes.specs.Reading.{reading}
 use Rattle.c_resolved_defs.specs.Limits as limits
 use Rattle.c_resolved_defs.specs.Resolved.{IsResolvedWith}
 use Rattle.c_resolved_defs.specs.Within.{Each}

@@ -30,7 +30,7 @@ use Rattle.c_statements.specs.Functions.{FlatCounts, measures}
 use Rattle.c_scopes.specs.Files.{File, State, start, env_of, function_declared, form_tops, behind_form, tops_of, file_faults}
 use Rattle.c_scopes.specs.FunctionNames.{with_function}
 use Rattle.c_scopes.specs.Resolving.{file_at, answer, program_of, violation_of, refused, is_before, earlier, least_with}
-use Rattle.c_reading.specs.Reading.{of_syntax, of_tokens, reading}
+use Rattle.c_scopes.specs.Reading.{of_syntax, of_tokens, reading}
 use Rattle.c_resolved_defs.specs.Names.{Names, the_function}
 use Rattle.c_resolved_defs.specs.Limits.{no_counts}
 use Rattle.c_resolved_defs.specs.Resolved.{IsResolvedWith}

@@ -78,7 +78,7 @@ pub data ComesFrom (body : Forest) (e : ExpressionTree) : Type 0 where
   -- it tests for a case, or fills a cell of an array with 0
   made : counted e ≤ 3 → ComesFrom body e
 
--- the same of all of an item
+-- each expression of an item comes from the body
 abbrev pub ComeFrom : Forest → Tree → Type 0
 ComeFrom body x = (e : ExpressionTree) → IsInitialiser e x ⊎ IsSelector e x ⊎ IsOther e x → ComesFrom body e
 

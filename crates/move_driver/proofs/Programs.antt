@@ -93,22 +93,16 @@ movable p names file us r w = flat_movable p us r (named_program_laws.flat names
 
 -- ---- the whole
 
-module _ (p : Program) (used file : List (List ℕ)) (us : List Top) (q made : Program) (ms : List Move) where
-  pub restructured : IsResolved p → used ≡ names p → file ≡ file_names p → length used ≤ most_held → FlattenedTops used file p.tops us → MovedTops us q.tops ms → made ≡ plain used q
-      → (counts : Counts) → counts ≡ counts_of ms q made → IsRestructured p made ms counts
-  restructured resolved e f held flattened moved form counts counted = record {
-    moved = q;
-    rewritten = record {
-      flat = record { tops = us };
-      held = subst (λ n. length n ≤ most_held) e held;
-      flattened = subst (λ n. FlattenedTops n (file_names p) p.tops us) e (subst (λ n. FlattenedTops used n p.tops us) f flattened);
-      moved = moved;
-    };
-    result = form ∙ ap (λ n. plain n q) e;
-    jumps = ap (λ (c : Counts). c.jumps) counted ∙ moved_laws.joins us q.tops ms (movable p used file us resolved flattened) moved;
-    moves = ap (λ (c : Counts). c.moves) counted;
-    guards = ap (λ (c : Counts). c.guards) counted;
-  }
+pub restructured : (p : Program) (us : List Top) (q made : Program) (ms : List Move) (counts : Counts) → IsResolved p → length (names p) ≤ most_held → FlattenedTops (names p) (file_names p) p.tops us → MovedTops us q.tops ms
+    → made ≡ plain (names p) q → counts ≡ counts_of ms q made → IsRestructured p made ms counts
+restructured p us q made ms counts resolved held flattened moved form counted = record {
+  moved = q;
+  rewritten = record { flat = record { tops = us }; held = held; flattened = flattened; moved = moved };
+  result = form;
+  jumps = ap (λ (c : Counts). c.jumps) counted ∙ moved_laws.joins us q.tops ms (movable p (names p) (file_names p) us resolved flattened) moved;
+  moves = ap (λ (c : Counts). c.moves) counted;
+  guards = ap (λ (c : Counts). c.guards) counted;
+}
 
 -- there is one join for each goto of the flat forms, so these are the counts of its moves
 pub counts_are : (p q : Program) (ms : List Move) (counts : Counts) → IsResolved p → (w : IsRestructured p q ms counts) → counts ≡ counts_of ms w.moved q

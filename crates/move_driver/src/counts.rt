@@ -29,7 +29,7 @@ fn slot_count(top: &Top) -> Option<usize>
     }
 }
 
-/// The same of all that stands at file scope, place by place. Want of memory is the only failure.
+/// How many variables each function at file scope has, place by place. Want of memory is the only failure.
 pub fn slot_counts(alloc: Global, program: &Program) -> Result<List<Option<usize>>, Memory>
     ensures { IfOk result (λ it. it ≡ map the_slot_count program.now.tops) }
 {
@@ -53,7 +53,7 @@ fn guards_of(before: Option<usize>, plain: &Top) -> u64
     }
 }
 
-/// The same of all functions of two lists, place by place.
+/// How many variables the functions of the second list have more than those of the first, place by place.
 fn count_guards(before: &[Option<usize>], plain: &[Top]) -> u64
     ensures { result ≡ counted (guards_past before.now plain.now) }
 {

@@ -6,5 +6,5 @@ mod program;
 mod text;
 
 pub use counts::{Counts, count, slot_counts};
-pub use program::{flatten_tops, restructure_program};
+pub use program::{flatten_program, restructure_program};
 pub use text::{Written, restructure_text};

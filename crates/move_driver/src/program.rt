@@ -1,10 +1,11 @@
-ghost use Rattle.std.specs.Prelude.{◌≡◌, true, IfOk, OnOk};
+ghost use Rattle.std.specs.Prelude.{◌≡◌, ◌≤◌, true, IfOk, OnOk, length};
+ghost use Rattle.c_copies.specs.Names.{names as the_names, file_names as the_file_names};
 ghost use Rattle.c_tree.specs.InRange.{IsProgramInRange};
 ghost use Rattle.c_tree.specs.Jumps.{is_plain_program};
 ghost use Rattle.plain_laws.specs.Laws.{BehavesAsStructured};
 ghost use Rattle.c_resolved_laws.specs.Counts.{IsResolved};
 ghost use Rattle.c_tree.specs.Text.{text_of};
-ghost use Rattle.restructure_laws.specs.Flattened.{FlattenedTop, FlattenedTops};
+ghost use Rattle.restructure_laws.specs.Flattened.{most_held, FlattenedTops};
 ghost use Rattle.c_text.specs.Reading.{IsProgramOf};
 ghost use Rattle.move_driver.specs.Kept.{KeepsSkeletons, DeclaresFewGuards, IsMovedWithinLevels, StaysWithinSizes};
 ghost use Rattle.whole_laws.specs.Notes.{notes_of};
@@ -13,9 +14,8 @@ ghost use Rattle.move_driver.specs.Settled.{IsSettled};
 ghost use Rattle.move_driver.specs.Flattened.{IsTopFlattenedBeside, AreFlattenedBeside};
 
 use crate::counts::{Counts, count, slot_counts};
-use c_copies::{file_names, names};
 use c_tree::{Program, Top};
-use c_types::{List, Memory};
+use c_types::{List, Memory, Name};
 use flat_function::flatten_beside;
 use flat_names::ProgramNames;
 use move_programs::move_program;
@@ -41,11 +41,7 @@ fn flatten_top(alloc: Global, names: &mut ProgramNames, top: &mut Top) -> Result
 
 /// Gives each function its flat form (`flat_function::flatten_beside`), with the names of the program and of its file
 /// scope. After `Memory` some functions have it.
-pub fn flatten_tops(
-    alloc: Global,
-    names: &mut ProgramNames,
-    tops: &mut List<Top>,
-) -> Result<(), Memory>
+fn flatten_tops(alloc: Global, names: &mut ProgramNames, tops: &mut List<Top>) -> Result<(), Memory>
     ensures { OnOk result (AreFlattenedBeside names.old tops.old tops.new) }
 {
     let mut i = 0;
@@ -54,6 +50,19 @@ pub fn flatten_tops(
         i += 1;
     }
     Ok(())
+}
+
+/// Gives each function of a program its flat form, and answers all names that the program had. After `Memory` some
+/// functions have it.
+pub fn flatten_program(alloc: Global, program: &mut Program) -> Result<List<Name>, Memory>
+    ensures names { IfOk result (λ it. it ≡ the_names program.old) }
+    ensures held { OnOk result (length (the_names program.old) ≤ most_held) }
+    ensures flat { OnOk result (FlattenedTops (the_names program.old) (the_file_names program.old) program.old.tops program.new.tops) }
+{
+    let (used, gathered) = ProgramNames::of_program(alloc, program)?;
+    let mut gathered = gathered;
+    flatten_tops(alloc, &mut gathered, &mut program.tops)?;
+    Ok(used)
 }
 
 /// A program that was restructured, by these moves, and what was done.
@@ -81,19 +90,14 @@ pub fn rewrite(alloc: Global, program: Program) -> Result<Rewritten, Memory>
     ensures notes { IfOk result (λ r. notes_of r.program ≡ notes_of program) }
     ensures settled { IfOk result (λ r. IsSettled r.program) }
 {
-    let used = names(alloc, &program)?;
-    // a list holds at most 4,294,967,295 names, which its slice tells
-    let _ = used.as_slice();
-    let of_file = file_names(alloc, &program)?;
     let mut program = program;
-    let mut gathered = ProgramNames::new(alloc, &used, &of_file)?;
-    flatten_tops(alloc, &mut gathered, &mut program.tops)?;
+    let names = flatten_program(alloc, &mut program)?;
     let moves = move_program(alloc, &mut program)?;
     let before = slot_counts(alloc, &program)?;
-    let made = plain(alloc, &used, program)?;
-    let counts = count(&moves, &before, &made);
+    let plain = plain(alloc, &names, program)?;
+    let counts = count(&moves, &before, &plain);
     Ok(Rewritten {
-        program: made,
+        program: plain,
         moves,
         counts,
     })

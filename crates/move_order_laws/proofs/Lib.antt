@@ -26,3 +26,4 @@ pub mod BetterConverted
 pub mod KeptByConversion
 pub mod ProgramsConverted
 pub mod Joined
+pub mod Derived

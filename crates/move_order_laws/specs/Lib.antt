@@ -14,3 +14,4 @@ pub mod ConvertLaws
 pub mod Moved
 pub mod MoveFunctionCounts
 pub mod MoveFunctionLaws
+pub mod Sequences

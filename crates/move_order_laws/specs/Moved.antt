@@ -49,7 +49,7 @@ pub record IsMovable (f : Function) : Type 0 where
   pub body_is : f.body ≡ Some body
   pub well_made : IsWellMade (trees_of (converted_list body))
 
--- the same of what stands at file scope
+-- a flat function at file scope can be moved
 abbrev pub IsTopMovable : Top → Type 0
 IsTopMovable (T.Function f) = f.flat ≡ true → IsMovable f
 IsTopMovable _ = Unit {0}

@@ -52,7 +52,7 @@ beside_F B.Else n (O.If t a b) = max (nesting (trees_of a)) n
 beside_F (B.Section k) n (O.Switch s cs) = max (nesting_in (sections_of (take k cs))) (max n (later_in (sections_of (drop (k + 1) cs))))
 beside_F _ n _ = n
 
--- the same of an item of the tree
+-- of the lists of an item of the tree, where the Leap stands in the list at the branch, and that counts as n
 abbrev pub beside : Branch → ℕ → Item → ℕ
 beside b n x = beside_F b n (out-Item x)
 

@@ -7,6 +7,7 @@
 #![tactic(auto)]
 
 mod kept;
+mod sequences;
 
 ghost use Rattle.move_order_laws.specs.MoveOrderLaws.{NextMoveLaws, CountLaws, NestingLaws, DerivationLaws};
 ghost use Rattle.move_order_laws.specs.MoveBodyLaws.{DerivedLaws, DepthLaws};
@@ -15,6 +16,7 @@ ghost use Rattle.move_order_laws.specs.ConvertLaws.{ConversionLaws};
 ghost use Rattle.move_order_laws.specs.MoveFunctionLaws.{MovedLaws};
 
 pub use kept::Kept;
+pub use sequences::sequence_laws;
 
 /// In a well made body a Leap has one next move.
 pub fn next_move_laws()

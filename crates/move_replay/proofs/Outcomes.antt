@@ -1,10 +1,10 @@
 -- What the answer of a replay says.
-use Rattle.std.proofs.Common.{inl, inr, ◌≡◌, ◌≢◌, ℕ, ◌+◌, ◌≤◌, List, [], ◌∷◌, All, Result, Ok, Err, IfOk, length, refl, sym, ap, ap₂, subst, ◌∙◌}
+use Rattle.std.proofs.Common.{inl, inr, ◌≡◌, ◌≢◌, ℕ, ◌+◌, List, [], ◌∷◌, All, Result, Ok, Err, IfOk, length, refl, sym, ap, ap₂, subst, ◌∙◌}
 use Rattle.std.specs.List.{AllByRecursion}
 use Rattle.c_types.specs.declared.refusal.Refusal.{Refusal}
 use Rattle.c_types.specs.declared.refusal.ReadStop.{ReadStop}
 use Rattle.c_types.specs.declared.refusal.ReadStop.TheVariants as S
-use Rattle.c_copies.specs.Names.{names, file_names}
+use Rattle.c_copies.specs.Names.{names}
 use Rattle.c_tree.specs.declared.tree.Top.{Top}
 use Rattle.c_tree.specs.declared.tree.Program.{Program}
 use Rattle.report_moves.specs.declared.moves.Move.{Move}
@@ -14,7 +14,6 @@ use Rattle.move_report.specs.Numbers.{HaveNumbers}
 use Rattle.plain_form.specs.Plain.{plain}
 use Rattle.c_resolved_laws.specs.Counts.{flat_counts, IsResolved}
 use Rattle.restructure_laws.specs.RereadPlainLaws.{ReadsBack}
-use Rattle.restructure_laws.specs.Flattened.{most_held, FlattenedTops}
 use Rattle.move_driver.specs.declared.counts.Counts.{Counts}
 use Rattle.move_driver.specs.Counts.{counts_of}
 use Rattle.move_driver.specs.Restructured.{IsRestructured}
@@ -25,7 +24,7 @@ use Rattle.replay_laws.specs.Replayed.{converted_tops, IsTopLeapless, IsReplayed
 use Rattle.replay_laws.proofs.Whole.{replayed_laws}
 use Rattle.replay_laws.specs.ReplayLaws.{IsReplayedWithNames, IsNamed}
 use Rattle.replay_laws.proofs.Laws.{replayed_program_laws}
-use Rattle.move_replay.specs.Replay.{IsFlatStart, IsStart, IsReached, IsReplay, IsAt, IsRefusal, Stops}
+use Rattle.move_replay.specs.Replay.{IsStart, IsReached, IsReplay, IsAt, IsRefusal, Stops}
 use Rattle.move_replay.proofs.Starts.{flat_tops}
 use Rattle.move_replay.proofs.Once.{one_replay, not_both, one_refusal}
 use Rattle.move_replay.proofs.Within.{resolved_within}
@@ -52,16 +51,6 @@ pub read_back : (p : Program) (text : List ℕ) (q : Program) (c : Counts) → I
 read_back p text q c r a =
     subst (ReadsBack p) (sym a.result)
     (replayed_program_laws.reads_back p a.program a.moves r (with_names p a.program a.moves a.reached) a.leapless (subst IsWithinLimits a.result a.within))
-
--- ---- starts
-
-pub is_start : (p : Program) (used file : List (List ℕ)) (vs : List Top) → used ≡ names p → file ≡ file_names p → length used ≤ most_held → IsFlatStart used file p.tops vs → IsStart p vs
-is_start p used file vs e f held w = record {
-  flat = w.flat;
-  held = subst (λ n. length n ≤ most_held) e held;
-  flattened = subst (λ n. FlattenedTops n (file_names p) p.tops w.flat) e (subst (λ n. FlattenedTops used n p.tops w.flat) f w.flattened);
-  is = w.is;
-}
 
 -- ---- answers
 

@@ -18,12 +18,6 @@ use Rattle.replay_laws.specs.Replayed.{converted_tops, IsTopLeapless}
 use Rattle.replay_moves.specs.Steps.{StopsAt}
 use Rattle.move_replay.specs.Lines.{line_start}
 
--- the functions have their flat forms, with these names, and are converted
-pub record IsFlatStart (used file : List (List ℕ)) (ts us : List Top) : Type 0 where
-  pub flat : List Top
-  pub flattened : FlattenedTops used file ts flat
-  pub is : us ≡ converted_tops flat
-
 -- the functions of p have their flat forms, with the names of p, which are held in memory, and are converted
 pub record IsStart (p : Program) (us : List Top) : Type 0 where
   pub flat : List Top

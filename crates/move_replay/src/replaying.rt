@@ -1,6 +1,7 @@
 //! From a program and a report to the plain form.
 
 ghost use Rattle.std.specs.Prelude.{◌≡◌, ◌≢◌, ◌+◌, true, IfOk, OnOk, Ok, Err, length};
+ghost use Rattle.c_copies.specs.Names.{names as the_names};
 ghost use Rattle.c_tree.specs.InRange.{IsProgramInRange};
 ghost use Rattle.c_tree.specs.Jumps.{is_plain_program};
 ghost use Rattle.c_tree.specs.Text.{text_of};
@@ -16,60 +17,54 @@ ghost use Rattle.move_driver.specs.declared.counts.Counts.{Counts as TheCounts};
 ghost use Rattle.report_moves.specs.declared.moves.Move.{Move as TheMove};
 ghost use Rattle.plain_form.specs.Plain.{plain as the_plain};
 ghost use Rattle.print_limits.specs.Limits.{IsWithinLimits};
-ghost use Rattle.move_replay.specs.Replay.{IsFlatStart, IsFinished, IsAt, IsReplay, IsRefusal};
+ghost use Rattle.move_replay.specs.Replay.{IsStart, IsFinished, IsAt, IsReplay, IsRefusal};
 
 use crate::making::make_all;
 use crate::reading::{read_moves, refused};
-use c_copies::{file_names, names};
-use c_tree::{Program, Top};
+use c_tree::Program;
 use c_types::{List, Memory, Name, ReadStop, Refusal};
-use flat_names::ProgramNames;
-use move_driver::{Counts, count, flatten_tops, slot_counts};
+use move_driver::{Counts, count, flatten_program, slot_counts};
 use plain_form::plain;
 use print_limits::is_within_limits;
 use replay_moves::convert_tops;
 use report_moves::Move;
 use std::alloc::Global;
 
-/// The flat forms of all functions, converted.
-fn start(
-    alloc: Global,
-    used: &List<Name>,
-    of_file: &List<Name>,
-    tops: &mut List<Top>,
-) -> Result<(), Memory>
-    ensures { OnOk result (IsFlatStart used.now of_file.now tops.old tops.new) }
+/// Gives each function of a program its flat form, and converts it; answers all names that the program had.
+fn flatten_and_convert(alloc: Global, program: &mut Program) -> Result<List<Name>, Memory>
+    ensures names { IfOk result (λ it. it ≡ the_names program.old) }
+    ensures start { OnOk result (IsStart program.old program.new.tops) }
 {
-    let mut gathered = ProgramNames::new(alloc, used, of_file)?;
-    flatten_tops(alloc, &mut gathered, tops)?;
-    convert_tops(alloc, tops)
+    let names = flatten_program(alloc, program)?;
+    convert_tops(alloc, &mut program.tops)?;
+    Ok(names)
 }
 
 /// The plain form of what the moves have reached, and what was done. Refuses with reason 53 where it is not
 /// within the limits of a text.
-fn finish(
+fn plain_within_limits(
     alloc: Global,
-    used: &List<Name>,
+    names: &List<Name>,
     moves: &List<Move>,
     program: Program,
     report: &[u8],
 ) -> Result<(Program, Counts), ReadStop>
-    ensures ok { IfOk result (λ r. IsFinished used.now moves.now program r.0 r.1) }
-    ensures deep { (refusal : Refusal) → result ≡ Err (ReadStop.Refused refusal) → ¬ (IsWithinLimits (the_plain used.now program)) }
+    ensures ok { IfOk result (λ r. IsFinished names.now moves.now program r.0 r.1) }
+    ensures deep { (refusal : Refusal) → result ≡ Err (ReadStop.Refused refusal) → ¬ (IsWithinLimits (the_plain names.now program)) }
     ensures refused { (refusal : Refusal) → result ≡ Err (ReadStop.Refused refusal) → IsAt 53 (length moves.now + 1) (length report.now) refusal }
 {
     let before = slot_counts(alloc, &program)?;
-    let made = plain(alloc, used, program)?;
-    if is_within_limits(&made) {
-        let counts = count(moves, &before, &made);
-        Ok((made, counts))
+    let plain = plain(alloc, names, program)?;
+    if is_within_limits(&plain) {
+        let counts = count(moves, &before, &plain);
+        Ok((plain, counts))
     } else {
         Err(refused(53, moves.len() as u64 + 1, report.len()))
     }
 }
 
-/// What `replay` does with the moves of the report.
-fn made_by(
+/// What `replay` gives for the moves of the report.
+fn replay_read_moves(
     alloc: Global,
     program: Program,
     moves: &List<Move>,
@@ -80,26 +75,26 @@ fn made_by(
     ensures replayed { IfOk result (λ r. IsReplay program report.now r.0 r.1) }
     ensures refused { (refusal : Refusal) → result ≡ Err (ReadStop.Refused refusal) → IsRefusal program report.now refusal }
 {
-    let used = names(alloc, &program)?;
-    // a list holds at most 4,294,967,295 names, which its slice tells
-    let _ = used.as_slice();
-    let of_file = file_names(alloc, &program)?;
     let mut program = program;
-    start(alloc, &used, &of_file, &mut program.tops)?;
+    let names = flatten_and_convert(alloc, &mut program)?;
     match make_all(alloc, &mut program.tops, moves, report) {
-        Ok(()) => finish(alloc, &used, moves, program, report),
+        Ok(()) => plain_within_limits(alloc, &names, moves, program, report),
         Err(stop) => Err(stop),
     }
 }
 
-/// What `replay` does.
-fn answered(alloc: Global, program: Program, report: &[u8]) -> Result<(Program, Counts), ReadStop>
+/// What `replay` gives, with its cause.
+fn replay_report(
+    alloc: Global,
+    program: Program,
+    report: &[u8],
+) -> Result<(Program, Counts), ReadStop>
     requires { IsResolved program }
     ensures replayed { IfOk result (λ r. IsReplay program report.now r.0 r.1) }
     ensures refused { (refusal : Refusal) → result ≡ Err (ReadStop.Refused refusal) → IsRefusal program report.now refusal }
 {
     match read_moves(alloc, report) {
-        Ok(moves) => made_by(alloc, program, &moves, report),
+        Ok(moves) => replay_read_moves(alloc, program, &moves, report),
         Err(stop) => Err(stop),
     }
 }
@@ -124,5 +119,5 @@ pub fn replay(alloc: Global, program: Program, report: &[u8]) -> Result<(Program
     ensures resolved { IfOk result (λ r. IsResolved r.0) }
     ensures reads_back { IfOk result (λ r. IsProgramOf (text_of r.0) r.0) }
 {
-    answered(alloc, program, report)
+    replay_report(alloc, program, report)
 }

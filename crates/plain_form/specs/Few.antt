@@ -8,7 +8,7 @@ use Rattle.c_tree.specs.declared.tree.Top.TheVariants as T
 abbrev pub AreFewGuards : Function → Function → Type 0
 AreFewGuards f g = length g.slots ≤ length f.slots + cond f.flat (length f.labels) 0
 
--- the same of what stands at file scope
+-- at file scope, a function has at most so many variables more
 abbrev pub AreFewInTop : Top → Top → Type 0
 AreFewInTop (T.Function f) (T.Function g) = AreFewGuards f g
 AreFewInTop _ _ = Unit {0}

@@ -37,7 +37,7 @@ is_truth_node (Unary Not a) = true
 is_truth_node (Binary op a b) = is_truth_mark op
 is_truth_node _ = false
 
--- the same of an expression
+-- whether the outermost mark of an expression is a comparison, `!`, `&&` or `||`
 abbrev pub is_truth : ExpressionTree → Bool
 is_truth (Typed kind node) = is_truth_node node
 

@@ -44,7 +44,7 @@ pub record IsReady (p : Code) (names : Function → List (List ℕ)) (f : Functi
   pub ranged : IsInRange f
   pub finished : IsFinishedFunction p names f
 
--- the same of what stands at file scope
+-- a function at file scope is ready for its plain form
 abbrev pub IsTopReady : Code → (Function → List (List ℕ)) → Top → Type 0
 IsTopReady p names (T.Function f) = IsReady p names f
 IsTopReady p names _ = Unit {0}
@@ -60,7 +60,7 @@ pub record BehavesAsStructured (p q : Program) : Type 0 where
   pub runs : (m : List ℕ) (arguments : List ℤ) → IsEntry (code_of p) m arguments → (input : List ℕ) (answers : List ℤ)
       → AreSameRuns (jump_run (code_of p) m arguments input answers) (structural_run (code_of q) m arguments input answers)
 
--- the same of what stands at file scope
+-- no move applies any more to a function at file scope
 abbrev pub IsTopFinished : Code → (Function → List (List ℕ)) → Top → Type 0
 IsTopFinished p names (T.Function f) = IsFinishedFunction p names f
 IsTopFinished p names _ = Unit {0}

@@ -61,7 +61,7 @@ is_truth_node (N.Unary Not a) = true
 is_truth_node (N.Binary op a b) = is_truth_mark op
 is_truth_node _ = false
 
--- the same of an expression
+-- whether the outermost mark of an expression is a comparison, `!`, `&&` or `||`
 abbrev pub is_truth : Expression → Bool
 is_truth e = is_truth_node (out-Node (out-Expression e).node)
 
@@ -160,7 +160,7 @@ abbrev pub is_break_layer : Item-F Item Section → Bool
 is_break_layer I.Break = true
 is_break_layer _ = false
 
--- the same of an item of the tree
+-- whether an item of the tree is `break`
 abbrev pub is_break : Item → Bool
 is_break x = is_break_layer (out-Item x)
 
@@ -261,7 +261,7 @@ section_names_step c = any_true c.list
 abbrev pub item_names : ℕ → Item → Bool
 item_names l x = fold-Item Bool Bool (names_step l) section_names_step x
 
--- the same of a section
+-- whether an Arm or a Land of a label, or a test or a selector with it, stands in a section
 abbrev pub section_names : ℕ → Section → Bool
 section_names l c = fold-Section Bool Bool (names_step l) section_names_step c
 

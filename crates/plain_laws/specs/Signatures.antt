@@ -18,7 +18,7 @@ SameTop (T.Function f) (T.Function g) = SameSignature f g
 SameTop (T.Function f) y = ⊥
 SameTop x y = x ≡ y
 
--- the same of each of two lists, in order
+-- each two at one place of two lists are alike: functions by their signatures, and all else entirely
 abbrev pub SameTops : List Top → List Top → Type 0
 SameTops [] [] = Unit {0}
 SameTops [] (y ∷ ys) = ⊥

@@ -28,7 +28,7 @@ abbrev pub give : List ExpressionTree → Bool → Forest → Bool → Sections 
 give cases default Nil false (Section cases' default' a ends c) = Section (cases ++ cases') (default || default') a ends c
 give cases default a ends c = Section cases default a ends c
 
--- the same, of which a last `break` becomes the end
+-- a section that is put before others, as `give` does, once a last `break` has become its end
 abbrev pub put_section : List ExpressionTree → Bool → Forest → Bool → Sections → Sections
 put_section cases default a ends c = cond (not ends && last_break a) (give cases default (without_last a) true c) (give cases default a ends c)
 

@@ -126,14 +126,14 @@ pub fn is_short(e: &Expression) -> bool
     spend_expression(e, 400).is_some()
 }
 
-/// The same where the grammar needs this level.
+/// Whether an expression has few enough counted tokens where the grammar needs this level.
 fn is_short_at(e: &Expression, need: u32) -> bool
     ensures { IsTrue result ↔ counted_at need (expression_tree e.now) ≤ most }
 {
     spend_at(e, need, 400).is_some()
 }
 
-/// The same of the value of a `return`, which may be left out.
+/// Whether the value of a `return`, which may be left out, has few enough counted tokens.
 pub fn is_short_value(e: &Option<Expression>) -> bool
     ensures { IsTrue result ↔ most_if (option_map expression_tree e.now) ≤ most }
 {
@@ -143,7 +143,7 @@ pub fn is_short_value(e: &Option<Expression>) -> bool
     }
 }
 
-/// The same of a part of a `for`, which may be left out.
+/// Whether a part of a `for`, which may be left out, has few enough counted tokens.
 pub fn is_short_part(e: &Option<Boxed<Expression>>) -> bool
     ensures { IsTrue result ↔ most_if (option_map expression_tree e.now) ≤ most }
 {
@@ -153,7 +153,7 @@ pub fn is_short_part(e: &Option<Boxed<Expression>>) -> bool
     }
 }
 
-/// The same of the constant of a case or an enum, which may be left out.
+/// Whether the constant of a case or an enum, which may be left out, has few enough counted tokens.
 pub fn is_short_constant(e: &Option<Expression>) -> bool
     ensures { IsTrue result ↔ most_case (option_map expression_tree e.now) ≤ most }
 {
@@ -163,7 +163,7 @@ pub fn is_short_constant(e: &Option<Expression>) -> bool
     }
 }
 
-/// The same of each of a list.
+/// Whether each expression of a list has few enough counted tokens.
 pub fn are_short(items: &[Expression], need: u32) -> bool
     ensures { IsTrue result ↔ most_of need (expression_trees items.now) ≤ most }
 {
@@ -175,7 +175,7 @@ pub fn are_short(items: &[Expression], need: u32) -> bool
     true
 }
 
-/// The same of initialisers, which may be left out.
+/// Whether initialisers, which may be left out, have few enough counted tokens each.
 pub fn are_short_values(items: &Option<List<Expression>>) -> bool
     ensures { IsTrue result ↔ most_listed (option_map expression_trees items.now) ≤ most }
 {

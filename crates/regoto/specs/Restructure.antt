@@ -13,7 +13,7 @@ use Rattle.cmd_files.specs.declared.translator.Part.{Part}
 use Rattle.cmd_files.specs.Translated.{Completes as CompletesWhere}
 use Rattle.cmd_files.specs.Written.{Writes}
 use Rattle.cmd_files.specs.Shown.{Shows}
-use Rattle.cmd_replay_text.specs.Laws.{GivesTheSame}
+use Rattle.cmd_replay.specs.Laws.{GivesTheSame}
 
 -- what is written of a restructured text, and told of it
 abbrev pub translation_of : Output → Translation
@@ -41,7 +41,7 @@ abbrev pub Restructures : (List ℕ → Type 0) → List ℕ → List ℕ → Op
 Restructures said from to report before after reads reads' writes writes' status =
     Writes said IsRestructuredTo IsRefusedFor from to report before after reads reads' writes writes' status
 
--- The same of the commands that write the text or the report to `out`, with what is told of the bytes written to `out` and
+-- Each status of the commands that write the text or the report to `out`, with what is told of the bytes written to `out` and
 -- `err` and of the counts of failed writes there, before and after; `untouched` says that nothing was done to `out`.
 abbrev pub ShowsRestructured : List ℕ → Part → Option Files → ReadCounts → ReadCounts → Type 0 → Written → Written → ℕ → ℕ → Written → Written → ℕ → ℕ → Status → Type 0
 ShowsRestructured from part before reads reads' untouched out out' faults faults' err err' told told' status =

@@ -2,8 +2,8 @@
 use Rattle.std.specs.Prelude.{ℕ, List, Option}
 use Rattle.command_table.specs.Effects.{Effects}
 use Rattle.cmd_demo.specs.Demos.{ShowsDemo, CompletesDemo}
-use Rattle.cmd_run_text.specs.Texts.{RunsText, CompletesText}
-use Rattle.cmd_replay_text.specs.Texts.{ReplaysText, CompletesText as CompletesReplay}
+use Rattle.cmd_run.specs.Texts.{RunsText, CompletesText}
+use Rattle.cmd_replay.specs.Texts.{ReplaysText, CompletesText as CompletesReplay}
 use Rattle.cmd_tidy.specs.Texts.{TidiesText, CompletesText as CompletesTidy}
 use Rattle.cmd_lower.specs.Texts.{LowersText, CompletesText as CompletesLower}
 use Rattle.regoto.specs.Restructure.{Restructures, ShowsRestructured, Completes}

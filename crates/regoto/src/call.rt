@@ -4,8 +4,8 @@ ghost use Rattle.cmd_words.specs.Command.{Restructure, Run, Demo, Help, Show, Mo
 ghost use Rattle.cmd_words.specs.Help.{Helps};
 ghost use Rattle.cmd_files.specs.Written.{Wanted};
 ghost use Rattle.cmd_demo.specs.Demos.{ShowsDemo, CompletesDemo};
-ghost use Rattle.cmd_run_text.specs.Texts.{RunsText, CompletesText};
-ghost use Rattle.cmd_replay_text.specs.Texts.{ReplaysText, CompletesText as CompletesReplay};
+ghost use Rattle.cmd_run.specs.Texts.{RunsText, CompletesText};
+ghost use Rattle.cmd_replay.specs.Texts.{ReplaysText, CompletesText as CompletesReplay};
 ghost use Rattle.cmd_tidy.specs.Texts.{TidiesText, CompletesText as CompletesTidy};
 ghost use Rattle.cmd_lower.specs.Texts.{LowersText, CompletesText as CompletesLower};
 ghost use Rattle.regoto.specs.Restructure.{Restructures, ShowsRestructured, Completes};

@@ -16,7 +16,7 @@ use Rattle.report_moves.specs.declared.moves.MoveKind.{MoveKind}
 use Rattle.move_order_laws.specs.Next.{Point}
 use Rattle.move_order_laws.proofs.MovesLeft.{moved_changed}
 use Rattle.move_bodies.specs.Moving.{MovesTo}
-use Rattle.guard_bodies.specs.Lawful.{IsMadeIn}
+use Rattle.move_bodies.specs.Lawful.{IsMadeIn}
 use Rattle.guard_simplify.proofs.Next.{choice_laws}
 use Rattle.plain_laws.specs.Kinded.{KindedItem}
 use Rattle.plain_laws.proofs.KindsMoved.{kinds_moved}

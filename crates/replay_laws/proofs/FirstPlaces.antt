@@ -20,8 +20,8 @@ use Rattle.guard_simplify.specs.declared.choice.Choice.{Choice}
 use Rattle.guard_simplify.specs.Choice as C
 use Rattle.guard_simplify.specs.Choice.{own, choices_from, choices_in, choices_of_sections, choices, barred, unread_guard, under_one, if_some}
 use Rattle.guard_simplify.proofs.Members.{in_first, own_is, located}
-use Rattle.guard_bodies.specs.Lawful.{MayCome}
-use Rattle.guard_bodies.specs.Places.{here_if, places_step, places_of, places_from, section_places, sections_places}
+use Rattle.move_bodies.specs.Lawful.{MayCome}
+use Rattle.move_bodies.specs.Places.{here_if, places_step, places_of, places_from, section_places, sections_places}
 use Rattle.reread_parts_laws.proofs.Mirrors.{expression_in}
 use Rattle.reread_parts_laws.proofs.ItemMirrors.{test_in, selector_in, tree_in, forest_in, sections_in, items_whole}
 

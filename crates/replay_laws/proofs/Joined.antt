@@ -23,7 +23,7 @@ use Rattle.move_order_laws.specs.Next.{Point, MovesBy}
 use Rattle.move_order_laws.proofs.LeapsLeft.{one_fewer, same_leaps}
 use Rattle.move_order_laws.specs.MoveFunctionCounts.{joined}
 use Rattle.move_bodies.specs.Moving.{MovesTo}
-use Rattle.guard_bodies.specs.Lawful.{IsMadeIn}
+use Rattle.move_bodies.specs.Lawful.{IsMadeIn}
 use Rattle.guard_simplify.specs.declared.choice.Choice.{Choice}
 use Rattle.guard_simplify.specs.Choice.{Among, barred, choices}
 use Rattle.guard_simplify.proofs.Members.{located}

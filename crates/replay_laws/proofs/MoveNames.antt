@@ -19,7 +19,7 @@ use Rattle.report_moves.specs.declared.moves.Move.{Move}
 use Rattle.report_moves.specs.Report.{is_name, names_label, HasLabel}
 use Rattle.move_order_laws.specs.Next.{Point}
 use Rattle.move_bodies.specs.Moving.{MovesTo}
-use Rattle.guard_bodies.specs.Lawful.{IsMadeIn}
+use Rattle.move_bodies.specs.Lawful.{IsMadeIn}
 use Rattle.guard_simplify.specs.Choice.{barred, choices}
 use Rattle.c_resolved_defs.specs.PrintableExpressions.{IsName}
 use Rattle.c_resolved_defs.specs.Within.{Each}

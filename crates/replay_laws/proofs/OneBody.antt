@@ -22,7 +22,7 @@ use Rattle.move_order_laws.proofs.ListTotals.{total-split, list_total}
 use Rattle.move_order_laws.proofs.OneDerivation.{leap_there}
 use Rattle.move_order_laws.proofs.OneMove.{one_join, one_move}
 use Rattle.move_bodies.specs.Moving.{MovesTo}
-use Rattle.guard_bodies.specs.Lawful.{IsMadeIn}
+use Rattle.move_bodies.specs.Lawful.{IsMadeIn}
 use Rattle.guard_simplify.specs.declared.choice.Choice.{Choice}
 use Rattle.guard_simplify.specs.Choice.{Among, barred, choices, repeat_label, repeat_of, neighbours, unread_guard}
 use Rattle.move_laws.specs.Drops.{dropped}

@@ -30,7 +30,7 @@ use Rattle.guard_simplify.specs.Application as A
 use Rattle.guard_simplify.specs.Application.{IsNext, Reaches}
 use Rattle.guard_simplify.specs.Naming.{choice_named, choices_named}
 use Rattle.guard_simplify.proofs.Members.{in_first}
-use Rattle.guard_bodies.specs.Lawful.{IsMadeIn}
+use Rattle.move_bodies.specs.Lawful.{IsMadeIn}
 use Rattle.move_order_laws.specs.Moved.{IsMoved, mt_moved, mt_other, MovedTops, mt_none, mt_more}
 use Rattle.whole_laws.specs.Rewritten.{FlatTop, ft_flat, ft_unlabelled, ft_declared, ft_other, FlatTops, ft_none, ft_more, IsRewritten}
 use Rattle.whole_laws.proofs.BodiesKept.{none_left}

@@ -14,7 +14,7 @@ use Rattle.report_moves.specs.declared.moves.MoveKind.TheVariants.{Out, Lift, In
 use Rattle.report_moves.specs.declared.moves.Move.{Move}
 use Rattle.move_order_laws.specs.Leaps.{leaps}
 use Rattle.move_bodies.specs.Moving.{IsMove}
-use Rattle.guard_bodies.specs.Lawful.{IsMadeIn}
+use Rattle.move_bodies.specs.Lawful.{IsMadeIn}
 
 -- ---- in a body
 

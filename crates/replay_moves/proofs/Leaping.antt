@@ -24,7 +24,7 @@ use Rattle.move_order_laws.proofs.NoLeaps.{no_leaps}
 use Rattle.move_order_laws.proofs.OneDerivation.{leap_there}
 use Rattle.move_order_laws.proofs.OneMove.{one_move, join_alone}
 use Rattle.move_bodies.specs.Moving.{MovesTo, IsMove}
-use Rattle.guard_bodies.specs.Lawful.{IsLawfulMove, IsMade}
+use Rattle.move_bodies.specs.Lawful.{IsLawfulMove, IsMade}
 use Rattle.whole_laws.proofs.Flattened.{body_is}
 use Rattle.replay_laws.specs.Lawful.{IsLeapMoved, IsSimplifiedBy, IsMovedBy, this_function, none, more}
 use Rattle.replay_laws.specs.Replayed.{IsTopWellMade, top_leaps}

@@ -10,8 +10,8 @@ use Rattle.c_tree.proofs.MoveLemmas.{some_same}
 use Rattle.report_moves.specs.declared.moves.Move.{Move}
 use Rattle.replay_laws.specs.Lawful as L
 use Rattle.replay_laws.specs.Lawful.{IsOther, IsMovedBy, OneMoved}
-use Rattle.replay_places.specs.declared.places.Places.{Places}
-use Rattle.replay_places.specs.Places.{found_at, place_from, place_in, Finds}
+use Rattle.replay_moves.specs.declared.places.Places.{Places}
+use Rattle.replay_moves.specs.Places.{found_at, place_from, place_in, Finds}
 use Rattle.replay_moves.specs.Steps.{IsFlatOf, IsPlaceOf}
 
 -- it is found there, or is another

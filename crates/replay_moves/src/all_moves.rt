@@ -4,14 +4,14 @@ ghost use Rattle.std.specs.Prelude.{◌≡◌, IfOk, IfSome, IfNone, List, Match
 ghost use Rattle.c_tree.specs.declared.tree.Top.{Top as TheTop};
 ghost use Rattle.replay_laws.specs.Lawful.{IsOther, IsMovedBy, OneMoved, Moves};
 ghost use Rattle.replay_laws.specs.Replayed.{converted_top, converted_tops, IsTopWellMade, IsTopLeapless};
-ghost use Rattle.replay_places.specs.Places.{Finds};
+ghost use Rattle.replay_moves.specs.Places.{Finds};
 ghost use Rattle.replay_moves.specs.Steps.{IsFlatOf, IsLeaplessAt, IsPlaceOf, StopsAt, IsTopMoved};
 
 use crate::one_move::{Known, has_leap_left, move_in};
+use crate::places::Places;
 use c_tree::Top;
 use c_types::{List, Memory, Name};
 use guard_vars::convert;
-use replay_places::Places;
 use report_moves::Move;
 use std::alloc::Global;
 

@@ -1,6 +1,6 @@
 //! One move of a report, in a function.
 
-ghost use Rattle.std.specs.Prelude.{◌≡◌, ◌<◌, ◌↔◌, IfOk, IfSome, IsTrue, IsFalse, Some, true, slice_get, length};
+ghost use Rattle.std.specs.Prelude.{◌≡◌, ◌<◌, ◌↔◌, IfOk, IfSome, IsTrue, IsFalse, Some, true, length};
 ghost use Rattle.c_tree.specs.declared.tree.Function.{Function as TheFunction};
 ghost use Rattle.c_tree.specs.declared.tree.Item.{Item as TheItem};
 ghost use Rattle.c_tree.specs.InRange.{body_of};
@@ -12,10 +12,9 @@ ghost use Rattle.replay_laws.specs.Replayed.{IsTopWellMade};
 
 use c_tree::{Function, Item, Path, Top};
 use c_types::{List, Memory, Name};
-use guard_bodies::apply_one;
 use label_offsets::{first_leap, label_at};
-use move_bodies::{Moved, move_near};
-use report_moves::{Move, MoveKind};
+use move_bodies::{Moved, apply_one, move_near};
+use report_moves::{Move, MoveKind, has_name};
 use std::alloc::Global;
 use std::mem;
 
@@ -52,17 +51,6 @@ fn leads_to_leap(function: &Function, at: &Path) -> bool
     }
 }
 
-/// Whether the label with this number, if there is one, has this name, if there is one.
-fn has_name(labels: &List<Name>, label: u32, name: &Option<Name>) -> bool
-    ensures { IsTrue result ↔ slice_get labels.now label ≡ name.now }
-{
-    match (labels.get(label as usize), name) {
-        (Some(found), Some(name)) => found == name,
-        (None, None) => true,
-        _ => false,
-    }
-}
-
 fn same_kind(a: MoveKind, b: MoveKind) -> bool
     ensures { IsTrue result ↔ a ≡ b }
 {
@@ -85,14 +73,15 @@ fn move_leap(
     let Some(label) = label_at(body, &step.path) else {
         return Ok(false);
     };
-    if !has_name(labels, label, &step.label) {
+    if !has_name(labels, Some(label), &step.label) {
         return Ok(false);
     }
     let Moved { kind, .. } = move_near(alloc, body, &step.path, label, land)?;
     Ok(same_kind(kind, step.kind))
 }
 
-/// The same in a function that has a Leap.
+/// Moves a Leap of a well made function as the move says, if that is lawful. After another answer the function is given
+/// up. `land` says where its Land should stand, and gets where it should stand then.
 fn move_leap_of(
     alloc: Global,
     function: &mut Function,

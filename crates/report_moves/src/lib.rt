@@ -4,10 +4,12 @@
 #![tactic(auto)]
 
 mod moves;
+mod naming;
 
 ghost use Rattle.report_moves.specs.Laws.{ReportLaws};
 
 pub use moves::{Move, MoveKind};
+pub use naming::{has_name, named_move};
 
 /// No two lists of moves have one text, and a text is either a report or has one first bad line.
 pub fn report_laws()

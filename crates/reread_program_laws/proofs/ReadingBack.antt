@@ -1,7 +1,7 @@
 -- Reading the printed text of a resolved program gives the program.
 use Rattle.std.proofs.Common.{◌≡◌, Ok, refl, ap, ◌∙◌}
 use Rattle.c_lexer.specs.Pieces.{scanned_of}
-use Rattle.c_reading.specs.Reading.{of_syntax, of_tokens, reading}
+use Rattle.c_scopes.specs.Reading.{of_syntax, of_tokens, reading}
 use Rattle.c_tree.specs.Text.{text_of}
 use Rattle.print_laws.specs.PrintSyntaxLaws.{printed_pieces}
 use Rattle.print_laws.proofs.Parsing.{printed_text_parses}

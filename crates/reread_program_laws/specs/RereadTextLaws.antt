@@ -1,7 +1,7 @@
 -- The laws of this crate: reading the printed text of a resolved program gives the program.
 use Rattle.std.specs.Prelude.{◌≡◌, Ok}
 use Rattle.c_statements.specs.Functions.{FlatCounts}
-use Rattle.c_reading.specs.Reading.{reading}
+use Rattle.c_scopes.specs.Reading.{reading}
 use Rattle.c_tree.specs.declared.tree.Program.{Program}
 use Rattle.c_tree.specs.Text.{text_of}
 use Rattle.c_tree.specs.Trees.{trees_of}

@@ -13,7 +13,7 @@ use Rattle.move_order_laws.specs.declared.kept.Kept.{Kept}
 use Rattle.move_order_laws.specs.Derivations.{Eliminates, Derives, ends, chooses}
 use Rattle.move_order_laws.specs.Next.{Point}
 use Rattle.move_order_laws.proofs.OneDerivation.{leap_first, well_made_eliminated}
-use Rattle.guard_bodies.proofs.Levels.{reached_simpler}
+use Rattle.move_bodies.proofs.Levels.{reached_simpler}
 use Rattle.move_order_laws.proofs.SomeDerivation.{count_laws, nesting_laws}
 use Rattle.report_moves.specs.declared.moves.Move.{Move}
 use Rattle.move_order_laws.specs.Moved.{IsMoved}

@@ -4,7 +4,7 @@ use Rattle.c_copies.specs.Names.{names}
 use Rattle.c_tree.specs.declared.tree.Program.{Program}
 use Rattle.c_tree.specs.Jumps.{is_plain_program}
 use Rattle.c_tree.specs.Text.{text_of}
-use Rattle.c_reading.specs.Reading.{reading}
+use Rattle.c_scopes.specs.Reading.{reading}
 use Rattle.guard_vars.specs.GuardNames.{guard_names}
 use Rattle.plain_laws.specs.Plain.{plain_with}
 use Rattle.plain_laws.specs.Laws.{BehavesAsStructured}

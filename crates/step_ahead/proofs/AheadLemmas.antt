@@ -19,9 +19,9 @@ use Rattle.step_memory.specs.Stores.{names_of, HoldsWorld}
 use Rattle.step_memory.specs.Values.{values_of}
 use Rattle.step_tasks.specs.declared.work.Work.{Work}
 use Rattle.step_tasks.specs.Tasks.{work_of, tasks_of, loop_of, head_of}
-use Rattle.step_values.specs.declared.marks.Computed.{Computed}
-use Rattle.step_values.specs.Taken.{IsComputed, IsEvaluated}
-use Rattle.step_values.proofs.RunLemmas.{run_parts}
+use Rattle.step_ahead.specs.declared.marks.Computed.{Computed}
+use Rattle.step_ahead.specs.Taken.{IsComputed, IsEvaluated}
+use Rattle.step_ahead.proofs.RunLemmas.{run_parts}
 use Rattle.step_ahead.specs.declared.asking.Asked.{Asked}
 use Rattle.step_ahead.specs.Ahead.{Reaches, GoesOn, IsAsked}
 

@@ -1,1 +1,5 @@
+pub mod RunLemmas
+pub mod FormLemmas
+pub mod ReadLemmas
+pub mod StoredLemmas
 pub mod AheadLemmas

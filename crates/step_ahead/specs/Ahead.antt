@@ -14,8 +14,8 @@ use Rattle.step_memory.specs.Stores.{names_of, HoldsWorld}
 use Rattle.step_memory.specs.Values.{values_of}
 use Rattle.step_tasks.specs.declared.work.Work.{Work}
 use Rattle.step_tasks.specs.Tasks.{work_of, tasks_of}
-use Rattle.step_values.specs.declared.marks.Computed.{Computed}
-use Rattle.step_values.specs.Taken.{IsComputed}
+use Rattle.step_ahead.specs.declared.marks.Computed.{Computed}
+use Rattle.step_ahead.specs.Taken.{IsComputed}
 use Rattle.step_ahead.specs.declared.asking.Asked.{Asked}
 
 -- after n steps the tasks are these, whatever values are pending, and the variables those of the store
@@ -23,7 +23,7 @@ pub record Reaches (s t : Store) (n : ℕ) (k j : List Task) : Type 0 where
   pub comes : (P : Code) (f : List ℕ) (g : Guards) (v : List Meant.Value) (cs : List Frame) (w : World) → HoldsWorld s w
       → (vs : Meant.Owner → Meant.Variable) × (run P n (At f g k v cs w) ≡ At f g j v cs (record w { variables = vs })) × HoldsWorld t (record w { variables = vs })
 
--- the same of tasks and values of the machine
+-- after n steps the machine's tasks and values are these, and its variables those of the store
 pub record GoesOn (s t : Store) (n : ℕ) (tasks left : List Work) (values new : List Value) : Type 0 where
   pub comes : (P : Code) (f : List ℕ) (g : Guards) (cs : List Frame) (w : World) → HoldsWorld s w
       → (vs : Meant.Owner → Meant.Variable)

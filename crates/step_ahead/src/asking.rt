@@ -2,9 +2,9 @@ ghost use Rattle.std.specs.Prelude.{◌≡◌, IfSome};
 ghost use Rattle.c_tree.specs.ExpressionTrees.{expression_tree};
 ghost use Rattle.step_ahead.specs.Ahead.{IsAsked};
 
+use crate::computing::{DEPTH, computed};
 use c_tree::Expression;
 use step_memory::Store;
-use step_values::{DEPTH, computed};
 
 /// Whether the number of an expression isn't 0, and how many steps that takes.
 #[derive(Clone, Copy)]

@@ -4,6 +4,7 @@ ghost use Rattle.jump_meaning.specs.Effects.{Computes};
 ghost use Rattle.jump_meaning.specs.Tasks.{Works};
 ghost use Rattle.step_ahead.specs.Ahead.{GoesOn, WhereTop};
 
+use crate::computing::{DEPTH, computed};
 use crate::loops::{head, loop_end};
 use crate::pushing::take_off;
 use crate::statements::statement;
@@ -11,7 +12,6 @@ use c_tree::Expression;
 use c_types::Memory;
 use step_memory::{Store, Value};
 use step_tasks::{Stage, Task, Tasks, Use, Values, Work};
-use step_values::{DEPTH, computed};
 
 /// The steps of an expression that is to be computed, or none.
 fn leave<'a>(

@@ -1,11 +1,18 @@
-//! Several steps of a run made at once: those of an expression without calls, and of the statement
-//! that it stands in.
+//! Several steps of a run made at once: those of an expression without calls, which is computed at once, and
+//! of the statement that it stands in.
 #![tactic(auto)]
 
 mod asking;
+mod computing;
+mod finding;
 mod going;
 mod loops;
+mod marks;
 mod pushing;
 mod statements;
+mod storing;
 
+pub use computing::{DEPTH, computed};
 pub use going::advance;
+pub use marks::Computed;
+pub use storing::evaluated;

@@ -8,11 +8,11 @@ ghost use Rattle.step_ahead.specs.Ahead.{Reaches, WhereTop};
 
 use crate::asking::ask;
 use crate::pushing::{add_body, go_on, take_off};
+use crate::storing::evaluated;
 use c_tree::{Expression, Item, Test};
 use c_types::Memory;
 use step_memory::Store;
 use step_tasks::{Stage, Task, Tasks, Work};
-use step_values::evaluated;
 
 /// A `while`, with which a list begins.
 pub fn enter_while<'a>(

@@ -11,11 +11,11 @@ ghost use Rattle.step_ahead.specs.Ahead.{Reaches, WhereTop};
 use crate::asking::ask;
 use crate::loops::enter_while;
 use crate::pushing::{add_chosen, go_on};
+use crate::storing::evaluated;
 use c_tree::{Expression, Item, Test};
 use c_types::Memory;
 use step_memory::Store;
 use step_tasks::Tasks;
-use step_values::evaluated;
 
 /// An expression statement.
 fn evaluate<'a>(

@@ -26,7 +26,7 @@ use Rattle.step_memory.specs.declared.value.Owner.TheVariants.{File, Call}
 use Rattle.step_memory.specs.Rooms.{IsRoom}
 use Rattle.step_memory.specs.Stores.{HoldsWorld, names_of, room_at}
 use Rattle.step_memory.specs.Values.{owner_of}
-use Rattle.step_calls.proofs.SlotLemmas.{one_slot_more}
+use Rattle.step_interp.proofs.SlotLemmas.{one_slot_more}
 use Rattle.step_interp.specs.Files.{first_cell, has_name, HasFile, HasPlaces}
 
 -- ---- first numbers

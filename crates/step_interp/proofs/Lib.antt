@@ -1,3 +1,10 @@
+pub mod UnsignedLemmas
+pub mod SlotLemmas
+pub mod FunctionLemmas
+pub mod EnterLemmas
+pub mod SettledLemmas
+pub mod NameLemmas
+pub mod InvokeLemmas
 pub mod TaskLemmas
 pub mod StepLemmas
 pub mod RunLemmas

@@ -8,12 +8,12 @@ use Rattle.jump_meaning.specs.Behaviour as B
 use Rattle.jump_meaning.specs.Step.{State, HasEnded, HasTrapped, step}
 use Rattle.jump_meaning.specs.Runs.{run, shows, IsOver}
 use Rattle.jump_meaning.proofs.RunFacts.{steps_of, run_grows}
-use Rattle.step_machine.specs.declared.machine.Machine.{Machine}
-use Rattle.step_machine.specs.Machines.{state_of}
+use Rattle.step_interp.specs.declared.machine.Machine.{Machine}
+use Rattle.step_interp.specs.Machines.{state_of}
 use Rattle.step_interp.specs.declared.runs.RunAnswer.{RunAnswer}
 use Rattle.step_interp.specs.declared.runs.RunAnswer.TheVariants.{Ended, Trapped, Spent, ReadFault, WriteFault, Memory}
 use Rattle.step_interp.specs.declared.runs.After.TheVariants as A
-use Rattle.step_library.specs.Shown.{bytes_in}
+use Rattle.step_interp.specs.Shown.{bytes_in}
 use Rattle.step_interp.specs.Steps.{IsReading}
 use Rattle.step_interp.specs.Answers.{Beginning, after, left_in, input_after, output_of, events_in, StandsAt, IsOverAt, GoesOnAt, IsSpentAt, IsStoppedAt, Answers, Agrees}
 use Rattle.step_interp.specs.Followed.{Followed, Follows, HasPorts, IsLast}

@@ -14,9 +14,9 @@ use Rattle.step_tasks.specs.declared.work.Work.{Work}
 use Rattle.step_tasks.specs.Controls.{guards_of}
 use Rattle.step_tasks.specs.Tasks.{tasks_of}
 use Rattle.step_ahead.specs.Ahead.{GoesOn}
-use Rattle.step_machine.specs.declared.machine.Machine.{Machine}
-use Rattle.step_machine.specs.Machines.{frames_of, state_of}
-use Rattle.step_library.specs.Shown.{bytes_in}
+use Rattle.step_interp.specs.declared.machine.Machine.{Machine}
+use Rattle.step_interp.specs.Machines.{frames_of, state_of}
+use Rattle.step_interp.specs.Shown.{bytes_in}
 use Rattle.step_interp.specs.declared.runs.RunAnswer.TheVariants.{Memory}
 use Rattle.step_interp.specs.Answers.{Beginning, after, Answers}
 use Rattle.step_interp.specs.Followed.{Follows}

@@ -14,13 +14,13 @@ use Rattle.jump_meaning.specs.Runs.{shows, start, IsOver}
 use Rattle.step_tasks.specs.declared.call.Call.{Call}
 use Rattle.step_tasks.specs.declared.labels.Labels.{Labels}
 use Rattle.step_tasks.specs.Labels.{AreLabelsOf}
-use Rattle.step_calls.specs.declared.functions.Functions.{Functions}
-use Rattle.step_calls.specs.Functions.{AreFunctionsOf}
-use Rattle.step_machine.specs.declared.machine.Machine.{Machine}
-use Rattle.step_machine.specs.Machines.{IsFunctionOf, IsCallOf, frames_of}
-use Rattle.step_machine.specs.Moves.{StandsFor}
+use Rattle.step_interp.specs.declared.functions.Functions.{Functions}
+use Rattle.step_interp.specs.Functions.{AreFunctionsOf}
+use Rattle.step_interp.specs.declared.machine.Machine.{Machine}
+use Rattle.step_interp.specs.Machines.{IsFunctionOf, IsCallOf, frames_of}
+use Rattle.step_interp.specs.Moves.{StandsFor}
 use Rattle.step_memory.specs.Stores.{names_of}
-use Rattle.step_machine.proofs.EnterLemmas.{state_at}
+use Rattle.step_interp.proofs.EnterLemmas.{state_at}
 use Rattle.step_interp.specs.Answers.{Beginning, left_in, output_of, events_in, IsOverAt, IsStoppedAt}
 use Rattle.step_interp.specs.Started.{BeginsIn}
 

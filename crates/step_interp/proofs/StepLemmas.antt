@@ -7,12 +7,12 @@ use Rattle.jump_meaning.specs.World.{World}
 use Rattle.jump_meaning.specs.Step.{State, HasEnded, HasTrapped}
 use Rattle.c_types.specs.declared.trap.Trap.{Trap}
 use Rattle.step_memory.specs.declared.value.Value.TheVariants as My
-use Rattle.step_machine.specs.declared.machine.Machine.{Machine}
-use Rattle.step_machine.specs.declared.machine.Next.TheVariants.{Goes, Reads, Writes, Prints, Ends, Traps}
-use Rattle.step_machine.specs.Machines.{IsGiven}
-use Rattle.step_machine.specs.Moves.{StandsFor}
-use Rattle.step_library.specs.Calls.{QuietlyReaches}
-use Rattle.step_library.specs.Shown.{bytes_in}
+use Rattle.step_interp.specs.declared.machine.Machine.{Machine}
+use Rattle.step_interp.specs.declared.machine.Next.TheVariants.{Goes, Reads, Writes, Prints, Ends, Traps}
+use Rattle.step_interp.specs.Machines.{IsGiven}
+use Rattle.step_interp.specs.Moves.{StandsFor}
+use Rattle.step_interp.specs.Calls.{QuietlyReaches}
+use Rattle.step_interp.specs.Shown.{bytes_in}
 use Rattle.step_interp.specs.Answers.{output_of}
 use Rattle.step_interp.specs.Followed.{HasPorts, Follows, IsLast, WroteFront, HasRead, ReadsNext}
 

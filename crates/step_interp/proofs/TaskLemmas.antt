@@ -19,13 +19,13 @@ use Rattle.step_tasks.specs.declared.work.Work.{Work}
 use Rattle.step_tasks.specs.Controls.{is_control, guards_of, Moves}
 use Rattle.step_tasks.specs.Effects.{Comes, IsTrapped, Changes}
 use Rattle.step_tasks.specs.Tasks.{task_of, tasks_of}
-use Rattle.step_machine.specs.declared.machine.Machine.{Machine}
-use Rattle.step_machine.specs.declared.machine.Next.{Next}
+use Rattle.step_interp.specs.declared.machine.Machine.{Machine}
+use Rattle.step_interp.specs.declared.machine.Next.{Next}
 use Rattle.step_tasks.specs.Labels.{AreLabelsOf}
-use Rattle.step_machine.specs.Machines.{HasWorld, IsCallOf, IsFunctionOf, frames_of, state_of}
-use Rattle.step_machine.specs.Moves.{Reaches, StandsFor}
-use Rattle.step_library.specs.Calls.{QuietlyReaches}
-use Rattle.step_library.proofs.SettledLemmas.{at_once, reaches_weaker}
+use Rattle.step_interp.specs.Machines.{HasWorld, IsCallOf, IsFunctionOf, frames_of, state_of}
+use Rattle.step_interp.specs.Moves.{Reaches, StandsFor}
+use Rattle.step_interp.specs.Calls.{QuietlyReaches}
+use Rattle.step_interp.proofs.SettledLemmas.{at_once, reaches_weaker}
 use Rattle.step_interp.specs.Steps.{IsReading, state_with}
 
 -- a task that is none of an item, a test or a selector is one of an expression

@@ -11,7 +11,7 @@ use Rattle.jump_meaning.specs.Runs.{run, shows, start, jump_run, TakesSteps}
 use Rattle.step_interp.specs.declared.entry.Entry.{Entry}
 use Rattle.step_interp.specs.declared.runs.RunAnswer.{RunAnswer}
 use Rattle.step_interp.specs.declared.runs.RunAnswer.TheVariants.{Ended, Trapped, Spent, ReadFault, WriteFault, Memory}
-use Rattle.step_library.specs.Shown.{bytes_in}
+use Rattle.step_interp.specs.Shown.{bytes_in}
 use Rattle.step_interp.specs.Steps.{IsReading}
 
 -- the events so far in a state
@@ -118,6 +118,6 @@ Agrees Spent s = (es : List Event) × (s ≡ B.More es)
 Agrees Memory s = Unit {0}
 Agrees _ s = ⊥
 
--- the same over a source that tells its bytes
+-- the answer is what the run shows over a source that tells its bytes
 abbrev pub AgreesOver : Program → Entry → ℕ → RunAnswer → Option (List ℕ) → Type 0
 AgreesOver p e budget answer rest = (input : List ℕ) → rest ≡ Some input → Agrees answer (jump_run (code_of p) e.function e.arguments input [] budget)

@@ -5,9 +5,9 @@ use Rattle.jump_meaning.specs.Code.{Code}
 use Rattle.jump_meaning.specs.Step.{State, HasEnded, HasTrapped, step}
 use Rattle.jump_meaning.specs.Values.{Event}
 use Rattle.jump_meaning.specs.World.{World}
-use Rattle.step_machine.specs.declared.machine.Machine.{Machine}
-use Rattle.step_machine.specs.Machines.{HasWorld, IsRead, state_of}
-use Rattle.step_library.specs.Shown.{bytes_in}
+use Rattle.step_interp.specs.declared.machine.Machine.{Machine}
+use Rattle.step_interp.specs.Machines.{HasWorld, IsRead, state_of}
+use Rattle.step_interp.specs.Shown.{bytes_in}
 use Rattle.step_interp.specs.declared.runs.After.{After}
 use Rattle.step_interp.specs.declared.runs.After.TheVariants as A
 use Rattle.step_interp.specs.declared.runs.RunAnswer.TheVariants.{Ended, Trapped, Spent, ReadFault, WriteFault, Memory}

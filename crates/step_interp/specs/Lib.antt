@@ -1,3 +1,11 @@
+pub mod Lookups
+pub mod Functions
+pub mod Numbers
+pub mod Readings
+pub mod Machines
+pub mod Moves
+pub mod Shown
+pub mod Calls
 pub mod Steps
 pub mod Files
 pub mod Started

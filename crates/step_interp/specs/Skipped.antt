@@ -3,8 +3,8 @@ use Rattle.std.specs.Prelude.{ℕ, ◌≡◌}
 use Rattle.jump_meaning.specs.Code.{code_of}
 use Rattle.jump_meaning.specs.World.{World}
 use Rattle.jump_meaning.specs.Runs.{run}
-use Rattle.step_machine.specs.declared.machine.Machine.{Machine}
-use Rattle.step_machine.specs.Machines.{HasWorld, state_of}
+use Rattle.step_interp.specs.declared.machine.Machine.{Machine}
+use Rattle.step_interp.specs.Machines.{HasWorld, state_of}
 
 -- after n steps from the state of a machine in a world, the other machine stands for the state, in a world with the same input and events
 pub record SkipsIn (n : ℕ) (old new : Machine) (w : World) : Type 0 where

@@ -14,9 +14,9 @@ use Rattle.step_memory.specs.Stores.{HoldsWorld}
 use Rattle.step_tasks.specs.Controls.{body_of}
 use Rattle.step_tasks.specs.Tasks.{tasks_of}
 use Rattle.step_tasks.specs.declared.labels.Labels.{Labels}
-use Rattle.step_calls.specs.declared.functions.Functions.{Functions}
-use Rattle.step_machine.specs.declared.machine.Machine.{Machine}
-use Rattle.step_machine.specs.Moves.{StandsFor}
+use Rattle.step_interp.specs.declared.functions.Functions.{Functions}
+use Rattle.step_interp.specs.declared.machine.Machine.{Machine}
+use Rattle.step_interp.specs.Moves.{StandsFor}
 
 -- the variables of the file, before any call
 abbrev pub HoldsFirst : Program → Store → Type 0

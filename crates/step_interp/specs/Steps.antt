@@ -5,16 +5,16 @@ use Rattle.jump_meaning.specs.Effects.{Calls}
 use Rattle.jump_meaning.specs.Step.{State, At, step}
 use Rattle.jump_meaning.specs.Tasks.{Works}
 use Rattle.jump_meaning.specs.World.{World}
-use Rattle.step_machine.specs.declared.machine.Machine.{Machine}
-use Rattle.step_machine.specs.declared.machine.Next.{Next}
+use Rattle.step_interp.specs.declared.machine.Machine.{Machine}
+use Rattle.step_interp.specs.declared.machine.Next.{Next}
 use Rattle.step_memory.specs.Stores.{names_of}
 use Rattle.step_memory.specs.Values.{values_of}
 use Rattle.step_tasks.specs.declared.work.Task.{Task}
 use Rattle.step_tasks.specs.Controls.{guards_of}
 use Rattle.step_tasks.specs.Tasks.{task_of, tasks_of}
-use Rattle.step_machine.specs.Machines.{HasWorld, frames_of, state_of}
-use Rattle.step_machine.specs.Moves.{Reaches}
-use Rattle.step_library.specs.Calls.{IsGetchar, QuietlyReaches}
+use Rattle.step_interp.specs.Machines.{HasWorld, frames_of, state_of}
+use Rattle.step_interp.specs.Moves.{Reaches}
+use Rattle.step_interp.specs.Calls.{IsGetchar, QuietlyReaches}
 
 -- the next step is a call of `getchar`, of which the program has no body
 abbrev pub IsReading : Code → State → Type 0
@@ -32,6 +32,6 @@ abbrev pub state_with : Task → Machine → World → State
 state_with t m w =
     At m.call.function.now.name (guards_of m.call.guards) (task_of t ∷ tasks_of m.call.tasks) (values_of (names_of m.store) m.call.values) (frames_of (names_of m.store) m.waiting) w
 
--- the same of a step that shows nothing, with the task that is next
+-- the step of a task shows nothing, and leads to the machine as it is now, with the task that is next
 abbrev pub Performs : Task → Machine → Next → Machine → Type 0
 Performs t old next new = (w : World) → HasWorld old w → Reaches ⊥ (step (code_of old.program.now) (state_with t old w)) w next new

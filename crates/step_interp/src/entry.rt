@@ -2,9 +2,9 @@ ghost use Rattle.std.specs.Prelude.{◌↔◌, take, All, IsNone, IsTrue};
 ghost use Rattle.jump_meaning.specs.Code.{code_of};
 ghost use Rattle.jump_meaning.specs.Runs.{IsEntry};
 
+use crate::lookup::definition;
 use c_tree::{Program, Slot};
 use c_types::{List, Name};
-use step_calls::definition;
 
 /// Where a run begins: a function whose parameters are numbers, and an argument for each.
 #[derive(Drop)]

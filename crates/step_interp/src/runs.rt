@@ -5,12 +5,14 @@ ghost use Rattle.rg_ports.specs.Written.{Written};
 ghost use Rattle.jump_meaning.specs.Code.{code_of};
 ghost use Rattle.jump_meaning.specs.Runs.{IsEntry};
 ghost use Rattle.jump_meaning.specs.World.{World};
-ghost use Rattle.step_calls.specs.Functions.{AreFunctionsOf};
-ghost use Rattle.step_machine.specs.Machines.{HasWorld};
+ghost use Rattle.step_interp.specs.Functions.{AreFunctionsOf};
+ghost use Rattle.step_interp.specs.Machines.{HasWorld};
 ghost use Rattle.step_interp.specs.Answers.{AgreesOver, Answers, AnswersOver, Beginning};
 ghost use Rattle.step_interp.specs.Followed.{Followed, Follows, HasPorts, IsReadFault, IsWriteFault, ReadsNext};
 
 use crate::entry::Entry;
+use crate::functions::{Functions, functions_of};
+use crate::machine::{Machine, Next};
 use crate::skipping::skip;
 use crate::starts::start;
 use crate::steps::step;
@@ -18,8 +20,6 @@ use c_tree::Program;
 use c_types::{Memory, Trap};
 use rg_ports::{Failed, Sink, Source, write_all};
 use std::alloc::Global;
-use step_calls::{Functions, functions_of};
-use step_machine::{Machine, Next};
 
 /// How a run stood when it was left; the `u64` is the number of steps.
 #[derive(Clone, Copy, Debug, PartialEq, Eq)]

@@ -1,9 +1,9 @@
 ghost use Rattle.std.specs.Prelude.{◌≡◌, ◌≤◌, IfOk};
 ghost use Rattle.step_interp.specs.Skipped.{Skips};
 
+use crate::machine::Machine;
 use c_types::Memory;
 use step_ahead::advance;
-use step_machine::Machine;
 
 /// Makes several steps at once, at most so many, and answers how many. They show nothing. Want of memory is
 /// the only failure, and the machine is of no use then.

@@ -1,15 +1,17 @@
 ghost use Rattle.std.specs.Prelude.{◌≡◌, ◌∷◌, ℕ, List, map, IfOk, OnOk};
 ghost use Rattle.jump_meaning.specs.Values.{Integer};
 ghost use Rattle.step_memory.specs.Values.{values_of};
-ghost use Rattle.step_calls.specs.Functions.{AreFunctionsOf};
+ghost use Rattle.step_interp.specs.Functions.{AreFunctionsOf};
 ghost use Rattle.step_interp.specs.Started.{BeginsIn, StartsAs};
 
 use crate::files::store_at_start;
+use crate::functions::{Functions, Routine, routine_of};
+use crate::lookup::{cells_of, global_cells};
+use crate::machine::{MOST_CELLS, Machine};
+use crate::slots::rooms_at_start;
 use c_tree::Program;
 use c_types::{Memory, Name, Stack};
 use std::alloc::Global;
-use step_calls::{Functions, Routine, cells_of, global_cells, rooms_at_start, routine_of};
-use step_machine::{MOST_CELLS, Machine};
 use step_memory::Value;
 use step_tasks::{Call, Values};
 

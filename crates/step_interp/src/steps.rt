@@ -1,9 +1,9 @@
 ghost use Rattle.std.specs.Prelude.{◌≡◌, IfOk};
 ghost use Rattle.step_interp.specs.Steps.{Performs, Steps};
 
+use crate::calling::invoke;
+use crate::machine::{Machine, Next};
 use c_types::Memory;
-use step_library::invoke;
-use step_machine::{Machine, Next};
 use step_tasks::{Done, Task, act, control, is_control, next_task};
 
 /// A task that is neither a call nor its end.

@@ -40,7 +40,7 @@ LacksCell r i = (ns : List (List ℕ)) (v : Variable) → IsRoom ns r v → cell
 abbrev pub Becomes : (Variable → Variable) → Room → Room → Type 0
 Becomes F old new = (ns : List (List ℕ)) (v : Variable) → IsRoom ns old v → IsRoom ns new (F v)
 
--- the same of the room at a place, and the others are as before
+-- the room at a place is now what F makes of the variable that it was, and the others are as before
 abbrev pub BecomesAt : (Variable → Variable) → ℕ → List Room → List Room → Type 0
 BecomesAt F place old new = (was now : Room) × (slice_get old place ≡ Some was) × Becomes F was now × (new ≡ slice_set old place now)
 

@@ -3,7 +3,7 @@ ghost use Rattle.step_open_calls.specs.Calls.{is_open as the_is_open, expression
 
 use c_tree::{Expression, Node, Place, Program};
 use c_types::{Boxed, List, Name, is_known};
-use step_calls::definition;
+use step_interp::definition;
 
 /// Whether no function of the name has a body, and it is none of the library's.
 fn is_open(program: &Program, name: &Name) -> bool

@@ -51,7 +51,7 @@ Moves t s old new =
     → move P (view (body_of old.function.now) (guards_of old.guards) (t ∷ tasks_of old.tasks)) f (guards_of old.guards) (values_of (names_of s) old.values) cs w
     ≡ At f (guards_of new.guards) (tasks_of new.tasks) (values_of (names_of s) new.values) cs w
 
--- the same whatever the variables are
+-- the step of the meaning from the call with this task comes to the call as it is now, whatever the variables are
 abbrev pub MovesAlways : T.Task → Call → Call → Type 0
 MovesAlways t old new = (s : Store) → Moves t s old new
 

@@ -47,12 +47,12 @@ IsTrapped o t s values = (w : World) → HoldsWorld s w → effect o (values_of 
 abbrev pub IsLeft : Op → Store → List Value → List Value → Type 0
 IsLeft o s values new = (tasks : List Work) → IsDone o s tasks tasks values new
 
--- the same, or a trap
+-- a task that takes values and leaves one, or meets a trap: other tasks stay as they are
 abbrev pub IsLeftOr : Op → Done → Store → List Value → List Value → Type 0
 IsLeftOr o Is.Goes s values new = IsLeft o s values new
 IsLeftOr o (Is.Traps t) s values new = IsTrapped o t s values
 
--- the same whatever the variables are
+-- a task is done whatever the variables are
 abbrev pub IsDoneAlways : Op → List Work → List Work → List Value → List Value → Type 0
 IsDoneAlways o tasks left values new = (s : Store) → IsDone o s tasks left values new
 
@@ -84,7 +84,7 @@ Changes o s t tasks left values new =
     (w : World) → HoldsWorld s w
     → (now : World) × Comes (effect o (values_of (names_of s) values) w) (tasks_of tasks) (tasks_of left) (values_of (names_of s) new) now × HoldsWorld t now × DifferInVariables w now
 
--- the same of a task that takes values and leaves one
+-- a task that takes values, leaves one and may change variables: other tasks stay as they are
 abbrev pub LeavesIn : Op → Store → Store → List Value → List Value → Type 0
 LeavesIn o s t values new = (tasks : List Work) → Changes o s t tasks tasks values new
 
@@ -108,11 +108,11 @@ abbrev pub IsDoneOr : Op → Done → Store → List Work → List Work → List
 IsDoneOr o Is.Goes s tasks left values new = IsDone o s tasks left values new
 IsDoneOr o (Is.Traps t) s tasks left values new = IsTrapped o t s values
 
--- the same whatever the variables and the other tasks are
+-- a task that changes no variable is done, or meets a trap, whatever the variables and the other tasks are
 abbrev pub IsDoneOrAlways : Op → Done → List Value → List Value → Type 0
 IsDoneOrAlways o done values new = (s : Store) (tasks : List Work) → IsDoneOr o done s tasks tasks values new
 
--- the same of one that may change variables
+-- a task that may change variables is done, or meets a trap
 abbrev pub ChangesOr : Op → Done → Store → Store → List Work → List Work → List Value → List Value → Type 0
 ChangesOr o Is.Goes s t tasks left values new = Changes o s t tasks left values new
 ChangesOr o (Is.Traps trap) s t tasks left values new = IsTrapped o trap s values

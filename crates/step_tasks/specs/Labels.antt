@@ -37,7 +37,7 @@ pub record Adds (found_at : ℕ → Option (List T.Task)) (old new : Labels) : T
   pub kept : (i : ℕ) (k : List T.Task) → IsStack old.levels i k → IsStack new.levels i k
   pub found : (l : ℕ) (o : Option (List T.Task)) → IsFound old l o → IsFound new l (or_else o (found_at l))
 
--- the same of what is found before the tasks of a level
+-- the labels that are found before the tasks of a level are added
 abbrev pub AddsBefore : ℕ → (List T.Task → ℕ → Option (List T.Task)) → Labels → Labels → Type 0
 AddsBefore below found_at old new = (k : List T.Task) → IsStack old.levels below k → Adds (found_at k) old new
 

@@ -71,7 +71,7 @@ fn gather_in<'a>(labels: &mut Labels<'a>, item: &'a Item, below: usize) -> Resul
     }
 }
 
-/// The same in an item that has these items behind it.
+/// Adds the labels in the lists of an item that has these items behind it.
 #[cycle(gathering)]
 fn gather_inside<'a>(
     labels: &mut Labels<'a>,
@@ -135,7 +135,7 @@ fn gather_sections<'a>(
     Ok(())
 }
 
-/// The same in one section, with its end behind its list.
+/// Adds the labels in the list of one section, which has its end behind it.
 #[cycle(gathering)]
 fn gather_section<'a>(
     labels: &mut Labels<'a>,

@@ -150,7 +150,8 @@ pub fn has_lists(item: &Item) -> bool
     }
 }
 
-/// The same in an item that has these items behind it.
+/// Puts the tasks from the label in the lists of an item on before the others, if it stands there. These items stand
+/// behind the item.
 #[cycle(search)]
 fn seek_inside<'a>(
     tasks: &mut Tasks<'a>,
@@ -189,7 +190,7 @@ fn seek<'a>(tasks: &mut Tasks<'a>, goal: &Goal, list: &'a [Item]) -> Result<bool
     Ok(false)
 }
 
-/// The same in the sections of a switch.
+/// Puts the tasks from the label in the sections of a switch on before the others, if it stands there.
 pub fn seek_sections<'a>(
     tasks: &mut Tasks<'a>,
     goal: &Goal,
@@ -212,7 +213,8 @@ pub fn seek_sections<'a>(
     Ok(false)
 }
 
-/// The same in the list of one section, with its end behind it.
+/// Puts the tasks from the label in the list of one section on before the others, if it stands there. The section's end
+/// stands behind the list.
 fn seek_section<'a>(
     tasks: &mut Tasks<'a>,
     goal: &Goal,

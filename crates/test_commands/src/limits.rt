@@ -16,7 +16,7 @@ struct Made {
 
 /// A piece of a text.
 pub enum Piece {
-    /// The same so many times.
+    /// A text, so many times.
     Times(&'static str, u32),
     /// So many jumps, each to a label of its own right behind it.
     Jumps(u32),

@@ -10,7 +10,7 @@ pub enum Asked {
     Report,
     /// Whether single simplifications are made of it, and the body then, after all its moves.
     Unread,
-    /// The same of another body in its place.
+    /// Whether single simplifications are made of another body in its place, and that body then.
     Neighbours,
 }
 

@@ -6,8 +6,7 @@ ghost use Rattle.c_tree.specs.WellMade.{IsWellMade};
 use crate::printed::{print_items, print_path};
 use c_tree::{Item, Path};
 use c_types::{List, Memory};
-use guard_bodies::simplify_body;
-use move_bodies::derive;
+use move_bodies::{derive, simplify_body};
 use report_moves::MoveKind;
 use std::alloc::{AllocError, Global};
 

@@ -7,7 +7,7 @@ use crate::printed::print_items;
 use crate::reports::tell_derived;
 use c_tree::{Function, Item, Path, Test};
 use c_types::{List, Memory, Name};
-use guard_bodies::apply_one;
+use move_bodies::apply_one;
 use report_moves::{Move, MoveKind};
 use std::alloc::Global;
 use std::mem;

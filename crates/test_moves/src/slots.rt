@@ -4,8 +4,10 @@ use crate::bodies::program_of;
 use c_tree::{Item, Program, Test, Top};
 use c_types::{List, Memory};
 use std::alloc::Global;
-use tidy_mentions::{item_names, items_name, list_names, names, test_names};
-use tidy_renumber::{Numbers, new_number, new_numbers, renumber_expression, renumber_list};
+use tidy_slots::{
+    Numbers, item_names, items_name, list_names, names, new_number, new_numbers,
+    renumber_expression, renumber_list, test_names,
+};
 
 /// The body of the function that stands first.
 fn body_of(program: &Program) -> Option<&List<Item>> {
@@ -18,10 +20,10 @@ fn body_of(program: &Program) -> Option<&List<Item>> {
 /// Slot 0 is assigned to slot 2 in a loop, while that isn't 0.
 const LOOP: &str = "void f(int a, int b) { int c; while (c) { c = a; } }";
 
-/// The same without slot 1.
+/// `LOOP` without slot 1.
 const LOOP_WITHOUT: &str = "void f(int a) { int c; while (c) { c = a; } }";
 
-/// The same without the loop.
+/// Slot 0 is assigned to slot 2, outside of a loop.
 const STEP: &str = "void f(int a, int b, int c) { c = a; }";
 
 const STEP_WITHOUT: &str = "void f(int a, int c) { c = a; }";

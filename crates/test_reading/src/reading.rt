@@ -1,6 +1,5 @@
 use c_printer::print;
-use c_reading::read;
-use c_scopes::FlatCounter;
+use c_scopes::{FlatCounter, read};
 use c_tree::Item;
 use c_types::{Bytes, List, Memory, ReadStop};
 use std::alloc::Global;

@@ -1,5 +1,4 @@
-use c_reading::read;
-use c_scopes::FlatCounter;
+use c_scopes::{FlatCounter, read};
 use c_tree::{Item, Program};
 use c_types::{Bytes, List, Memory, Name};
 use rg_ports::{MemSink, MemSource};

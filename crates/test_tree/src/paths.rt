@@ -114,7 +114,7 @@ fn label_at(list: &List<Item>, at: &Path) -> u32 {
     }
 }
 
-/// The same of a spot.
+/// The label of the goto at the spot; 100 where another item stands, 200 where none does.
 fn label_of(alloc: Global, list: &List<Item>, spot: &Spot) -> Result<u32, Memory> {
     let at = path(alloc, spot)?;
     let label = label_at(list, &at);
@@ -216,7 +216,7 @@ fn exchange(alloc: Global, body: &mut List<Item>, at: &Path, label: u32) -> Resu
     Ok(length)
 }
 
-/// The same of the list with the spot.
+/// Exchanges the list with the spot for one of three gotos to the label, and gives the old one's length.
 fn exchange_at(
     alloc: Global,
     body: &mut List<Item>,

@@ -1,5 +1,5 @@
 -- The changes at one loop.
-use Rattle.std.proofs.Common.{ℕ, suc, ◌+◌, ◌-◌, Bool, true, false, cond, not, ◌&&◌, eqb, leb, ltb, length, Option, Some, None, option_map, ◌≡◌, ◌≢◌, refl, sym, ap, ◌∙◌, pos, arith}
+use Rattle.std.proofs.Common.{ℕ, suc, ◌+◌, ◌-◌, Bool, true, false, cond, ◌&&◌, eqb, leb, ltb, length, Option, Some, None, option_map, ◌≡◌, ◌≢◌, refl, sym, ap, ◌∙◌, pos, arith}
 use Rattle.std.specs.Prelude.{filter}
 use Rattle.std.proofs.lemmas.Bool.{eq-eqb, ne_eqb}
 use Rattle.c_types.specs.declared.kinds.IntKind.TheVariants.{Int}
@@ -10,15 +10,15 @@ use Rattle.c_tree.specs.TestTrees.{TestTree, Source}
 use Rattle.c_tree.specs.Trees.{Tree, Forest, Nil, Then, Evaluate, While, Do, For, Break, Continue}
 use Rattle.jump_meaning.specs.Code.{FunctionTree, items_of}
 use Rattle.tidy_laws.specs.Changes.{is_number, is_reset, tailed, are_low, second_test, before_reset, after_reset, both_there, with_breaks, broken_loop, with_continues, continued_loop}
-use Rattle.tidy_counts.specs.Counts.{one_if, expression_count, place_count, test_count, option_count, list_count, item_count}
-use Rattle.tidy_tails.specs.declared.exits.Exit.TheVariants as E
-use Rattle.tidy_tails.specs.Views.{place_slot, is_it, is_int_kind}
-use Rattle.tidy_tails.specs.Exits.{exits_in}
-use Rattle.tidy_tails.proofs.FormLaws.{off_it}
-use Rattle.tidy_tails.proofs.Gone.{off_once, exit_laws_hold}
+use Rattle.tidy_slots.specs.Counts.{one_if, expression_count, place_count, test_count, option_count, list_count, item_count}
+use Rattle.tidy_loops.specs.declared.exits.Exit.TheVariants as E
+use Rattle.tidy_loops.specs.Views.{place_slot, is_it, is_int_kind}
+use Rattle.tidy_loops.specs.Exits.{exits_in}
+use Rattle.tidy_loops.proofs.FormLaws.{off_it}
+use Rattle.tidy_loops.proofs.Gone.{off_once, exit_laws_hold}
 use Rattle.tidy_loops.specs.Fits.{is_declared_flag, fits}
 use Rattle.tidy_loops.specs.Slots.{may_go, counts_of, stop_slot, rest_test, reset_slot, first_reset, last_reset, but_last, but_first, allowed, breaks, continues, break_slot, continue_slot, broken, continued, broken_lists, continued_lists, found}
-use Rattle.tidy_loops.specs.Laws.{LoopLaws}
+use Rattle.tidy_loops.specs.LoopLaws.{LoopLaws}
 use Rattle.tidy_loops.proofs.Single.{eqb_same, kept_slots, kept_none}
 
 -- ---- what is read

@@ -1,14 +1,14 @@
 -- The counts of the slots that may go.
-use Rattle.std.proofs.Common.{ℕ, zero, suc, ◌+◌, ◌<◌, ◌≤◌, ◌≢◌, arith, Bool, true, false, cond, ◌&&◌, ◌||◌, eqb, eqb-true, eq-eqb, true≢false, leb, ltb, List, [], ◌∷◌, ◌++◌, length, get_or, slice_get, slice_set, replicate, Option, Some, None, ◌≡◌, refl, sym, ap, ◌∙◌}
+use Rattle.std.proofs.Common.{ℕ, zero, suc, ◌+◌, ◌<◌, ◌≤◌, ◌≢◌, arith, Bool, true, false, cond, ◌&&◌, ◌||◌, eqb, eqb-true, eq-eqb, true≢false, leb, ltb, List, [], ◌∷◌, ◌++◌, length, slice_get, slice_set, replicate, Option, Some, None, ◌≡◌, refl, sym, ap, ◌∙◌}
 use Rattle.std.proofs.lemmas.Bool.{ne_eqb, leb-true, leb-false}
 use Rattle.std.proofs.lemmas.List.{get_or-set_same, get_or-set_other}
 use Rattle.c_tree.specs.Trees.{Tree, Forest, Nil, Then, Local}
 use Rattle.jump_meaning.specs.Code.{FunctionTree, items_of, entry_or}
 use Rattle.jump_meaning.specs.World.{no_slot}
 use Rattle.tidy_laws.specs.Changes.{is_flag, is_zero_value, is_declaration, declares}
-use Rattle.tidy_counts.specs.Counts.{list_count}
-use Rattle.tidy_counts.specs.Added.{Adds}
-use Rattle.tidy_tails.specs.Views.{is_it}
+use Rattle.tidy_slots.specs.Counts.{list_count}
+use Rattle.tidy_slots.specs.Added.{Adds}
+use Rattle.tidy_loops.specs.Views.{is_it}
 use Rattle.tidy_loops.specs.Slots.{declared, is_free, may_go, counts_of, count_in, Tells}
 use Rattle.tidy_loops.proofs.Read.{none_past}
 

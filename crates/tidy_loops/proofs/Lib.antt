@@ -1,3 +1,9 @@
+pub mod FormLaws
+pub mod Gone
+pub mod Counted
+pub mod Made
+pub mod Giving
+pub mod InPlace
 pub mod Single
 pub mod AtLoop
 pub mod Read

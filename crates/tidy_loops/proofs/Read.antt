@@ -1,6 +1,8 @@
 -- What is read from a function and its loops.
-use Rattle.std.proofs.Common.{ℕ, zero, suc, ◌-◌, ◌<◌, ◌≤◌, arith, Bool, true, false, ◌&&◌, leb, ltb, List, [], ◌∷◌, length, take, drop, get_or, map, Some, None, slice_get, ◌≡◌, refl, sym, ap, ◌∙◌}
+use Rattle.std.proofs.Common.{ℕ, zero, suc, ◌-◌, ◌<◌, ◌≤◌, arith, Bool, true, false, ◌&&◌, leb, ltb, List, [], ◌∷◌, ◌++◌, length, take, drop, get_or, map, Option, Some, None, slice_get, ◌≡◌, refl, sym, ap, ◌∙◌}
+use Rattle.std.specs.Prelude.{MatchOption}
 use Rattle.std.specs.Option.{option_map_or}
+use Rattle.std.proofs.lemmas.List.{length_push, take_at}
 use Rattle.std.proofs.lemmas.Bool.{le-leb, lt-ltb, ltb-true}
 use Rattle.c_tree.specs.declared.tree.Expression.{Expression}
 use Rattle.c_tree.specs.declared.tree.Test as S
@@ -18,8 +20,8 @@ use Rattle.jump_meaning.specs.World.{no_slot}
 use Rattle.c_tree.specs.Views.{tree_at}
 use Rattle.c_tree.proofs.Views.{trees-first}
 use Rattle.tidy_laws.specs.Changes.{is_number, is_zero_value, is_flag}
-use Rattle.tidy_tails.specs.Views.{test_at}
-use Rattle.tidy_tails.proofs.FormLaws.{test_same}
+use Rattle.tidy_loops.specs.Views.{test_at}
+use Rattle.tidy_loops.proofs.FormLaws.{test_same}
 use Rattle.tidy_loops.specs.Slots.{second_half, rest_test, reset_slot, first_reset, last_reset, but_last, is_free}
 
 pub at_source : (e : Expression) → test_at (S.Source e) ≡ Source (expression_tree e)
@@ -69,6 +71,12 @@ front_is (x ∷ y ∷ ys) =
     let k : length (x ∷ y ∷ ys) - 1 ≡ suc (length (y ∷ ys) - 1) = omega arith in
     ap (λ m. trees_of (take m (x ∷ y ∷ ys))) k ∙ trees-first x (take (length (y ∷ ys) - 1) (y ∷ ys)) ∙ ap (Then (tree_at x)) (front_is (y ∷ ys))
     ∙ sym (ap but_last (trees-first x (y ∷ ys)) ∙ front_first (tree_at x) ys y)
+
+pub front_left : (old new : List Item) (r : Option Item) → MatchOption r ((old ≡ []) × (new ≡ [])) (λ last. old ≡ new ++ last ∷ []) → trees_of new ≡ but_last (trees_of old)
+front_left old new None h = ap trees_of h.1 ∙ trees-none ∙ sym (ap but_last (ap trees_of h.0 ∙ trees-none))
+front_left old new (Some y) h =
+    let n : length old - 1 ≡ length new = omega (arith, ap length h, length_push new y) in
+    sym (ap trees_of (ap (λ k. take k old) n ∙ ap (take (length new)) h ∙ take_at new (y ∷ []) (length new) refl)) ∙ front_is old
 
 -- ---- which variable may go
 

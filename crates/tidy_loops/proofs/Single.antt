@@ -6,7 +6,7 @@ use Rattle.std.proofs.lemmas.Bool.{eq-eqb, ne_eqb, eqb-true, eqb-false, le-leb, 
 use Rattle.std.proofs.lemmas.List.{append-nil}
 use Rattle.c_tree.specs.Trees.{Forest}
 use Rattle.tidy_laws.specs.Changes.{changed_for, listed}
-use Rattle.tidy_tails.specs.Views.{is_it}
+use Rattle.tidy_loops.specs.Views.{is_it}
 use Rattle.tidy_loops.specs.Slots.{allowed, found}
 
 same_bool : (a b : Bool) → (a ≡ true → b ≡ true) → (b ≡ true → a ≡ true) → a ≡ b

@@ -4,7 +4,7 @@ use Rattle.c_tree.specs.Trees.{Tree, Forest, Sections}
 use Rattle.jump_meaning.specs.Code.{FunctionTree, items_of, entry_or}
 use Rattle.jump_meaning.specs.World.{no_slot}
 use Rattle.tidy_laws.specs.Changes.{is_flag, declares}
-use Rattle.tidy_counts.specs.Counts.{list_count, item_count, sections_count}
+use Rattle.tidy_slots.specs.Counts.{list_count, item_count, sections_count}
 
 -- a variable that may go, declared by `int g = 0;` in the outermost list
 abbrev pub is_declared_flag : FunctionTree → ℕ → Bool

@@ -1,3 +1,6 @@
+pub mod Views
+pub mod Exits
+pub mod ExitLaws
 pub mod Fits
 pub mod Slots
-pub mod Laws
+pub mod LoopLaws

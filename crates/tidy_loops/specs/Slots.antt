@@ -11,9 +11,9 @@ use Rattle.c_tree.specs.Trees.{Tree, Forest, Nil, Then, Evaluate, While, Do, For
 use Rattle.jump_meaning.specs.Code.{FunctionTree, items_of, entry_or}
 use Rattle.jump_meaning.specs.World.{no_slot}
 use Rattle.tidy_laws.specs.Changes.{is_number, is_flag, is_zero_value, tailed, are_low, broken_loop, continued_loop, after_reset, both_there, changed_for}
-use Rattle.tidy_counts.specs.Counts.{list_count}
-use Rattle.tidy_tails.specs.Views.{off_slot, place_slot, is_it, is_int_kind}
-use Rattle.tidy_tails.specs.Exits.{exits_in}
+use Rattle.tidy_slots.specs.Counts.{list_count}
+use Rattle.tidy_loops.specs.Views.{off_slot, place_slot, is_it, is_int_kind}
+use Rattle.tidy_loops.specs.Exits.{exits_in}
 use Rattle.tidy_loops.specs.Fits.{is_declared_flag}
 
 -- ---- what is read

@@ -4,11 +4,13 @@ ghost use Rattle.c_tree.specs.Trees.{trees_of};
 ghost use Rattle.c_tree.specs.Views.{tree_at};
 ghost use Rattle.tidy_loops.specs.Slots.{count_in, allowed, breaks as the_breaks, continues as the_continues, stop_slot as the_stop_slot, last_reset, but_last, break_slot as the_break_slot, continue_slot as the_continue_slot};
 
+use crate::counting::{count_exits, exits_in_items};
 use crate::counts::count_of;
+use crate::forms::is_it;
+use crate::levels::{are_low, items_are_low};
 use crate::reading::{first_reset, split_last, stop_slot};
 use c_tree::{Item, Test};
 use c_types::{List, Memory};
-use tidy_tails::{are_low, count_exits, exits_in_items, is_it, items_are_low};
 
 fn breaks(
     counts: &List<u64>,

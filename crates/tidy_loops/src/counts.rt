@@ -3,15 +3,15 @@ ghost use Rattle.c_tree.specs.Trees.{trees_of};
 ghost use Rattle.jump_meaning.specs.Code.{function_tree};
 ghost use Rattle.c_tree.specs.Views.{tree_at};
 ghost use Rattle.tidy_laws.specs.Changes.{is_flag as the_is_flag, is_declaration, declares};
-ghost use Rattle.tidy_counts.specs.Counts.{list_count};
-ghost use Rattle.tidy_counts.specs.Added.{Adds};
+ghost use Rattle.tidy_slots.specs.Counts.{list_count};
+ghost use Rattle.tidy_slots.specs.Added.{Adds};
 ghost use Rattle.tidy_loops.specs.Slots.{count_in, declared as the_declared, is_free as the_is_free, items_in, Tells};
 
 use crate::reading::is_zero_value;
 use c_tree::{Function, Item, Slot};
 use c_types::{IntKind, List, Memory};
 use std::alloc::Global;
-use tidy_counts::count_list;
+use tidy_slots::count_list;
 
 /// The count of the slot, 0 where it has none.
 pub fn count_of(counts: &List<u64>, slot: u32) -> u64

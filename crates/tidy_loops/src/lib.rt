@@ -1,18 +1,32 @@
-//! The changes at one loop by which a guard is turned back into `break` or `continue`: the slot of the one that is to be
-//! taken, told by reading, and the list that it makes.
+//! The changes at one loop by which a guard is turned back into `break` or `continue`: the slot of the one that
+//! is to be taken, told by reading, the sets and checks of that slot at tails, and the list that the change makes.
 #![tactic(auto)]
 
 mod allowing;
+mod counting;
 mod counts;
+mod exit_law;
+mod exits;
+mod forms;
+mod inside;
+mod levels;
 mod making;
 mod reading;
+mod tails;
+mod ways;
 
-ghost use Rattle.tidy_loops.specs.Laws.{LoopLaws};
+ghost use Rattle.tidy_loops.specs.LoopLaws.{LoopLaws};
 
 pub use allowing::{break_slot, continue_slot};
+pub use counting::{count_exits, exits_in_items};
 pub use counts::guard_counts;
+pub use exit_law::exit_laws;
+pub use exits::Exit;
+pub use forms::{is_int, is_it, is_number, off_slot, place_slot};
+pub use levels::{are_low, deeper, items_are_low};
 pub use making::{broken, continued};
 pub use reading::is_declaration;
+pub use tails::tailed;
 
 /// At a loop at most one change by `break` and one by `continue` apply: those of the slots that are read.
 #[tactic(auto, using(crate::proofs::AtLoop::loop_laws_hold))]

@@ -5,12 +5,12 @@ ghost use Rattle.c_tree.specs.TestTrees.{Source};
 ghost use Rattle.c_tree.specs.Trees.{expression_trees, trees_of};
 ghost use Rattle.c_tree.specs.Views.{tree_at};
 ghost use Rattle.tidy_laws.specs.Changes.{is_zero_value as the_is_zero_value, is_declaration as the_is_declaration};
-ghost use Rattle.tidy_tails.specs.Views.{expression_at, test_at};
+ghost use Rattle.tidy_loops.specs.Views.{expression_at, test_at};
 ghost use Rattle.tidy_loops.specs.Slots.{and_slot as the_and_slot, and_half as the_and_half, stop_slot as the_stop_slot, second_half as the_second_half, reset_slot as the_reset_slot, first_reset as the_first_reset, reset_by, reset_in};
 
+use crate::forms::{is_int, is_number, off_slot, place_slot};
 use c_tree::{BinaryOp, Expression, Item, Node, Place, Test};
 use c_types::{IntKind, List};
-use tidy_tails::{is_int, is_number, off_slot, place_slot};
 
 fn and_slot(op: BinaryOp, e: &Expression) -> Option<u32>
     ensures { result ≡ the_and_slot op (expression_tree e.now) }

@@ -2,7 +2,7 @@ use mathlib.Core.Path.{fun_ext}
 use Rattle.std.proofs.Common.{take, drop, Some, ap, ◌∙◌}
 use Rattle.c_tree.specs.Trees.{trees_of, join}
 use Rattle.tidy_loops.specs.Slots.{count_in}
-use Rattle.tidy_search.specs.Next.{changed_to}
+use Rattle.break_recovery.specs.Next.{changed_to}
 use Rattle.break_recovery.proofs.Loops.{here_changed, here_none}
 use Rattle.break_recovery.proofs.boxes.change_here.Goals as goal
 

@@ -3,7 +3,7 @@ use Rattle.std.proofs.Common.{◌≡◌, ◌+◌, [], ◌∷◌, get_or, sym, ap
 use Rattle.std.specs.Option.{option_copied}
 use Rattle.c_tree.specs.Trees.{trees_of}
 use Rattle.c_tree.specs.Views.{tree_at}
-use Rattle.tidy_tails.proofs.Counted.{if_ok_more}
+use Rattle.tidy_loops.proofs.Counted.{if_ok_more}
 use Rattle.tidy_loops.specs.Slots.{count_in}
 use Rattle.break_recovery.specs.Loops.{change_there}
 use Rattle.break_recovery.proofs.Loops.{before_next, before_none, none_there}

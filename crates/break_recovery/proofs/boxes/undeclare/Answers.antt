@@ -2,7 +2,7 @@ use Rattle.std.proofs.Common.{◌≡◌, ◌<◌, get_or, length, sym, ap, ◌�
 use Rattle.c_tree.specs.Trees.{trees_of}
 use Rattle.c_tree.specs.Views.{tree_at}
 use Rattle.tidy_laws.specs.Changes.{is_declaration}
-use Rattle.tidy_search.specs.Places.{removed}
+use Rattle.break_recovery.specs.Places.{removed}
 use Rattle.break_recovery.proofs.Outermost.{removed_is}
 use Rattle.break_recovery.proofs.Undeclared.{none_passed, one_passed, declaration_gone, none_declared}
 use Rattle.break_recovery.proofs.boxes.undeclare.Goals as goal

@@ -1,6 +1,6 @@
-use Rattle.std.proofs.Common.{subst, ap, replicate, reverse, false, ◌∙◌, arith}
+use Rattle.std.proofs.Common.{subst, ap, replicate, reverse, true, false, ◌∙◌, arith}
 use Rattle.c_tree.specs.Trees.{trees_of}
-use Rattle.tidy_search.proofs.Ways.{no_way}
+use Rattle.break_recovery.proofs.WaysSearched.{no_way}
 use Rattle.break_recovery.specs.Ends.{with_body, WentOn}
 use Rattle.break_recovery.proofs.Numbered.{going, goes, fewer_left, all_made}
 use Rattle.break_recovery.proofs.functions.change_boxes.Goals as goal
@@ -8,7 +8,7 @@ use Rattle.break_recovery.proofs.functions.change_boxes.Goals as goal
 pub changes-init : goal.changes-init
 changes-init c = (
   going (with_body c.args.function.now c.args.list.now) c.in_ok-gone.gone c.args.counts (c.in_ok-gone.ensures ∙ ap (λ n. replicate n false) c.len.ensures.value) c.requires,
-  λ h t. (λ j i p. absurd (omega (arith, i)), no_way h 2 (reverse c.new-way.result) (trees_of c.args.list.now) (ap reverse c.new-way.ensures)),
+  λ h t. (λ j i p. absurd (omega (arith, i)), no_way true h 2 (reverse c.new-way.result) (trees_of c.args.list.now) (ap reverse c.new-way.ensures)),
 )
 
 pub changes-smaller : goal.changes-smaller

@@ -1,9 +1,10 @@
-use Rattle.std.proofs.Common.{sym, subst}
+use Rattle.std.proofs.Common.{sym, ap, subst, ◌∙◌}
 use Rattle.c_tree.specs.Trees.{trees_of}
-use Rattle.tidy_search.specs.Places.{IsFoundAt}
-use Rattle.tidy_search.proofs.Places.{none_next, none_some}
+use Rattle.tidy_loops.specs.Slots.{counts_of}
+use Rattle.break_recovery.specs.Places.{IsFoundAt}
+use Rattle.break_recovery.proofs.NothingBefore.{none_next, none_some}
 use Rattle.break_recovery.proofs.Ways.{way_goes_on}
-use Rattle.break_recovery.proofs.Outermost.{found_changed, found_goes_on}
+use Rattle.break_recovery.proofs.Outermost.{found_changed, found_goes_on, one_slot}
 use Rattle.break_recovery.proofs.Undeclared.{body_changed, body_settled}
 use Rattle.break_recovery.proofs.functions.change_list_of.Goals as goal
 
@@ -16,11 +17,11 @@ returns-in-Some c =
     record {
       made = λ f h q e. body_changed f g a b (trees_of c.undeclare-gone.new.list) e (found_changed f g k a b (subst (λ it. IsFoundAt f 2 it a b) c.in-Some.is (c.in_ok-change.ensures.made f h q))) c.undeclare-gone.ensures.gone;
       kept = λ e. none_some g (sym e);
-      start = λ x e f h t l q.
+      start = λ x e f h t l z q.
           let r = c.behind_change.result in (
             found_goes_on f h l g k a b (trees_of c.undeclare-gone.new.list) c.undeclare-gone.result r.doubt r.from (subst (λ it. IsFoundAt f 2 it a b) c.in-Some.is (c.in_ok-change.ensures.made f t q)) c.undeclare-gone.ensures.place c.behind_change.ensures.goes_on,
-            way_goes_on h 2 c.change_from.new.way c.keep_way.new.way k c.undeclare-gone.result r.from b (trees_of c.undeclare-gone.new.list) c.undeclare-gone.ensures.place c.behind_change.ensures.way c.keep_way.ensures
-                (c.in_ok-change.ensures.way (g, k) c.in-Some.is f h t l q),
+            way_goes_on c.change_from.new.sure h 2 c.change_from.new.way c.keep_way.new.way k c.undeclare-gone.result r.from b (trees_of c.undeclare-gone.new.list) c.undeclare-gone.ensures.place c.behind_change.ensures.way c.keep_way.ensures
+                (c.in_ok-change.ensures.way (g, k) c.in-Some.is f h t l (ap (counts_of h) (one_slot g x e) ∙ z) q),
           );
     }
 

@@ -1,5 +1,5 @@
 use Rattle.std.proofs.Common.{refl}
-use Rattle.tidy_renumber.specs.Numbers.{number}
+use Rattle.tidy_slots.specs.Numbers.{number}
 use Rattle.break_recovery.proofs.functions.number_again.Goals as goal
 
 pub returns : goal.returns

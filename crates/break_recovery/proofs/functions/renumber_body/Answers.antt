@@ -1,7 +1,7 @@
 use Rattle.std.proofs.Common.{Some, option_map, sym, ap, ◌∙◌}
 use Rattle.c_tree.specs.Trees.{trees_of}
 use Rattle.tidy_laws.specs.Renamed.{renamed_list}
-use Rattle.tidy_renumber.specs.Numbers.{number}
+use Rattle.tidy_slots.specs.Numbers.{number}
 use Rattle.break_recovery.proofs.functions.renumber_body.Goals as goal
 
 pub returns-in-Some : goal.returns-in-Some

@@ -1,17 +1,33 @@
 use mathlib.Core.Path.{fun_ext}
-use Rattle.std.proofs.Common.{take, drop, Some, ap, ◌∙◌}
+use Rattle.std.proofs.Common.{take, drop, Some, get_or, ap, sym, subst, ◌≡◌, ◌∙◌}
 use Rattle.c_tree.specs.Trees.{trees_of, join}
+use Rattle.c_tree.specs.Views.{tree_at}
 use Rattle.tidy_loops.specs.Slots.{count_in}
-use Rattle.tidy_search.specs.Next.{changed_to}
+use Rattle.break_recovery.specs.Next.{changed_to}
+use Rattle.break_recovery.specs.Steady.{item_is_steady, AreAlike}
+use Rattle.break_recovery.proofs.Likeness.{here_alike, said_here}
+use Rattle.break_recovery.proofs.Outermost.{some_none}
 use Rattle.break_recovery.proofs.Loops.{here_changed, here_none}
 use Rattle.break_recovery.proofs.here.change_here.Goals as goal
 
-pub returns-in_ok-make-in-Some-clause-made : goal.returns-in_ok-make-in-Some-clause-made
-returns-in_ok-make-in-Some-clause-made c =
+pub returns-in_ok-make-in-Some : goal.returns-in_ok-make-in-Some
+returns-in_ok-make-in-Some c =
     let xs = c.args.list.now in
     let at = c.args.at in
-    let b = trees_of c.make.new.list in
-    λ f h. ap (λ g. changed_to (Some g) b) c.slot_of.ensures ∙ here_changed f c.args.level (trees_of (drop at xs)) (join (trees_of (take at xs))) (count_in c.args.counts.now) (fun_ext h) _ c.in_ok-change.ensures c.in-Some.change b c.in-Some.is c.in_ok-make-in-Some.ensures
+    let ys = c.make.new.list in
+    let r = c.in-Some.change in
+    let g = c.slot_of-slot.result in
+    let x = c.index-as_slice-at.result in
+    let e : x ≡ get_or xs at x = c.index-as_slice-at.is ∙ ap (λ z. get_or z at x) c.as_slice.ensures.value in
+    record {
+      made = λ f h. ap (λ g. changed_to (Some g) (trees_of ys)) c.slot_of-slot.ensures
+          ∙ here_changed f c.args.level (trees_of (drop at xs)) (join (trees_of (take at xs))) (count_in c.args.counts.now) (fun_ext h) _ c.in_ok-change.ensures r (trees_of ys) c.in-Some.is c.in_ok-make-in-Some.ensures;
+      kept = λ e. some_none g e;
+      alike = said_here g c.item_is_steady-steady.result (λ g. AreAlike g (trees_of xs) (trees_of ys))
+          (λ i. subst (λ g. AreAlike g (trees_of xs) (trees_of ys)) (sym c.slot_of-slot.ensures)
+          (here_alike (count_in c.args.counts.now) c.args.level xs ys at x r c.requires e (sym c.in_ok-change.ensures ∙ c.in-Some.is)
+          (ap (λ g. item_is_steady g (tree_at x)) (sym c.slot_of-slot.ensures) ∙ sym c.item_is_steady-steady.ensures ∙ i) c.in_ok-make-in-Some.ensures));
+    }
 
 pub returns-in-None-clause-made : goal.returns-in-None-clause-made
 returns-in-None-clause-made c =

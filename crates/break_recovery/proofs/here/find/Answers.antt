@@ -1,7 +1,7 @@
 use Rattle.std.proofs.Common.{◌≡◌, ◌+◌, drop, get_or, ap, ◌∙◌}
 use Rattle.c_tree.specs.Trees.{trees_of}
 use Rattle.c_tree.specs.Views.{tree_at}
-use Rattle.tidy_tails.proofs.Counted.{if_ok_more}
+use Rattle.tidy_loops.proofs.Counted.{if_ok_more}
 use Rattle.tidy_loops.specs.Slots.{count_in}
 use Rattle.break_recovery.specs.Loops.{change_there}
 use Rattle.break_recovery.proofs.Loops.{before_rest}

@@ -1,5 +1,5 @@
 use Rattle.std.proofs.Common.{sym, subst}
-use Rattle.tidy_search.specs.Ways.{KeepsWay}
+use Rattle.break_recovery.specs.Ways.{KeepsWay}
 use Rattle.break_recovery.proofs.places.behind_change.Goals as goal
 
 pub returns-in-Some-clause-way : goal.returns-in-Some-clause-way

@@ -1,5 +1,5 @@
 use Rattle.c_tree.specs.Trees.{trees_of}
-use Rattle.tidy_tails.proofs.Counted.{if_ok_more}
+use Rattle.tidy_loops.proofs.Counted.{if_ok_more}
 use Rattle.break_recovery.proofs.Outermost.{no_doubt}
 use Rattle.break_recovery.proofs.places.change_from.Goals as goal
 
@@ -14,6 +14,6 @@ returns c =
           c.change_behind.ensures.made;
       kept = c.change_behind.ensures.kept;
       way = if_ok_more c.change_behind.result _ _
-          (λ it k x e f h d l q. k x e f h d l (no_doubt f c.args.level s.doubt s.from a o q.0, q.1))
+          (λ it k x e f h d l z q. k x e f h d l z (no_doubt f c.args.level s.doubt s.from a o q.0, q.1))
           c.change_behind.ensures.way;
     }

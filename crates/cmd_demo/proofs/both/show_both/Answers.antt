@@ -2,7 +2,7 @@ use Rattle.std.proofs.Common.{rules}
 use Rattle.std.specs.Int.{w128}
 use Rattle.std.proofs.lemmas.Int.{to_z-of_z}
 use Rattle.std.proofs.lemmas.Result.{err_from_is_err_and}
-use Rattle.cmd_run_text.proofs.Mains.{enters}
+use Rattle.cmd_run.proofs.Mains.{enters}
 use Rattle.move_driver.specs.Text.{output}
 use Rattle.cmd_demo.proofs.Alike.{steps_are}
 use Rattle.cmd_demo.proofs.BothRuns.{both, result_enters, source_stops, result_stops, both_end}

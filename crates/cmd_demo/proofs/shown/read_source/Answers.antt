@@ -1,6 +1,6 @@
 use Rattle.std.proofs.Common.{codes}
 use Rattle.cmd_words.specs.Lines.{Tells}
-use Rattle.cmd_run_text.proofs.Mains.{enters}
+use Rattle.cmd_run.proofs.Mains.{enters}
 use Rattle.cmd_demo.proofs.Unfit.{blocked_unfit, unread_unfit}
 use Rattle.cmd_demo.proofs.shown.read_source.Goals as goal
 

@@ -1,5 +1,5 @@
 use Rattle.std.proofs.Common.{subst}
-use Rattle.replay_places.specs.Places.{Finds}
+use Rattle.replay_moves.specs.Places.{Finds}
 use Rattle.replay_moves.proofs.Placing.{finds_moved}
 use Rattle.replay_laws.specs.Lawful.{none}
 use Rattle.replay_moves.proofs.Making.{got, one_more}

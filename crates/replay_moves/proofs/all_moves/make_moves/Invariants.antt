@@ -1,7 +1,7 @@
 use Rattle.std.proofs.Common.{All, take}
 use Rattle.replay_laws.specs.Lawful.{Moves}
 use Rattle.replay_laws.specs.Replayed.{IsTopWellMade}
-use Rattle.replay_places.specs.Places.{Finds}
+use Rattle.replay_moves.specs.Places.{Finds}
 use Rattle.replay_moves.specs.Steps.{IsLeaplessAt}
 use Rattle.replay_moves.proofs.all_moves.make_moves.Given as goal
 

@@ -2,7 +2,7 @@ use Rattle.std.proofs.Common.{Some, None, sym, ap, ◌∙◌, subst}
 use Rattle.c_types.specs.declared.trap.Trap.{Trap}
 use Rattle.rg_ports.specs.Written.{more}
 use Rattle.jump_meaning.specs.Code.{code_of}
-use Rattle.step_library.specs.Shown.{bytes_in}
+use Rattle.step_interp.specs.Shown.{bytes_in}
 use Rattle.step_interp.specs.Answers.{beginning}
 use Rattle.step_interp.specs.Started.{StartsAs}
 use Rattle.step_interp.proofs.StartLemmas.{told_nil, start_quiet, stopped_at_start, trapped_at_start}

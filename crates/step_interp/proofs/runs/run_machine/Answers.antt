@@ -1,7 +1,7 @@
 use Rattle.std.proofs.Common.{◌≡◌, ◌+◌, suc, ℕ, sym, ap, ◌∙◌, subst, arith}
 use Rattle.jump_meaning.specs.Code.{code_of}
 use Rattle.jump_meaning.specs.Step.{step}
-use Rattle.step_machine.specs.Machines.{state_of}
+use Rattle.step_interp.specs.Machines.{state_of}
 use Rattle.step_interp.specs.declared.runs.After.TheVariants as A
 use Rattle.step_interp.specs.Answers.{after}
 use Rattle.step_interp.specs.Followed.{Followed, Follows}

@@ -4,8 +4,8 @@ use Rattle.std.proofs.lemmas.Int.{to_z-of_z}
 use Rattle.rg_ports.specs.Written.{more, FrontWritten}
 use Rattle.jump_meaning.specs.Code.{code_of}
 use Rattle.jump_meaning.specs.Step.{step, HasEnded}
-use Rattle.step_machine.specs.Machines.{IsGiven, state_of}
-use Rattle.step_library.specs.Calls.{QuietlyReaches}
+use Rattle.step_interp.specs.Machines.{IsGiven, state_of}
+use Rattle.step_interp.specs.Calls.{QuietlyReaches}
 use Rattle.step_interp.specs.Steps.{IsReading}
 use Rattle.step_interp.specs.Followed.{IsLast}
 use Rattle.step_interp.proofs.StepLemmas.{went, wrote_byte, wrote_bytes, front_of_byte, front_of_bytes, read_on, read_then, ended, trapped}

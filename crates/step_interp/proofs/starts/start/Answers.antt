@@ -1,7 +1,7 @@
 use Rattle.std.proofs.Common.{◌≡◌, ◌+◌, ◌≤◌, arith}
 use Rattle.jump_meaning.specs.Code.{cells_of, global_cells}
 use Rattle.jump_meaning.specs.World.{most_cells}
-use Rattle.step_machine.proofs.EnterLemmas.{not_over}
+use Rattle.step_interp.proofs.EnterLemmas.{not_over}
 use Rattle.step_interp.proofs.StartLemmas.{begins}
 use Rattle.step_interp.proofs.starts.start.Goals as goal
 

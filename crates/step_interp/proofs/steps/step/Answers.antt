@@ -11,8 +11,8 @@ use Rattle.step_memory.specs.Values.{values_of}
 use Rattle.step_tasks.specs.declared.work.Task.TheVariants.{End}
 use Rattle.step_tasks.specs.Controls.{IsNext}
 use Rattle.step_tasks.specs.Tasks.{task_of, tasks_of}
-use Rattle.step_machine.specs.Machines.{HasWorld, frames_of}
-use Rattle.step_machine.specs.Moves.{Reaches}
+use Rattle.step_interp.specs.Machines.{HasWorld, frames_of}
+use Rattle.step_interp.specs.Moves.{Reaches}
 use Rattle.step_interp.specs.Steps.{Performs, Steps}
 use Rattle.step_interp.proofs.TaskLemmas.{stepped, has_tasks}
 use Rattle.step_interp.proofs.steps.step.Goals as goal

@@ -1,6 +1,6 @@
 use Rattle.std.proofs.Common.{cond, Some, None, sym, ap, ◌∙◌}
 use Rattle.c_tree.specs.Trees.{trees_of}
-use Rattle.tidy_tails.proofs.FormLaws.{test_same}
+use Rattle.tidy_loops.proofs.FormLaws.{test_same}
 use Rattle.tidy_loops.specs.Slots.{count_in, allowed, breaks, stop_slot}
 use Rattle.tidy_loops.proofs.allowing.break_in.Goals as goal
 

@@ -1,7 +1,7 @@
 use Rattle.std.proofs.Common.{OnOk, sym, subst}
-use Rattle.tidy_counts.specs.Counts.{list_count}
-use Rattle.tidy_counts.specs.Added.{Adds}
-use Rattle.tidy_counts.proofs.AddedLemmas.{none_added}
+use Rattle.tidy_slots.specs.Counts.{list_count}
+use Rattle.tidy_slots.specs.Added.{Adds}
+use Rattle.tidy_slots.proofs.AddedLemmas.{none_added}
 use Rattle.tidy_loops.specs.Slots.{items_in}
 use Rattle.tidy_loops.proofs.counts.count_body.Goals as goal
 

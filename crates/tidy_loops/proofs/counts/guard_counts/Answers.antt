@@ -1,4 +1,4 @@
-use Rattle.std.proofs.Common.{◌≡◌, cond, ◌&&◌, length, replicate, sym, ap, ◌∙◌, arith}
+use Rattle.std.proofs.Common.{◌≡◌, cond, ◌&&◌, length, replicate, ap, ◌∙◌, arith}
 use Rattle.jump_meaning.specs.Code.{function_tree}
 use Rattle.tidy_laws.specs.Changes.{declares}
 use Rattle.tidy_loops.specs.Slots.{is_free, count_in, items_in}

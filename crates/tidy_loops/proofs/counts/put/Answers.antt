@@ -1,4 +1,4 @@
-use Rattle.std.proofs.Common.{cond, eqb, refl, sym, ap, ◌∙◌, arith, length}
+use Rattle.std.proofs.Common.{refl, ap, ◌∙◌, arith, length}
 use Rattle.std.proofs.lemmas.List.{length-set}
 use Rattle.tidy_loops.specs.Slots.{count_in}
 use Rattle.tidy_loops.proofs.Kept.{put_at, put_past}

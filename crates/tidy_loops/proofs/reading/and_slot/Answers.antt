@@ -1,7 +1,7 @@
 use Rattle.std.proofs.Common.{sym, ap, ◌∙◌}
 use Rattle.c_tree.specs.ExpressionTrees.{expression_tree}
-use Rattle.tidy_tails.specs.Views.{off_slot}
-use Rattle.tidy_tails.proofs.FormLaws.{expression_same}
+use Rattle.tidy_loops.specs.Views.{off_slot}
+use Rattle.tidy_loops.proofs.FormLaws.{expression_same}
 use Rattle.tidy_loops.specs.Slots.{and_slot}
 use Rattle.tidy_loops.proofs.reading.and_slot.Goals as goal
 

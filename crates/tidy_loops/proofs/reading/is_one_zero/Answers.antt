@@ -1,6 +1,6 @@
 use Rattle.std.proofs.Common.{sym, ap, ◌∙◌}
 use Rattle.tidy_laws.specs.Changes.{is_number}
-use Rattle.tidy_tails.proofs.FormLaws.{expression_same}
+use Rattle.tidy_loops.proofs.FormLaws.{expression_same}
 use Rattle.tidy_loops.proofs.Read.{one_zero}
 use Rattle.tidy_loops.proofs.reading.is_one_zero.Goals as goal
 

@@ -1,8 +1,8 @@
 use Rattle.std.proofs.Common.{◌&&◌, cond, None, sym, ap, ◌∙◌}
 use Rattle.c_tree.specs.ExpressionTrees.{expression_tree, place_tree}
 use Rattle.tidy_laws.specs.Changes.{is_number}
-use Rattle.tidy_tails.specs.Views.{place_slot}
-use Rattle.tidy_tails.proofs.FormLaws.{expression_same}
+use Rattle.tidy_loops.specs.Views.{place_slot}
+use Rattle.tidy_loops.proofs.FormLaws.{expression_same}
 use Rattle.tidy_loops.proofs.reading.reset_of.Goals as goal
 
 pub returns-then-not-is_int : goal.returns-then-not-is_int

@@ -1,7 +1,7 @@
 use Rattle.std.proofs.Common.{sym, ap, ◌∙◌}
 use Rattle.c_tree.specs.Views.{tree_at}
 use Rattle.c_tree.proofs.Views.{at-Evaluate}
-use Rattle.tidy_tails.proofs.FormLaws.{expression_same}
+use Rattle.tidy_loops.proofs.FormLaws.{expression_same}
 use Rattle.tidy_loops.specs.Slots.{reset_in, reset_slot}
 use Rattle.tidy_loops.proofs.reading.reset_slot.Goals as goal
 

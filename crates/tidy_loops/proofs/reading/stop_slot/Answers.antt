@@ -1,7 +1,7 @@
 use Rattle.std.proofs.Common.{sym, ap, ◌∙◌}
 use Rattle.c_tree.specs.TestTrees.{Source}
-use Rattle.tidy_tails.specs.Views.{test_at}
-use Rattle.tidy_tails.proofs.FormLaws.{expression_same}
+use Rattle.tidy_loops.specs.Views.{test_at}
+use Rattle.tidy_loops.proofs.FormLaws.{expression_same}
 use Rattle.tidy_loops.specs.Slots.{stop_slot}
 use Rattle.tidy_loops.proofs.Read.{at_source}
 use Rattle.tidy_loops.proofs.reading.stop_slot.Goals as goal

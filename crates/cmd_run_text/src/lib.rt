@@ -1,6 +1,0 @@
-//! Runs the programs that texts of C read as.
-#![tactic(auto)]
-
-mod reader;
-
-pub use reader::TextReader;

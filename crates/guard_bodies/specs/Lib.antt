@@ -1,3 +1,0 @@
-pub mod Simplified
-pub mod Places
-pub mod Lawful

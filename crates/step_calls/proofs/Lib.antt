@@ -1,3 +1,0 @@
-pub mod UnsignedLemmas
-pub mod SlotLemmas
-pub mod FunctionLemmas

@@ -1,7 +1,0 @@
-use Rattle.std.proofs.Common.{◌≡◌, drop}
-use Rattle.jump_meaning.specs.Code.{function_in}
-use Rattle.step_calls.specs.Lookups.{wanted}
-use Rattle.step_calls.proofs.lookup.function_in.Given as goal
-
-abbrev pub invariant-loop-top : goal.invariant-loop-top
-invariant-loop-top l = function_in (wanted l.defined) l.name (drop l.top-index l.tops) ≡ function_in (wanted l.defined) l.name l.tops

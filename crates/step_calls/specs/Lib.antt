@@ -1,4 +1,0 @@
-pub mod Lookups
-pub mod Functions
-pub mod Numbers
-pub mod Readings

@@ -1,3 +1,0 @@
-pub mod SettledLemmas
-pub mod NameLemmas
-pub mod InvokeLemmas

@@ -1,4 +1,0 @@
-pub mod RunLemmas
-pub mod FormLemmas
-pub mod ReadLemmas
-pub mod StoredLemmas

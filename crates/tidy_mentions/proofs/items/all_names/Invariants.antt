@@ -1,6 +1,0 @@
-use Rattle.std.proofs.Common.{◌≡◌, drop}
-use Rattle.tidy_mentions.proofs.NamingLaws.{some_named}
-use Rattle.tidy_mentions.proofs.items.all_names.Given as goal
-
-abbrev pub invariant-loop-i : goal.invariant-loop-i
-invariant-loop-i l = some_named l.slot l.items ≡ some_named l.slot (drop l.i l.items)

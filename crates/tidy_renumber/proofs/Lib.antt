@@ -1,4 +1,0 @@
-pub mod RemovalLaws
-pub mod ItemRemovals
-pub mod LoopLaws
-pub mod NumberLaws

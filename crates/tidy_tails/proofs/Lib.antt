@@ -1,4 +1,0 @@
-pub mod FormLaws
-pub mod Gone
-pub mod Counted
-pub mod Made
