@@ -1,7 +1,7 @@
 -- The item of a construct, from what was read of its parts.
 use Rattle.std.proofs.Common.{◌≡◌, ◌∙◌, false, List, [], ◌∷◌, ◌++◌, Option, option_map, ap}
-use Rattle.c_layers.specs.Terms.{Term}
-use Rattle.c_layers.specs.Items.{Start, Body, If, While, For, Switch}
+use Rattle.c_grammar.specs.Terms.{Term}
+use Rattle.c_grammar.specs.Items.{Start, Body, If, While, For, Switch}
 use Rattle.c_statements.specs.Context.{Context, Walk, env_at, enter}
 use Rattle.c_statements.specs.Declarations.{value_at}
 use Rattle.c_statements.specs.Sections.{passed_on}

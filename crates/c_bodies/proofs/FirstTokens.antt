@@ -1,7 +1,7 @@
 -- The first tokens of items, by their first label.
 use Rattle.std.proofs.Common.{◌≡◌, ℕ, List, [], ◌∷◌, not, ◌||◌, Some, None, is_some, refl}
 use Rattle.c_bodies.specs.Steps.{first_of}
-use Rattle.c_layers.specs.Items.{Label, Plain, plain_first, stated_first}
+use Rattle.c_grammar.specs.Items.{Label, Plain, plain_first, stated_first}
 use Rattle.c_statements.specs.Violations.{is_null}
 
 pub first_some : (ls : List Label) (p : Plain) (n : ℕ) → first_of ls ≡ Some n → stated_first ls p ≡ n

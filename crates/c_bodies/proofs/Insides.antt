@@ -1,10 +1,10 @@
 -- The lists in a statement have fewer nodes than it.
 use Rattle.std.proofs.Common.{◌<◌, ◌+◌, ◌-◌, ℕ, arith}
 use Rattle.c_grammar.specs.declared.syntax.Syntax.{Syntax}
-use Rattle.c_layers.specs.ItemViews.{StatementIsSmaller}
+use Rattle.c_grammar.specs.ItemViews.{StatementIsSmaller}
 use Rattle.c_grammar.specs.Weights.{weight, weights}
-use Rattle.c_layers.specs.declared.statements.StatementLayer.{StatementLayer}
-use Rattle.c_layers.specs.declared.statements.StatementLayer.TheVariants as S
+use Rattle.c_grammar.specs.declared.statements.StatementLayer.{StatementLayer}
+use Rattle.c_grammar.specs.declared.statements.StatementLayer.TheVariants as S
 use Rattle.c_grammar.specs.Weighed.{open_weight}
 
 -- the nodes of what is walked in it

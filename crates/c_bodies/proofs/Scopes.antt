@@ -3,7 +3,7 @@ use Rattle.std.proofs.Common.{◌≡◌, ◌∙◌, ℕ, List, [], ◌∷◌, dr
 use Rattle.c_bodies.specs.Views.{left}
 use Rattle.c_kinds.specs.Scopes.{Scope, bind}
 use Rattle.c_kinds.specs.declared.binding.Binding.{Binding}
-use Rattle.c_layers.specs.Items.{Declarator, Start, NoStart, StartValue, StartNames, Item, Declares, States, From, Statement, Null, Evaluate, If, IfElse, While, DoWhile, For, Switch, Block, Goto, Break, Continue, Return, Unread, Body, Braces, Lone, Items, NoItem, Then}
+use Rattle.c_grammar.specs.Items.{Declarator, Start, NoStart, StartValue, StartNames, Item, Declares, States, From, Statement, Null, Evaluate, If, IfElse, While, DoWhile, For, Switch, Block, Goto, Break, Continue, Return, Unread, Body, Braces, Lone, Items, NoItem, Then}
 use Rattle.c_statements.specs.declared.extents.Kinded.{Kinded}
 use Rattle.c_statements.specs.Context.{Context, Walk, enter, leave, env_at}
 use Rattle.c_statements.specs.Declarations.{declared, all_declared}

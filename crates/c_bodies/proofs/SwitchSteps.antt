@@ -4,9 +4,9 @@ use Rattle.std.proofs.lemmas.List.{append-nil}
 use Rattle.c_bodies.specs.declared.reading.Reading as declared
 use Rattle.c_bodies.specs.Steps.{begins, reading_of, closed_now, closed_before, reading_behind, outside_of, outside_behind, sections_behind, section_item_faults, section_faults, is_outside, is_element, with_node}
 use Rattle.c_kinds.specs.Scopes.{Faults, fault_if}
-use Rattle.c_layers.specs.Terms.{Term}
-use Rattle.c_layers.specs.Items.{Body, IfElse, Label, Plain, Item, Declares, States, Items, NoItem, Then, item_first, stated_first}
-use Rattle.c_layers.proofs.Layers.{weight-at}
+use Rattle.c_grammar.specs.Terms.{Term}
+use Rattle.c_grammar.specs.Items.{Body, IfElse, Label, Plain, Item, Declares, States, Items, NoItem, Then, item_first, stated_first}
+use Rattle.c_grammar.proofs.Layers.{weight-at}
 use Rattle.c_statements.specs.Context.{Context, Walk, Around, env_at}
 use Rattle.c_statements.specs.Declarations.{value_at}
 use Rattle.c_statements.specs.Labels.{has_case, labels_faults}
@@ -14,8 +14,8 @@ use Rattle.c_statements.specs.Sections.{Reading, extended, closed, front}
 use Rattle.c_statements.specs.Statements.{body_items, behind_body, statement_items, begun, plain_items, item_items, behind_item, behind_plain, sections_from, sections_at, sections_of, outside_item, outside_items}
 use Rattle.c_statements.specs.Violations.{is_null, plain_faults, item_faults, list_faults, outside_faults, outside_fault}
 use Rattle.c_grammar.specs.declared.syntax.Syntax.{Syntax, out-Syntax}
-use Rattle.c_layers.specs.ItemViews.{item_of}
-use Rattle.c_layers.specs.Parts.{is_token}
+use Rattle.c_grammar.specs.ItemViews.{item_of}
+use Rattle.c_grammar.specs.Parts.{is_token}
 use Rattle.c_statements.specs.Nodes.{items_of}
 use Rattle.std.specs.declared.result.Result.{Result}
 use Rattle.std.specs.Prelude.{Ok, Err, OnOk}

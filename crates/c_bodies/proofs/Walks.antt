@@ -4,11 +4,11 @@ use Rattle.std.proofs.lemmas.List.{append-nil}
 use Rattle.c_grammar.specs.declared.syntax.Syntax.{Syntax}
 use Rattle.c_bodies.specs.Steps.{first_of}
 use Rattle.c_kinds.specs.Scopes.{Env, Faults, or_else}
-use Rattle.c_layers.specs.Items.{Label}
-use Rattle.c_layers.specs.Items as items
-use Rattle.c_layers.proofs.Layers.{weight-at}
+use Rattle.c_grammar.specs.Items.{Label}
+use Rattle.c_grammar.specs.Items as items
+use Rattle.c_grammar.proofs.Layers.{weight-at}
 use Rattle.c_statements.proofs.Lists.{items-token, items-item}
-use Rattle.c_layers.specs.ItemViews.{label_of, labels_of}
+use Rattle.c_grammar.specs.ItemViews.{label_of, labels_of}
 use Rattle.c_statements.specs.declared.entries.Entry.{Entry}
 use Rattle.c_statements.specs.Cases.{label_entries}
 use Rattle.c_statements.specs.Context.{Context}

@@ -2,10 +2,10 @@
 use Rattle.std.specs.Prelude.{ℕ, Bool, true, false, cond, not, ◌&&◌, ◌||◌, List, [], ◌∷◌, ◌++◌, Option, Some, None}
 use Rattle.c_bodies.specs.declared.reading.Reading as declared
 use Rattle.c_grammar.specs.declared.syntax.Syntax.{Syntax, out-Syntax}
-use Rattle.c_layers.specs.ItemViews.{item_of}
-use Rattle.c_layers.specs.Parts.{is_token}
+use Rattle.c_grammar.specs.ItemViews.{item_of}
+use Rattle.c_grammar.specs.Parts.{is_token}
 use Rattle.c_kinds.specs.Scopes.{Faults, fault_if}
-use Rattle.c_layers.specs.Items.{Label, label_first, Item, Declares, States, Items, Then, item_first}
+use Rattle.c_grammar.specs.Items.{Label, label_first, Item, Declares, States, Items, Then, item_first}
 use Rattle.c_statements.specs.Context.{Context, Walk, Around, env_at}
 use Rattle.c_statements.specs.Labels.{has_case}
 use Rattle.c_statements.specs.Sections.{Reading, extended, closed, front}

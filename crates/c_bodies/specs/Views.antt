@@ -4,7 +4,7 @@ use Rattle.c_bodies.specs.declared.state.FunctionContext.{FunctionContext}
 use Rattle.c_bodies.specs.declared.state.State.{State}
 use Rattle.c_bodies.specs.declared.state.Around as declared
 use Rattle.c_kinds.specs.Scopes.{Env}
-use Rattle.c_layers.specs.Views.{words_of}
+use Rattle.c_grammar.specs.Views.{words_of}
 use Rattle.c_statements.specs.Context.{Context, Walk, Around, env_at}
 use Rattle.c_statements.specs.NoteViews.{notes_of}
 

@@ -3,15 +3,16 @@
 ghost use Rattle.std.specs.Prelude.{◌≡◌, []};
 ghost use Rattle.c_bodies.specs.Steps as steps;
 ghost use Rattle.c_grammar.specs.declared.syntax.Syntax.{out-Syntax};
-ghost use Rattle.c_layers.specs.ItemViews.{item_of, plain_of};
-ghost use Rattle.c_layers.specs.Items as items;
-ghost use Rattle.c_layers.specs.Parts.{is_token as the_token};
-ghost use Rattle.c_layers.specs.Views.{words_of};
+ghost use Rattle.c_grammar.specs.ItemViews.{item_of, plain_of};
+ghost use Rattle.c_grammar.specs.Items as items;
+ghost use Rattle.c_grammar.specs.Parts.{is_token as the_token};
+ghost use Rattle.c_grammar.specs.Views.{words_of};
 ghost use Rattle.c_statements.specs.Violations.{is_null as the_null};
 
 use crate::labels::{first_label, has_case};
-use c_grammar::{Production, SyntaxNode};
-use c_layers::{ItemLayer, StatementLayer, Words, item_layer, statement_layer};
+use c_grammar::{
+    ItemLayer, Production, StatementLayer, SyntaxNode, Words, item_layer, statement_layer,
+};
 
 fn begins(words: &Words, x: &SyntaxNode) -> bool
     ensures { result ≡ steps.begins (item_of (words_of words.now) x.now) }

@@ -2,17 +2,16 @@
 
 ghost use Rattle.std.specs.Prelude.{◌≡◌, ◌++◌, [], IfOk, OnOk};
 ghost use Rattle.c_bodies.specs.Views as views;
-ghost use Rattle.c_layers.specs.Items as items;
-ghost use Rattle.c_layers.specs.ItemViews.{body_form, item_of};
-ghost use Rattle.c_layers.specs.Views.{words_of};
+ghost use Rattle.c_grammar.specs.Items as items;
+ghost use Rattle.c_grammar.specs.ItemViews.{body_form, item_of};
+ghost use Rattle.c_grammar.specs.Views.{words_of};
 ghost use Rattle.c_statements.specs.Functions as spec;
 ghost use Rattle.c_statements.specs.Nodes.{items_of};
 
 use crate::notes::add_notes;
 use crate::state::{Around, FunctionContext, State, put_cases, set_words, take_cases};
 use crate::walk::{add_item, add_list};
-use c_grammar::SyntaxNode;
-use c_layers::BodyLayer;
+use c_grammar::{BodyLayer, SyntaxNode};
 use c_statements::Anchor;
 use c_tree::Item;
 use c_types::{List, Memory};

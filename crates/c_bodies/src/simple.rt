@@ -2,10 +2,10 @@
 
 ghost use Rattle.std.specs.Prelude.{◌≡◌, ◌++◌, ◌∷◌, [], Some, None, option_map, IfOk, OnOk};
 ghost use Rattle.c_bodies.specs.Views as views;
-ghost use Rattle.c_layers.specs.ItemViews.{start_form};
-ghost use Rattle.c_layers.specs.Items as items;
-ghost use Rattle.c_layers.specs.Parts.{term_of};
-ghost use Rattle.c_layers.specs.Views.{words_of};
+ghost use Rattle.c_grammar.specs.ItemViews.{start_form};
+ghost use Rattle.c_grammar.specs.Items as items;
+ghost use Rattle.c_grammar.specs.Parts.{term_of};
+ghost use Rattle.c_grammar.specs.Views.{words_of};
 ghost use Rattle.c_statements.specs.Context as context;
 ghost use Rattle.c_statements.specs.Declarations as declarations;
 ghost use Rattle.c_statements.specs.Statements as spec;
@@ -14,8 +14,7 @@ ghost use Rattle.c_statements.specs.Violations as violations;
 use crate::items::Heads;
 use crate::state::{Around, FunctionContext, State, enter, report_at};
 use crate::values::{add_variables, dropped, optional_dropped, optional_used, returned};
-use c_grammar::SyntaxNode;
-use c_layers::StartLayer;
+use c_grammar::{StartLayer, SyntaxNode};
 use c_tree::Item;
 use c_types::{List, Memory};
 use std::alloc::Global;

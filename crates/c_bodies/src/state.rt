@@ -6,8 +6,8 @@ ghost use Rattle.c_bodies.specs.Views as views;
 ghost use Rattle.c_statements.specs.Cases.{switch_faults};
 ghost use Rattle.c_statements.specs.Context as spec;
 
+use c_grammar::Words;
 use c_kinds::{Fault, Known, report_if};
-use c_layers::Words;
 use c_statements::{Entry, LabelNumbers, Notes, report_cases};
 use c_tree::Slot;
 use c_types::{IntKind, List, Memory, Stack};

@@ -5,10 +5,10 @@ ghost use Rattle.c_bodies.specs.Steps as steps;
 ghost use Rattle.c_bodies.specs.Views as views;
 ghost use Rattle.c_kinds.specs.Typing.{typed};
 ghost use Rattle.c_kinds.specs.Values.{value_of};
-ghost use Rattle.c_layers.specs.ItemViews.{body_of, item_of, labels_of, plain_of, start_form, statement_form};
-ghost use Rattle.c_layers.specs.Items as items;
-ghost use Rattle.c_layers.specs.Parts.{term_of};
-ghost use Rattle.c_layers.specs.Views.{words_of};
+ghost use Rattle.c_grammar.specs.ItemViews.{body_of, item_of, labels_of, plain_of, start_form, statement_form};
+ghost use Rattle.c_grammar.specs.Items as items;
+ghost use Rattle.c_grammar.specs.Parts.{term_of};
+ghost use Rattle.c_grammar.specs.Views.{words_of};
 ghost use Rattle.c_statements.specs.Cases as cases;
 ghost use Rattle.c_statements.specs.Context as context;
 ghost use Rattle.c_statements.specs.Labels as the_labels;
@@ -30,9 +30,9 @@ use crate::state::{
     Around, FunctionContext, State, enter, leave, put_cases, report_at, report_switch, take_cases,
 };
 use crate::values::{add_variables, selector, used};
-use c_grammar::SyntaxNode;
-use c_layers::{
-    BodyLayer, ItemLayer, StartLayer, StatementLayer, body_layer, item_layer, statement_layer,
+use c_grammar::{
+    BodyLayer, ItemLayer, StartLayer, StatementLayer, SyntaxNode, body_layer, item_layer,
+    statement_layer,
 };
 use c_statements::Anchor;
 use c_tree::{Item, Section};

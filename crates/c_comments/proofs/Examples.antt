@@ -1,9 +1,9 @@
 -- A small file's places, by computation.
 use Rattle.std.proofs.Common.{◌≡◌, ℕ, false, List, [], ◌∷◌, Some, None, refl}
-use Rattle.c_layers.specs.Terms.{Term, At, Constant, Variable}
-use Rattle.c_layers.specs.Items.{Case, Default, States, From, Null, Evaluate, Switch, Break, Braces, Then, NoItem}
-use Rattle.c_layers.specs.Tops as tops
-use Rattle.c_layers.specs.Tops.{Top, Defines}
+use Rattle.c_grammar.specs.Terms.{Term, At, Constant, Variable}
+use Rattle.c_grammar.specs.Items.{Case, Default, States, From, Null, Evaluate, Switch, Break, Braces, Then, NoItem}
+use Rattle.c_grammar.specs.Tops as tops
+use Rattle.c_grammar.specs.Tops.{Top, Defines}
 use Rattle.c_statements.specs.declared.anchors.Anchor.TheVariants.{Before, AtEnd, AtSection, Last}
 use Rattle.c_comments.specs.Notes.{place_in}
 

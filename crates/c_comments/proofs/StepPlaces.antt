@@ -3,14 +3,14 @@ use Rattle.std.proofs.Common.{◌≡◌, ◌<◌, ◌≤◌, ◌+◌, ◌&&◌, 
 use Rattle.std.proofs.lemmas.Bool.{lt-ltb, le-ltb, le-leb, lt-leb, ltb-true, ltb-false, false≢true}
 use Rattle.std.proofs.lemmas.List.{drop_all}
 use Rattle.c_grammar.specs.declared.syntax.Syntax.{Syntax, out-Syntax}
-use Rattle.c_layers.specs.Items.{Label, Named, Case, Default, Item, States, Plain, From, Statement, Items, Then, Body, Braces, Lone, first_label, label_first}
-use Rattle.c_layers.specs.ItemViews.{item_of, labels_of}
-use Rattle.c_layers.specs.Parts.{is_token}
-use Rattle.c_layers.specs.Tops.{Top}
-use Rattle.c_layers.specs.Tops as tops
-use Rattle.c_layers.specs.TopViews.{top_of}
+use Rattle.c_grammar.specs.Items.{Label, Named, Case, Default, Item, States, Plain, From, Statement, Items, Then, Body, Braces, Lone, first_label, label_first}
+use Rattle.c_grammar.specs.ItemViews.{item_of, labels_of}
+use Rattle.c_grammar.specs.Parts.{is_token}
+use Rattle.c_grammar.specs.Tops.{Top}
+use Rattle.c_grammar.specs.Tops as tops
+use Rattle.c_grammar.specs.TopViews.{top_of}
 use Rattle.c_grammar.specs.Weights.{weight, weights}
-use Rattle.c_layers.proofs.Layers.{weight-at}
+use Rattle.c_grammar.proofs.Layers.{weight-at}
 use Rattle.c_statements.specs.declared.anchors.Anchor.{Anchor}
 use Rattle.c_statements.specs.declared.anchors.Anchor.TheVariants.{Before, AtEnd}
 use Rattle.c_statements.specs.Labels.{has_case}

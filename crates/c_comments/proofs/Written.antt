@@ -2,11 +2,11 @@
 use Rattle.std.proofs.Common.{◌≡◌, ◌&&◌, ◌||◌, not, ℕ, Bool, List, [], ◌∷◌, Option, Some, None, is_some, refl, ap}
 use Rattle.std.specs.List.{list_any}
 use Rattle.c_grammar.specs.declared.syntax.Syntax.{Syntax, out-Syntax}
-use Rattle.c_layers.specs.Items.{Label, Plain}
-use Rattle.c_layers.specs.ItemViews.{label_of, labels_of, plain_of}
-use Rattle.c_layers.specs.TopViews.{top_of}
-use Rattle.c_layers.proofs.FileScope.{open_top}
-use Rattle.c_layers.proofs.Items.{open_plain}
+use Rattle.c_grammar.specs.Items.{Label, Plain}
+use Rattle.c_grammar.specs.ItemViews.{label_of, labels_of, plain_of}
+use Rattle.c_grammar.specs.TopViews.{top_of}
+use Rattle.c_grammar.proofs.FileScope.{open_top}
+use Rattle.c_grammar.proofs.Items.{open_plain}
 use Rattle.c_statements.specs.Violations.{is_null}
 use Rattle.c_statements.proofs.Lists.{labels-none, labels-some}
 use Rattle.c_comments.specs.Notes.{plain_after, top_after}

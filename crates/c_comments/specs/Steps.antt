@@ -1,7 +1,7 @@
 -- What is left of a list, and where a token in it leads.
 use Rattle.std.specs.Prelude.{◌≡◌, ◌<◌, ◌≤◌, ℕ, true, false, nat_lt, min, suc, List, [], ◌∷◌, Option, Some, None}
-use Rattle.c_layers.specs.Items.{Label, Named, label_first, Body, Braces, Lone}
-use Rattle.c_layers.specs.ItemViews.{labels_of, plain_of}
+use Rattle.c_grammar.specs.Items.{Label, Named, label_first, Body, Braces, Lone}
+use Rattle.c_grammar.specs.ItemViews.{labels_of, plain_of}
 use Rattle.c_grammar.specs.Weights.{weight, weights}
 use Rattle.c_statements.specs.declared.anchors.Anchor.{Anchor}
 use Rattle.c_statements.specs.declared.anchors.Anchor.TheVariants.{Before}

@@ -1,17 +1,16 @@
 //! Where a token leads at file scope.
 
 ghost use Rattle.std.specs.Prelude.{◌≡◌};
-ghost use Rattle.c_layers.specs.TopViews.{top_form, top_of};
-ghost use Rattle.c_layers.specs.declared.tops.TopLayer.TheVariants as layer;
-ghost use Rattle.c_layers.specs.Views.{words_of};
+ghost use Rattle.c_grammar.specs.TopViews.{top_form, top_of};
+ghost use Rattle.c_grammar.specs.declared.tops.TopLayer.TheVariants as layer;
+ghost use Rattle.c_grammar.specs.Views.{words_of};
 ghost use Rattle.c_comments.specs.NodeViews.{tops_in};
 ghost use Rattle.c_comments.specs.Notes as spec;
 ghost use Rattle.c_comments.specs.Steps.{Behind, Leads};
 
 use crate::statements::layer_step;
 use crate::steps::{Step, behind, bounded};
-use c_grammar::SyntaxNode;
-use c_layers::{FunctionLayer, TopLayer, Words, block_layer, top_layer};
+use c_grammar::{FunctionLayer, SyntaxNode, TopLayer, Words, block_layer, top_layer};
 use c_statements::Anchor;
 
 /// What stands at file scope from what holds a token on, and where the token leads.

@@ -2,7 +2,7 @@
 //! led.
 
 ghost use Rattle.std.specs.Prelude.{◌≡◌, ◌<◌, ◌≤◌, ◌∷◌, [], ℕ, All, IfOk, IsTrue, List, OnOk, MatchOption};
-ghost use Rattle.c_layers.specs.Views.{words_of};
+ghost use Rattle.c_grammar.specs.Views.{words_of};
 ghost use Rattle.c_statements.specs.declared.anchors.Anchor.{Anchor};
 ghost use Rattle.c_comments.specs.Frames.{IsWalk, Speaks, holds as holds_at, holding};
 ghost use Rattle.c_comments.specs.NodeViews.{tops_in};
@@ -12,8 +12,7 @@ ghost use Rattle.c_comments.specs.Steps.{rest_place};
 use crate::files::pass_tops;
 use crate::lists::pass;
 use crate::steps::{Rest, Step};
-use c_grammar::SyntaxNode;
-use c_layers::Words;
+use c_grammar::{SyntaxNode, Words};
 use c_statements::Anchor;
 use c_types::{Memory, Stack};
 use std::alloc::Global;

@@ -1,15 +1,14 @@
 //! The labels among the nodes of a statement, and the places of comments in them.
 
 ghost use Rattle.std.specs.Prelude.{◌≡◌, ℕ, List};
-ghost use Rattle.c_layers.specs.ItemViews.{label_form, label_of, labels_of};
-ghost use Rattle.c_layers.specs.Items as items;
-ghost use Rattle.c_layers.specs.Views.{words_of};
+ghost use Rattle.c_grammar.specs.ItemViews.{label_form, label_of, labels_of};
+ghost use Rattle.c_grammar.specs.Items as items;
+ghost use Rattle.c_grammar.specs.Views.{words_of};
 ghost use Rattle.c_statements.specs.Labels as labels;
 ghost use Rattle.c_comments.specs.Notes as spec;
 ghost use Rattle.c_comments.specs.Steps as steps;
 
-use c_grammar::SyntaxNode;
-use c_layers::{LabelLayer, Words, label_layer};
+use c_grammar::{LabelLayer, SyntaxNode, Words, label_layer};
 use c_statements::Anchor;
 
 fn is_case(l: LabelLayer) -> bool

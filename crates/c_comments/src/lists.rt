@@ -1,9 +1,9 @@
 //! What holds a token in what is left of a list.
 
 ghost use Rattle.std.specs.Prelude.{◌≡◌, cond};
-ghost use Rattle.c_layers.specs.ItemViews.{labels_of, plain_of};
+ghost use Rattle.c_grammar.specs.ItemViews.{labels_of, plain_of};
 ghost use Rattle.c_grammar.specs.Weights.{weight, weights};
-ghost use Rattle.c_layers.specs.Views.{words_of};
+ghost use Rattle.c_grammar.specs.Views.{words_of};
 ghost use Rattle.c_statements.specs.Nodes.{items_of};
 ghost use Rattle.c_statements.specs.declared.anchors.Anchor.TheVariants.{AtEnd, Before};
 ghost use Rattle.c_comments.specs.Notes as spec;
@@ -12,8 +12,7 @@ ghost use Rattle.c_comments.specs.Steps.{Behind, IsBelow, Leads, place_in_labels
 use crate::labels::place_in_label;
 use crate::statements::{ends_behind, has_begun, item_after, item_step, member_step, plain_step};
 use crate::steps::{Passed, Rest, Step, behind, bounded};
-use c_grammar::SyntaxNode;
-use c_layers::Words;
+use c_grammar::{SyntaxNode, Words};
 use c_statements::Anchor;
 
 /// Passes the items in front of a token.

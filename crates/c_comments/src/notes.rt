@@ -2,7 +2,7 @@
 
 ghost use Rattle.std.specs.Prelude.{◌≡◌, ◌≤◌, ◌+◌, [], All, drop, length, IfOk, OnOk};
 ghost use Rattle.c_lexer.specs.Pieces.{IsWithin};
-ghost use Rattle.c_layers.specs.Views.{words_of};
+ghost use Rattle.c_grammar.specs.Views.{words_of};
 ghost use Rattle.c_statements.specs.Context.{with_note};
 ghost use Rattle.c_statements.specs.NoteViews as views;
 ghost use Rattle.c_comments.specs.Frames.{IsWalk};
@@ -10,8 +10,7 @@ ghost use Rattle.c_comments.specs.NodeViews.{tops_in};
 ghost use Rattle.c_comments.specs.Notes as spec;
 
 use crate::frames::{Walk, place};
-use c_grammar::SyntaxNode;
-use c_layers::Words;
+use c_grammar::{SyntaxNode, Words};
 use c_lexer::{Span, Token};
 use c_statements::Notes;
 use c_types::Memory;

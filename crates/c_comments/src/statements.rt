@@ -2,11 +2,11 @@
 
 ghost use Rattle.std.specs.Prelude.{◌≡◌, ◌||◌, ◌&&◌, not, nat_lt, ◌+◌, ◌≤◌, ℕ, List, []};
 ghost use Rattle.c_grammar.specs.declared.syntax.Syntax.{out-Syntax};
-ghost use Rattle.c_layers.specs.Items.{Braces, Lone};
-ghost use Rattle.c_layers.specs.ItemViews.{BodyIsSmaller, body_form, body_of, item_of, labels_of, plain_of};
-ghost use Rattle.c_layers.specs.Parts as parts;
+ghost use Rattle.c_grammar.specs.Items.{Braces, Lone};
+ghost use Rattle.c_grammar.specs.ItemViews.{BodyIsSmaller, body_form, body_of, item_of, labels_of, plain_of};
+ghost use Rattle.c_grammar.specs.Parts as parts;
 ghost use Rattle.c_grammar.specs.Weights.{weight, weights};
-ghost use Rattle.c_layers.specs.Views.{words_of};
+ghost use Rattle.c_grammar.specs.Views.{words_of};
 ghost use Rattle.c_statements.specs.Nodes.{items_of};
 ghost use Rattle.c_statements.specs.Violations as violations;
 ghost use Rattle.c_comments.specs.Notes as spec;
@@ -14,9 +14,9 @@ ghost use Rattle.c_comments.specs.Steps.{Behind, IsBelow, Leads, body_ahead as a
 
 use crate::labels::{case_place, first_label, has_case};
 use crate::steps::{Rest, Step, bounded};
-use c_grammar::SyntaxNode;
-use c_layers::{
-    BodyLayer, ItemLayer, StatementLayer, Words, body_layer, has_label, item_layer, statement_layer,
+use c_grammar::{
+    BodyLayer, ItemLayer, StatementLayer, SyntaxNode, Words, body_layer, has_label, item_layer,
+    statement_layer,
 };
 use c_statements::{Anchor, is_token};
 

@@ -15,3 +15,14 @@ pub mod Weights
 pub mod Levels
 pub mod Weighed
 pub mod Opened
+pub mod Terms
+pub mod Items
+pub mod Tops
+pub mod Words
+pub mod DecodingSteps
+pub mod Counted
+pub mod Parts
+pub mod Views
+pub mod ItemViews
+pub mod TopViews
+pub mod Kept

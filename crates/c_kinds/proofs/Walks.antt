@@ -1,9 +1,9 @@
 -- The operands among the parts of a node, from an index on.
 use Rattle.std.proofs.Common.{◌≡◌, ◌<◌, ◌+◌, ℕ, suc, List, ◌∷◌, true, false, cond, length, get_or, map, drop, refl, ap, append_assoc, add-one, drop-cons}
 use Rattle.c_grammar.specs.declared.syntax.Syntax.{Syntax, out-Syntax}
-use Rattle.c_layers.specs.Parts.{part_of, term_of, terms_in, is_token}
-use Rattle.c_layers.specs.Terms.{Then}
-use Rattle.c_layers.proofs.Layers.{part-rule, weight-at}
+use Rattle.c_grammar.specs.Parts.{part_of, term_of, terms_in, is_token}
+use Rattle.c_grammar.specs.Terms.{Then}
+use Rattle.c_grammar.proofs.Layers.{part-rule, weight-at}
 
 terms-cons : (word : ℕ → List ℕ) (x : Syntax) (xs : List Syntax)
     → terms_in (map (part_of word) (x ∷ xs)) ≡ cond (is_token (out-Syntax x).rule) (terms_in (map (part_of word) xs)) (Then (term_of word x) (terms_in (map (part_of word) xs)))

@@ -2,9 +2,9 @@
 use Rattle.std.specs.Prelude.{ℕ, Bool, true, false, cond, List, [], ◌∷◌, ◌++◌, Option, Some, None}
 use Rattle.c_lexer.specs.Marks.{mark_of}
 use Rattle.c_lexer.specs.Numbers.{integer_of}
-use Rattle.c_layers.specs.Terms.{Term, Form, Terms, At, Constant, Variable, Cell, Prefix, Suffix, CastTo, CastVoid, Binary, Choice, Assign, Commas, Call, Texts, Unknown, NoTerm, Then, first_of}
-use Rattle.c_layers.specs.Words.{kind_of, character, is_character}
-use Rattle.c_layers.specs.DecodingSteps.{decoded}
+use Rattle.c_grammar.specs.Terms.{Term, Form, Terms, At, Constant, Variable, Cell, Prefix, Suffix, CastTo, CastVoid, Binary, Choice, Assign, Commas, Call, Texts, Unknown, NoTerm, Then, first_of}
+use Rattle.c_grammar.specs.Words.{kind_of, character, is_character}
+use Rattle.c_grammar.specs.DecodingSteps.{decoded}
 use Rattle.c_kinds.specs.declared.typed.Typed.{Typed}
 use Rattle.c_kinds.specs.declared.typed.Typed.TheVariants.{Text, Wrong}
 use Rattle.c_kinds.specs.declared.typed.Target.{Target}

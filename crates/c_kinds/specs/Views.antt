@@ -5,9 +5,9 @@ use Rattle.c_kinds.specs.declared.names.Known.{Known}
 use Rattle.c_kinds.specs.declared.typed.Given.{Given}
 use Rattle.c_kinds.specs.Scopes.{Env}
 use Rattle.c_kinds.specs.Typing.{typed}
-use Rattle.c_layers.specs.Parts.{part_of, term_of, terms_in}
-use Rattle.c_layers.specs.Terms.{Term, Terms, first_of}
-use Rattle.c_layers.specs.Views.{words_of}
+use Rattle.c_grammar.specs.Parts.{part_of, term_of, terms_in}
+use Rattle.c_grammar.specs.Terms.{Term, Terms, first_of}
+use Rattle.c_grammar.specs.Views.{words_of}
 
 abbrev pub env_of : Known → Env
 env_of k = record { word = words_of k.words; scopes = k.scopes }

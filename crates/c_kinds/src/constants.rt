@@ -5,15 +5,14 @@ ghost use Rattle.c_grammar.specs.declared.syntax.Syntax.{out-Syntax};
 ghost use Rattle.c_kinds.specs.Constants as constants;
 ghost use Rattle.c_kinds.specs.Typing as spec;
 ghost use Rattle.c_kinds.specs.declared.typed.Typed.TheVariants.{Text};
-ghost use Rattle.c_layers.specs.Views.{words_of};
+ghost use Rattle.c_grammar.specs.Views.{words_of};
 ghost use Rattle.c_tree.specs.ExpressionTrees.{expression_tree};
 
 use crate::faults::{report, report_use};
 use crate::typed::{Fault, Typed};
 use crate::values::{character_constant, expression, number};
 use c_constants::constant_value;
-use c_grammar::SyntaxNode;
-use c_layers::{Words, add_decoded, character, is_character};
+use c_grammar::{SyntaxNode, Words, add_decoded, character, is_character};
 use c_lexer::integer_constant;
 use c_tree::{Expression, Node};
 use c_types::{Bytes, List, Memory, Stack};

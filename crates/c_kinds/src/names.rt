@@ -11,7 +11,7 @@ use crate::faults::report;
 use crate::scopes::Scopes;
 use crate::typed::{Fault, Typed, Variable};
 use crate::values::{enum_name, variable};
-use c_layers::Words;
+use c_grammar::Words;
 use c_tree::{Home, Node};
 use c_types::{Memory, Name, Stack};
 use std::alloc::Global;

@@ -9,10 +9,10 @@ ghost use Rattle.c_kinds.specs.Scopes.{meaning as the_meaning};
 ghost use Rattle.c_kinds.specs.Typing as spec;
 ghost use Rattle.c_kinds.specs.Values as values;
 ghost use Rattle.c_kinds.specs.Views.{env_of, given_of, term, terms};
-ghost use Rattle.c_layers.specs.Parts.{is_token as the_token};
-ghost use Rattle.c_layers.specs.Terms.{Variable as the_variable, Prefix as the_prefix, Binary as the_binary, Choice as the_choice, Assign as the_assign, Commas as the_commas};
+ghost use Rattle.c_grammar.specs.Parts.{is_token as the_token};
+ghost use Rattle.c_grammar.specs.Terms.{Variable as the_variable, Prefix as the_prefix, Binary as the_binary, Choice as the_choice, Assign as the_assign, Commas as the_commas};
 ghost use Rattle.c_lexer.specs.Marks.{mark_of as the_mark_of};
-ghost use Rattle.c_layers.specs.Views.{words_of};
+ghost use Rattle.c_grammar.specs.Views.{words_of};
 
 use crate::calls::call;
 use crate::constants::{constant, constant_of, texts};
@@ -24,8 +24,7 @@ use crate::values::{
     assignment, behind_comma, binary, cast, cast_void, cell_target, choice, counting,
     number_target, reading, unary, unused, used, writable,
 };
-use c_grammar::{Production, SyntaxNode};
-use c_layers::{Layer, first_token, kind_of, layer_of};
+use c_grammar::{Layer, Production, SyntaxNode, first_token, kind_of, layer_of};
 use c_lexer::{Mark, mark_of};
 use c_tree::Expression;
 use c_types::{List, Memory, Stack};

@@ -1,7 +1,7 @@
 -- The rule for arrays and their initialisers (ISO/IEC 9899:2011, 6.7.6.2 and 6.7.9).
 use Rattle.std.specs.Prelude.{◌≡◌, ◌<◌, ℕ, ℤ, Bool, true, List, length, Some, None}
-use Rattle.c_layers.specs.Terms.{Term}
-use Rattle.c_layers.specs.Items.{Size, NoSize, Unsized, Sized, Initialiser, NoValue, OneValue, ValueList}
+use Rattle.c_grammar.specs.Terms.{Term}
+use Rattle.c_grammar.specs.Items.{Size, NoSize, Unsized, Sized, Initialiser, NoValue, OneValue, ValueList}
 use Rattle.c_kinds.specs.Scopes.{Env}
 use Rattle.c_statements.specs.Declarations.{in_bounds, is_array}
 use Rattle.c_reading_defs.specs.Typings.{Typing}

@@ -3,8 +3,8 @@ use Rattle.std.specs.Prelude.{ℕ, List, [], ◌++◌, map, Option, Some, None, 
 use Rattle.c_tree.specs.declared.tree.Slot.{Slot}
 use Rattle.c_tree.specs.declared.tree.Item as item
 use Rattle.c_tree.specs.declared.tree.Function as tree
-use Rattle.c_layers.specs.Items.{Body, Braces, Lone}
-use Rattle.c_layers.specs.Tops.{Function}
+use Rattle.c_grammar.specs.Items.{Body, Braces, Lone}
+use Rattle.c_grammar.specs.Tops.{Function}
 use Rattle.c_statements.specs.declared.anchors.Anchor.{Anchor}
 use Rattle.c_statements.specs.declared.anchors.Anchor.TheVariants.{AtEnd}
 use Rattle.c_statements.specs.Functions.{result_kind, parameter_slot, function}

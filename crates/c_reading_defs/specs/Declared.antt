@@ -1,7 +1,7 @@
 -- The rules for declared variables (ISO/IEC 9899:2011, 6.7).
 use Rattle.std.specs.Prelude.{◌⊎◌, true, List, [], ◌∷◌}
-use Rattle.c_layers.specs.Terms.{Term}
-use Rattle.c_layers.specs.Items.{Size, Sized, Initialiser, NoValue, OneValue, ValueList, Declarator, Declaration}
+use Rattle.c_grammar.specs.Terms.{Term}
+use Rattle.c_grammar.specs.Items.{Size, Sized, Initialiser, NoValue, OneValue, ValueList, Declarator, Declaration}
 use Rattle.c_kinds.specs.declared.typed.Fault.{Fault}
 use Rattle.c_kinds.specs.Scopes.{Env}
 use Rattle.c_reading_defs.specs.Typings.{Typing}

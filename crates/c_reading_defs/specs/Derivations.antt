@@ -2,7 +2,7 @@
 use Rattle.std.specs.Prelude.{◌≡◌, ◌<◌, ℕ, List, [], ◌∷◌, ◌++◌, length}
 use Rattle.c_grammar.specs.declared.class.Class.{Class}
 use Rattle.c_grammar.specs.declared.class.Class.TheVariants as c
-use Rattle.c_layers.specs.Tops.{Top}
+use Rattle.c_grammar.specs.Tops.{Top}
 use Rattle.c_reading_defs.specs.Symbols.{Symbol, classes_in, IsOver}
 use Rattle.c_reading_defs.specs.DerivedTops.{IsFile}
 

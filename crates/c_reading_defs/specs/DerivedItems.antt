@@ -3,8 +3,8 @@
 use Rattle.std.specs.Prelude.{◌+◌, ℕ, Bool, true, false, List, [], ◌∷◌, ◌++◌, Option, Some, None}
 use Rattle.c_grammar.specs.declared.class.Class.{Class}
 use Rattle.c_grammar.specs.declared.class.Class.TheVariants as c
-use Rattle.c_layers.specs.Terms.{Term, Form, At}
-use Rattle.c_layers.specs.Items as s
+use Rattle.c_grammar.specs.Terms.{Term, Form, At}
+use Rattle.c_grammar.specs.Items as s
 use Rattle.c_reading_defs.specs.Symbols.{Symbol, Uncounted, Outside, OpensLevel, EndsLevel, token_behind, numbers_of}
 use Rattle.c_reading_defs.specs.DerivedTerms.{IsType, IsExpression, IsAssignment, IsConditional}
 

@@ -4,7 +4,7 @@ use Rattle.std.specs.Prelude.{◌≡◌, ◌<◌, ◌≤◌, ◌+◌, ℕ, Bool,
 use Rattle.c_grammar.specs.declared.class.Class.{Class}
 use Rattle.c_grammar.specs.declared.class.Class.TheVariants as c
 use Rattle.c_grammar.specs.Classes.{level, is_assign, is_prefix}
-use Rattle.c_layers.specs.Terms.{Form, Terms, At, Constant, Variable, Cell, Prefix, Suffix, CastTo, CastVoid, Binary, Choice, Assign, Commas, Call, Texts, NoTerm, Then}
+use Rattle.c_grammar.specs.Terms.{Form, Terms, At, Constant, Variable, Cell, Prefix, Suffix, CastTo, CastVoid, Binary, Choice, Assign, Commas, Call, Texts, NoTerm, Then}
 use Rattle.c_reading_defs.specs.Symbols.{Symbol, Counted, Uncounted, token_behind, numbers_of}
 
 -- ---- types and texts

@@ -1,9 +1,9 @@
 -- Which symbols derive a file (ISO/IEC 9899:2011, 6.9), and what it writes from the number of its first token on.
 use Rattle.std.specs.Prelude.{◌+◌, ℕ, Bool, List, [], ◌∷◌, ◌++◌, Option, Some, None}
 use Rattle.c_grammar.specs.declared.class.Class.TheVariants as c
-use Rattle.c_layers.specs.Terms.{Form, At}
-use Rattle.c_layers.specs.Items.{Size, Declaration, Body}
-use Rattle.c_layers.specs.Tops as s
+use Rattle.c_grammar.specs.Terms.{Form, At}
+use Rattle.c_grammar.specs.Items.{Size, Declaration, Body}
+use Rattle.c_grammar.specs.Tops as s
 use Rattle.c_reading_defs.specs.Symbols.{Symbol, Outside, token_behind, numbers_of, most_counted}
 use Rattle.c_reading_defs.specs.DerivedTerms.{IsType, IsConditional}
 use Rattle.c_reading_defs.specs.DerivedItems.{MayBe, AreEach, IsSize, IsDeclaration, IsBlock}

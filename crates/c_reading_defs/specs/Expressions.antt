@@ -3,7 +3,7 @@ use Rattle.std.specs.Prelude.{◌≡◌, ◌⊎◌, ℕ, ℤ, Bool, true, false,
 use Rattle.c_tree.specs.declared.tree.Expression.{Expression}
 use Rattle.c_tree.specs.declared.tree.Node.{Node}
 use Rattle.c_lexer.specs.Marks.{mark_of}
-use Rattle.c_layers.specs.Terms.{Term, Form, Terms, At, Variable, Cell, Prefix, Suffix, CastTo, CastVoid, Binary, Choice, Assign, Commas, Call, NoTerm, Then, first_of}
+use Rattle.c_grammar.specs.Terms.{Term, Form, Terms, At, Variable, Cell, Prefix, Suffix, CastTo, CastVoid, Binary, Choice, Assign, Commas, Call, NoTerm, Then, first_of}
 use Rattle.c_kinds.specs.declared.binding.Binding.{Binding}
 use Rattle.c_kinds.specs.declared.binding.Binding.TheVariants.{Global, Local, Function, Printf}
 use Rattle.c_kinds.specs.declared.typed.Fault.{Fault}

@@ -1,8 +1,8 @@
 -- The scope of a file.
 use Rattle.std.specs.Prelude.{◌≡◌, ℕ, ℤ, pos, List, [], ◌∷◌, ◌++◌, map, reverse, Option, Some, option_and_then}
 use Rattle.c_lexer.specs.Behind.{each_behind}
-use Rattle.c_layers.specs.Items.{Declarator}
-use Rattle.c_layers.specs.Tops.{Enumerator, Function, Form, Enum, Globals, Defines, Top, From}
+use Rattle.c_grammar.specs.Items.{Declarator}
+use Rattle.c_grammar.specs.Tops.{Enumerator, Function, Form, Enum, Globals, Defines, Top, From}
 use Rattle.c_kinds.specs.declared.binding.Binding.TheVariants as binding
 use Rattle.c_kinds.specs.declared.binding.Binding.TheVariants.{Constant, Global}
 use Rattle.c_statements.specs.declared.extents.Kinded.{Kinded}

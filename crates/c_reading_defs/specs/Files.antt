@@ -3,9 +3,9 @@ use Rattle.std.specs.Prelude.{◌≡◌, ◌⊎◌, ℕ, ℤ, true, false, List,
 use Rattle.c_types.specs.declared.kinds.IntKind.TheVariants.{Int}
 use Rattle.c_types.specs.Numbers.{is_in_range}
 use Rattle.c_types.specs.Words.{is_known}
-use Rattle.c_layers.specs.Terms.{Term}
-use Rattle.c_layers.specs.Items.{Declarator}
-use Rattle.c_layers.specs.Tops.{Enumerator, Function, Form, Enum, Globals, Defines, Top, From}
+use Rattle.c_grammar.specs.Terms.{Term}
+use Rattle.c_grammar.specs.Items.{Declarator}
+use Rattle.c_grammar.specs.Tops.{Enumerator, Function, Form, Enum, Globals, Defines, Top, From}
 use Rattle.c_kinds.specs.declared.binding.Signature.{Signature}
 use Rattle.c_kinds.specs.declared.binding.Binding.TheVariants as binding
 use Rattle.c_kinds.specs.declared.typed.Fault.{Fault}

@@ -1,7 +1,7 @@
 -- The rules for functions (ISO/IEC 9899:2011, 6.9.1), and which ones are too tangled.
 use Rattle.std.specs.Prelude.{◌≡◌, ◌⊎◌, ℕ, Bool, true, List, map, Option, Some, None, is_some}
-use Rattle.c_layers.specs.Items.{Body, Braces, Lone}
-use Rattle.c_layers.specs.Tops.{Parameter, Function}
+use Rattle.c_grammar.specs.Items.{Body, Braces, Lone}
+use Rattle.c_grammar.specs.Tops.{Parameter, Function}
 use Rattle.c_kinds.specs.declared.typed.Fault.{Fault}
 use Rattle.c_statements.specs.declared.anchors.Anchor.{Anchor}
 use Rattle.c_statements.specs.Functions.{FlatCounts, measures}

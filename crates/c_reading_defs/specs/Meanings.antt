@@ -9,8 +9,8 @@ use Rattle.c_tree.specs.declared.tree.Home.TheVariants as home
 use Rattle.c_tree.specs.declared.tree.Place as place
 use Rattle.c_tree.specs.declared.tree.Node as node
 use Rattle.c_lexer.specs.Marks.{mark_of}
-use Rattle.c_layers.specs.Terms.{Term, Form, Terms, At, Constant, Variable, Cell, Prefix, Suffix, CastTo, CastVoid, Binary, Choice, Assign, Commas, Call, Texts, Unknown, NoTerm, Then}
-use Rattle.c_layers.specs.Words.{kind_of, Writes, within_quotes}
+use Rattle.c_grammar.specs.Terms.{Term, Form, Terms, At, Constant, Variable, Cell, Prefix, Suffix, CastTo, CastVoid, Binary, Choice, Assign, Commas, Call, Texts, Unknown, NoTerm, Then}
+use Rattle.c_grammar.specs.Words.{kind_of, Writes, within_quotes}
 use Rattle.c_kinds.specs.declared.binding.Binding.{Binding}
 use Rattle.c_kinds.specs.declared.binding.Binding.TheVariants as binding
 use Rattle.c_kinds.specs.declared.binding.Want.{Want}

@@ -1,8 +1,8 @@
 -- The places of a function, each told by what stands round it.
 use Rattle.std.specs.Prelude.{ℕ, List, [], ◌∷◌, ◌++◌, map, flat_map, Option, Some, None}
-use Rattle.c_layers.specs.Terms.{Term}
-use Rattle.c_layers.specs.Items.{Declarator, Declaration, Start, StartNames, Item, Declares, States, Body, Items, NoItem, Then, items_in}
-use Rattle.c_layers.specs.Tops.{Parameter, Function}
+use Rattle.c_grammar.specs.Terms.{Term}
+use Rattle.c_grammar.specs.Items.{Declarator, Declaration, Start, StartNames, Item, Declares, States, Body, Items, NoItem, Then, items_in}
+use Rattle.c_grammar.specs.Tops.{Parameter, Function}
 use Rattle.c_kinds.specs.declared.binding.Binding.TheVariants.{Local}
 use Rattle.c_kinds.specs.Scopes.{Env}
 use Rattle.c_statements.specs.declared.extents.Kinded.{Kinded}

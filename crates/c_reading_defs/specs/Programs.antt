@@ -7,9 +7,9 @@ use Rattle.c_tree.specs.declared.tree.Top.TheVariants as top
 use Rattle.c_lexer.specs.Behind.{each_behind}
 use Rattle.c_lexer.specs.declared.token.Token.{Token}
 use Rattle.c_lexer.specs.declared.token.Span.{Span}
-use Rattle.c_layers.specs.Words.{word_of}
-use Rattle.c_layers.specs.Items.{Declarator}
-use Rattle.c_layers.specs.Tops.{Enumerator, Form, Line, Enum, Globals, Defines, Unread, Top, From}
+use Rattle.c_grammar.specs.Words.{word_of}
+use Rattle.c_grammar.specs.Items.{Declarator}
+use Rattle.c_grammar.specs.Tops.{Enumerator, Form, Line, Enum, Globals, Defines, Unread, Top, From}
 use Rattle.c_statements.specs.declared.extents.Kinded.{Kinded}
 use Rattle.c_statements.specs.declared.anchors.Anchor.TheVariants.{Before, Last}
 use Rattle.c_statements.specs.Declarations.{kinded, initial}

@@ -1,6 +1,6 @@
 -- Scopes (ISO/IEC 9899:2011, 6.2.1): each is the list of all that it declares, in text order.
 use Rattle.std.specs.Prelude.{ℕ, cond, nat_lt, List, [], ◌∷◌, ◌++◌, map}
-use Rattle.c_layers.specs.Terms.{Term, first_of}
+use Rattle.c_grammar.specs.Terms.{Term, first_of}
 use Rattle.c_kinds.specs.declared.binding.Binding.{Binding}
 use Rattle.c_kinds.specs.Scopes.{Scope, Env, known_scope}
 

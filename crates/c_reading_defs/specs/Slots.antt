@@ -1,7 +1,7 @@
 -- The slots of a function: its parameters and its variables, in text order of their declarations.
 use Rattle.std.specs.Prelude.{List, [], ◌++◌, map}
 use Rattle.c_tree.specs.declared.tree.Slot.{Slot}
-use Rattle.c_layers.specs.Items.{Declarator, Declaration, Start, StartNames, Item, Declares, States, Plain, From, Statement, If, IfElse, While, DoWhile, For, Switch, Block, Body, Braces, Lone, Items, NoItem, Then}
+use Rattle.c_grammar.specs.Items.{Declarator, Declaration, Start, StartNames, Item, Declares, States, Plain, From, Statement, If, IfElse, While, DoWhile, For, Switch, Block, Body, Braces, Lone, Items, NoItem, Then}
 use Rattle.c_statements.specs.declared.extents.Kinded.{Kinded}
 use Rattle.c_statements.specs.Declarations.{kinded}
 use Rattle.c_reading_defs.specs.Typings.{Typing}

@@ -1,8 +1,8 @@
 -- The rules for statements (ISO/IEC 9899:2011, 6.8).
 use Rattle.std.specs.Prelude.{◌≡◌, ◌⊎◌, ℕ, false, List, [], ◌∷◌, Option, Some, None, option_map}
 use Rattle.c_types.specs.declared.kinds.IntKind.{IntKind}
-use Rattle.c_layers.specs.Terms.{Term}
-use Rattle.c_layers.specs.Items.{Label, Case, Default, Start, NoStart, StartValue, StartNames, Item, Declares, States, Plain, From, Statement, Evaluate, If, IfElse, While, DoWhile, For, Switch, Block, Goto, Break, Continue, Return, Body, Braces, Lone, Items, NoItem, Then, items_in}
+use Rattle.c_grammar.specs.Terms.{Term}
+use Rattle.c_grammar.specs.Items.{Label, Case, Default, Start, NoStart, StartValue, StartNames, Item, Declares, States, Plain, From, Statement, Evaluate, If, IfElse, While, DoWhile, For, Switch, Block, Goto, Break, Continue, Return, Body, Braces, Lone, Items, NoItem, Then, items_in}
 use Rattle.c_kinds.specs.declared.typed.Fault.{Fault}
 use Rattle.c_kinds.specs.Scopes.{Env}
 use Rattle.c_kinds.specs.Values.{value_of}

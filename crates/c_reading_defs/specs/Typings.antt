@@ -1,7 +1,7 @@
 -- What all expressions are: each is what it means. Where a rule or a program needs what an expression is as a function, it asks
 -- a typing.
 use Rattle.std.specs.Prelude.{◌≡◌, ◌⊎◌}
-use Rattle.c_layers.specs.Terms.{Term}
+use Rattle.c_grammar.specs.Terms.{Term}
 use Rattle.c_kinds.specs.declared.typed.Typed.{Typed}
 use Rattle.c_kinds.specs.declared.typed.Typed.TheVariants.{Wrong}
 use Rattle.c_kinds.specs.Scopes.{Env}

@@ -1,7 +1,7 @@
 -- The variables of a function, which are its parameters and those that its body declares, and their numbers.
 use Rattle.std.specs.Prelude.{ℕ, suc, cond, ◌==◌, List, [], ◌∷◌, ◌++◌, map, Option, Some, None}
-use Rattle.c_layers.specs.Items.{Declarator, Start, StartNames, Item, Declares, States, Plain, From, Statement, If, IfElse, While, DoWhile, For, Switch, Block, Body, Braces, Lone, Items, NoItem, Then}
-use Rattle.c_layers.specs.Tops.{Function}
+use Rattle.c_grammar.specs.Items.{Declarator, Start, StartNames, Item, Declares, States, Plain, From, Statement, If, IfElse, While, DoWhile, For, Switch, Block, Body, Braces, Lone, Items, NoItem, Then}
+use Rattle.c_grammar.specs.Tops.{Function}
 
 -- ---- by the tokens of their names, in text order
 

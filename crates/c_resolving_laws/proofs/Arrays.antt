@@ -6,8 +6,8 @@ use Rattle.std.proofs.lemmas.Bool.Decides.{nat_tests}
 use Rattle.c_tree.specs.declared.tree.Expression.{Expression}
 use Rattle.c_tree.specs.Trees.{expression_trees}
 use Rattle.c_tree.specs.ExpressionTrees.{expression_tree}
-use Rattle.c_layers.specs.Terms.{Term, first_of}
-use Rattle.c_layers.specs.Items.{Size, NoSize, Unsized, Sized, Initialiser, NoValue, OneValue, ValueList, Declarator}
+use Rattle.c_grammar.specs.Terms.{Term, first_of}
+use Rattle.c_grammar.specs.Items.{Size, NoSize, Unsized, Sized, Initialiser, NoValue, OneValue, ValueList, Declarator}
 use Rattle.c_kinds.specs.Constants.{constant_of}
 use Rattle.c_kinds.specs.Scopes.{Env, fault_if}
 use Rattle.c_kinds.specs.Typing.{typed, faults, used, constant_faults}

@@ -10,9 +10,9 @@ use Rattle.c_types.specs.Words.{name_cmp}
 use Rattle.c_tree.specs.declared.tree.Function as tree
 use Rattle.c_tree.specs.declared.tree.Top.{Top}
 use Rattle.c_tree.specs.declared.tree.Top.TheVariants as T
-use Rattle.c_layers.specs.Items.{Declarator, Body}
-use Rattle.c_layers.specs.Tops.{Function, Form, Line, Enum, Globals, Defines, Unread}
-use Rattle.c_layers.specs.Tops as tops
+use Rattle.c_grammar.specs.Items.{Declarator, Body}
+use Rattle.c_grammar.specs.Tops.{Function, Form, Line, Enum, Globals, Defines, Unread}
+use Rattle.c_grammar.specs.Tops as tops
 use Rattle.c_kinds.specs.Scopes.{Env, Scope}
 use Rattle.c_scopes.specs.Files.{File, State, env_of, function_declared, notes_tops, form_tops, behind_form, tops_of}
 use Rattle.c_scopes.specs.FunctionNames.{has_function, with_function, has_body, with_body, bodies_of}

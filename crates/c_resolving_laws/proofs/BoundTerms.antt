@@ -7,7 +7,7 @@ use Rattle.c_tree.specs.Trees.{Tree, Forest, SectionTree, Nil, join, expression_
 use Rattle.c_tree.specs.Trees as tree
 use Rattle.c_tree.proofs.TreeLaws.{trees-none, trees-more, trees-append}
 use Rattle.c_types.specs.declared.kinds.IntKind.{IntKind}
-use Rattle.c_layers.specs.Terms.{Term}
+use Rattle.c_grammar.specs.Terms.{Term}
 use Rattle.c_kinds.specs.Scopes.{Scope}
 use Rattle.c_kinds.specs.Typing.{constant_faults}
 use Rattle.c_statements.specs.Context.{Context, Walk, env_at, enter}

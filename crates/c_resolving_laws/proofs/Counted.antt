@@ -19,9 +19,9 @@ use Rattle.c_tree.specs.declared.tree.BinaryOp.{BinaryOp}
 use Rattle.c_tree.specs.ExpressionTrees.{ExpressionTree, NodeTree, Arguments, Argument, Typed, Unary, Cast, Binary, Conditional, Assign, Update, Comma, arguments, expression_tree, node_tree, place_tree}
 use Rattle.c_tree.proofs.ExpressionLaws.{place-Var, place-Cell, node-Number, node-Character, node-EnumName, node-Text, node-Array, node-Read, node-Unary, node-Cast, node-Binary, node-Conditional, node-Assign, node-Update, node-Count, node-Comma, node-Call}
 use Rattle.c_tree.specs.TextExpressions.{binary_level}
-use Rattle.c_layers.specs.Terms as s
-use Rattle.c_layers.specs.Terms.{Term, Form, Terms, At, NoTerm, Then, first_of}
-use Rattle.c_layers.specs.Words.{is_character, character, kind_of}
+use Rattle.c_grammar.specs.Terms as s
+use Rattle.c_grammar.specs.Terms.{Term, Form, Terms, At, NoTerm, Then, first_of}
+use Rattle.c_grammar.specs.Words.{is_character, character, kind_of}
 use Rattle.c_kinds.specs.declared.binding.Binding.{Binding}
 use Rattle.c_kinds.specs.declared.binding.Binding.TheVariants as B
 use Rattle.c_kinds.specs.declared.binding.Want.{Want}

@@ -1,8 +1,8 @@
 -- A function with this body, or without one.
 use Rattle.std.specs.Prelude.{ℕ, List, [], Option}
 use Rattle.c_tree.specs.declared.tree.Function as tree
-use Rattle.c_layers.specs.Items.{Body}
-use Rattle.c_layers.specs.Tops.{Function}
+use Rattle.c_grammar.specs.Items.{Body}
+use Rattle.c_grammar.specs.Tops.{Function}
 use Rattle.c_kinds.specs.Scopes.{Scope}
 use Rattle.c_statements.specs.declared.anchors.Anchor.{Anchor}
 use Rattle.c_statements.specs.Context.{Context}

@@ -2,10 +2,10 @@
 use Rattle.std.proofs.Common.{ℕ, Bool, true, false, cond, not, ◌&&◌, ◌||◌, ◌==◌, List, [], ◌∷◌, length, Option, Some, None, is_some, option_map, ◌≡◌}
 use Rattle.c_types.specs.declared.kinds.IntKind.{IntKind}
 use Rattle.c_lexer.specs.Marks.{mark_of}
-use Rattle.c_layers.specs.Terms.{Term, Form, Terms, At, Constant, Variable, Cell, Prefix, Suffix, CastTo, CastVoid, Binary, Choice, Assign, Commas, Call, Texts, Unknown, NoTerm, first_of}
-use Rattle.c_layers.specs.Terms as terms
-use Rattle.c_layers.specs.Items.{Size, NoSize, Unsized, Sized, Initialiser, NoValue, OneValue, ValueList, Declarator, Declaration, Label, Named, Case, Default, Start, NoStart, StartValue, StartNames, Item, Declares, States, Plain, From, Statement, Null, Evaluate, If, IfElse, While, DoWhile, For, Switch, Block, Goto, Break, Continue, Return, Unread, Body, Braces, Lone, Items, NoItem, stated_first}
-use Rattle.c_layers.specs.Items as items
+use Rattle.c_grammar.specs.Terms.{Term, Form, Terms, At, Constant, Variable, Cell, Prefix, Suffix, CastTo, CastVoid, Binary, Choice, Assign, Commas, Call, Texts, Unknown, NoTerm, first_of}
+use Rattle.c_grammar.specs.Terms as terms
+use Rattle.c_grammar.specs.Items.{Size, NoSize, Unsized, Sized, Initialiser, NoValue, OneValue, ValueList, Declarator, Declaration, Label, Named, Case, Default, Start, NoStart, StartValue, StartNames, Item, Declares, States, Plain, From, Statement, Null, Evaluate, If, IfElse, While, DoWhile, For, Switch, Block, Goto, Break, Continue, Return, Unread, Body, Braces, Lone, Items, NoItem, stated_first}
+use Rattle.c_grammar.specs.Items as items
 use Rattle.c_kinds.specs.declared.typed.Typed as typed
 use Rattle.c_kinds.specs.declared.typed.Typed.TheVariants as T
 use Rattle.c_kinds.specs.declared.typed.Given.{Given}

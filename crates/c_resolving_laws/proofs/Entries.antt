@@ -7,8 +7,8 @@ use Rattle.c_tree.specs.ExpressionTrees.{ExpressionTree, expression_tree}
 use Rattle.c_tree.specs.Trees.{Tree, Forest, SectionTree, Nil, join, expression_trees, tree_of, trees_of, section_tree, sections, sections_of}
 use Rattle.c_tree.specs.Trees as tree
 use Rattle.c_tree.proofs.TreeLaws.{tree-Local, tree-Mark, tree-Arrival, tree-Note, trees-none, trees-more, trees-append}
-use Rattle.c_layers.specs.Terms.{Term}
-use Rattle.c_layers.specs.Items.{Declarator, Label, Named, Case, Default}
+use Rattle.c_grammar.specs.Terms.{Term}
+use Rattle.c_grammar.specs.Items.{Declarator, Label, Named, Case, Default}
 use Rattle.c_kinds.specs.Scopes.{fault_if}
 use Rattle.c_kinds.specs.Typing.{typed, constant_faults}
 use Rattle.c_statements.specs.declared.extents.Kinded.{Kinded}

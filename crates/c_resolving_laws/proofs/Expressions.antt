@@ -10,8 +10,8 @@ use Rattle.c_tree.proofs.ExpressionLaws.{node-Number, node-Character}
 use Rattle.c_lexer.specs.declared.number.Integer.{Integer}
 use Rattle.c_lexer.specs.Marks.{mark_of}
 use Rattle.c_lexer.specs.Numbers.{integer_of}
-use Rattle.c_layers.specs.Terms.{Term, Form, Terms, At, Constant, Variable, Cell, Prefix, Suffix, CastTo, CastVoid, Binary, Choice, Assign, Commas, Call, Texts, Unknown, NoTerm, Then, first_of}
-use Rattle.c_layers.specs.Words.{kind_of, is_character, character}
+use Rattle.c_grammar.specs.Terms.{Term, Form, Terms, At, Constant, Variable, Cell, Prefix, Suffix, CastTo, CastVoid, Binary, Choice, Assign, Commas, Call, Texts, Unknown, NoTerm, Then, first_of}
+use Rattle.c_grammar.specs.Words.{kind_of, is_character, character}
 use Rattle.c_kinds.specs.declared.typed.Typed as typed
 use Rattle.c_kinds.specs.declared.typed.Given.{Given}
 use Rattle.c_kinds.specs.Marks.{step_of, counts_up, unary_op, binary_op, update_op}

@@ -11,10 +11,10 @@ use Rattle.c_tree.specs.declared.tree.Top.TheVariants as T
 use Rattle.c_tree.specs.declared.tree.Expression.{Expression}
 use Rattle.c_tree.specs.ExpressionTrees.{expression_tree}
 use Rattle.c_tree.specs.Trees.{expression_trees}
-use Rattle.c_layers.specs.Terms.{Term, first_of}
-use Rattle.c_layers.specs.Items.{Declarator, Body}
-use Rattle.c_layers.specs.Tops.{Enumerator, Function, Form, Line, Enum, Globals, Defines, Unread}
-use Rattle.c_layers.specs.Tops as tops
+use Rattle.c_grammar.specs.Terms.{Term, first_of}
+use Rattle.c_grammar.specs.Items.{Declarator, Body}
+use Rattle.c_grammar.specs.Tops.{Enumerator, Function, Form, Line, Enum, Globals, Defines, Unread}
+use Rattle.c_grammar.specs.Tops as tops
 use Rattle.c_kinds.specs.declared.binding.Binding.TheVariants as B
 use Rattle.c_kinds.specs.declared.binding.Binding.{Binding}
 use Rattle.c_kinds.specs.declared.binding.Signature.{Signature}

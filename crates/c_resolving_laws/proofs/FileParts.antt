@@ -4,10 +4,10 @@ use Rattle.c_types.specs.declared.kinds.IntKind.TheVariants.{Int}
 use Rattle.c_types.specs.Numbers.{is_in_range}
 use Rattle.c_types.specs.Words.{is_known}
 use Rattle.c_tree.specs.declared.tree.Item.{Item}
-use Rattle.c_layers.specs.Terms.{Term, first_of}
-use Rattle.c_layers.specs.Items.{Declarator, Body, Braces, Lone}
-use Rattle.c_layers.specs.Tops.{Enumerator, Parameter, Function, Top, Form, Line, Enum, Globals, Defines, Unread}
-use Rattle.c_layers.specs.Tops as tops
+use Rattle.c_grammar.specs.Terms.{Term, first_of}
+use Rattle.c_grammar.specs.Items.{Declarator, Body, Braces, Lone}
+use Rattle.c_grammar.specs.Tops.{Enumerator, Parameter, Function, Top, Form, Line, Enum, Globals, Defines, Unread}
+use Rattle.c_grammar.specs.Tops as tops
 use Rattle.c_kinds.specs.declared.binding.Signature.{Signature}
 use Rattle.c_kinds.specs.declared.binding.Binding.{Binding}
 use Rattle.c_kinds.specs.declared.binding.Binding.TheVariants as B

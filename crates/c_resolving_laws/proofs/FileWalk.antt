@@ -11,9 +11,9 @@ use Rattle.c_tree.specs.declared.tree.Home.TheVariants as H
 use Rattle.c_tree.specs.declared.tree.Function as tree
 use Rattle.c_tree.specs.declared.tree.Top.{Top}
 use Rattle.c_tree.specs.declared.tree.Top.TheVariants as T
-use Rattle.c_layers.specs.Terms.{Term}
-use Rattle.c_layers.specs.Items.{Declarator}
-use Rattle.c_layers.specs.Tops.{Enumerator}
+use Rattle.c_grammar.specs.Terms.{Term}
+use Rattle.c_grammar.specs.Items.{Declarator}
+use Rattle.c_grammar.specs.Tops.{Enumerator}
 use Rattle.c_kinds.specs.declared.binding.Signature.{Signature}
 use Rattle.c_kinds.specs.declared.binding.Binding.{Binding}
 use Rattle.c_kinds.specs.declared.binding.Binding.TheVariants as B

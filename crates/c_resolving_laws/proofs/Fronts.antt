@@ -1,8 +1,8 @@
 -- Nothing stands in front of the first section of a switch without a violation.
 use Rattle.std.proofs.Common.{Bool, true, false, cond, ◌||◌, List, [], ◌++◌, None, ◌≡◌, refl, ap, ◌∙◌}
 use Rattle.c_tree.specs.declared.tree.Section.{Section}
-use Rattle.c_layers.specs.Items.{Label, Item, Declares, States, Plain, Body, Braces, Lone, Items, NoItem}
-use Rattle.c_layers.specs.Items as items
+use Rattle.c_grammar.specs.Items.{Label, Item, Declares, States, Plain, Body, Braces, Lone, Items, NoItem}
+use Rattle.c_grammar.specs.Items as items
 use Rattle.c_statements.specs.declared.anchors.Anchor.TheVariants.{AtEnd}
 use Rattle.c_statements.specs.Context.{Context, Walk, Around, env_at, enter, notes_at}
 use Rattle.c_statements.specs.Labels.{has_case, labels_items}

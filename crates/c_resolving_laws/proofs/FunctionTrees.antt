@@ -3,9 +3,9 @@ use Rattle.std.proofs.Common.{ℕ, Bool, true, false, cond, not, List, [], ◌�
 use Rattle.std.specs.Prelude.{IfSome}
 use Rattle.std.proofs.lemmas.List.{append-nil}
 use Rattle.c_tree.specs.declared.tree.Slot.{Slot}
-use Rattle.c_layers.specs.Items.{Declarator, Body, Braces, Lone}
-use Rattle.c_layers.specs.Tops.{Parameter, Function}
-use Rattle.c_layers.specs.Words.{kind_of}
+use Rattle.c_grammar.specs.Items.{Declarator, Body, Braces, Lone}
+use Rattle.c_grammar.specs.Tops.{Parameter, Function}
+use Rattle.c_grammar.specs.Words.{kind_of}
 use Rattle.c_kinds.specs.declared.binding.Want.TheVariants as want
 use Rattle.c_kinds.specs.Scopes.{Scope}
 use Rattle.c_scopes.specs.FunctionNames.{has_function, signature_in}

@@ -12,8 +12,8 @@ use Rattle.c_tree.specs.Trees.{Tree, trees_of}
 use Rattle.c_tree.specs.Everywhere.{Everywhere}
 use Rattle.c_tree.specs.InRange.{body_of}
 use Rattle.c_tree.proofs.WellMoved.{everywhere_map}
-use Rattle.c_layers.specs.Items.{Body, Braces, Lone, Declarator}
-use Rattle.c_layers.specs.Tops.{Parameter, Function}
+use Rattle.c_grammar.specs.Items.{Body, Braces, Lone, Declarator}
+use Rattle.c_grammar.specs.Tops.{Parameter, Function}
 use Rattle.c_kinds.specs.declared.binding.Binding.TheVariants.{Local}
 use Rattle.c_kinds.specs.Scopes.{Scope, Faults, fault_if, is_bound, bind, bind_fault}
 use Rattle.c_statements.specs.declared.extents.Kinded.{Kinded}

@@ -2,8 +2,8 @@
 use Rattle.std.proofs.Common.{ℕ, Bool, true, false, List, [], ◌∷◌, ◌++◌, append_assoc, ◌≡◌, refl, sym, ap, ◌∙◌}
 use Rattle.std.proofs.lemmas.List.{append-nil}
 use Rattle.c_tree.specs.declared.tree.Slot.{Slot}
-use Rattle.c_layers.specs.Items.{Declarator, Declaration, Label, Start, NoStart, StartValue, StartNames, Item, Declares, States, Plain, From, Statement, Null, Evaluate, If, IfElse, While, DoWhile, For, Switch, Block, Goto, Break, Continue, Return, Unread, Body, Braces, Lone, Items, NoItem}
-use Rattle.c_layers.specs.Items as items
+use Rattle.c_grammar.specs.Items.{Declarator, Declaration, Label, Start, NoStart, StartValue, StartNames, Item, Declares, States, Plain, From, Statement, Null, Evaluate, If, IfElse, While, DoWhile, For, Switch, Block, Goto, Break, Continue, Return, Unread, Body, Braces, Lone, Items, NoItem}
+use Rattle.c_grammar.specs.Items as items
 use Rattle.c_statements.specs.declared.extents.Kinded.{Kinded}
 use Rattle.c_statements.specs.Context.{Context, Walk, env_in, enter, Around, in_loop, in_switch}
 use Rattle.c_statements.specs.Declarations.{kinded, declared, all_declared, slot_of, local_faults, locals_faults}

@@ -7,8 +7,8 @@ use Rattle.c_tree.specs.Cases.{selector_kind}
 use Rattle.c_tree.specs.ExpressionTrees.{expression_tree}
 use Rattle.c_tree.specs.TestTrees.{Selects}
 use Rattle.c_tree.specs.Trees.{Switch, sections_of}
-use Rattle.c_layers.specs.Terms.{Term}
-use Rattle.c_layers.specs.Items.{Body}
+use Rattle.c_grammar.specs.Terms.{Term}
+use Rattle.c_grammar.specs.Items.{Body}
 use Rattle.c_kinds.specs.declared.typed.Valued.{Valued}
 use Rattle.c_kinds.specs.Typing.{typed}
 use Rattle.c_kinds.specs.Values.{value_of}

@@ -5,7 +5,7 @@ use Rattle.c_tree.specs.declared.tree.Function.{Function}
 use Rattle.c_tree.specs.declared.tree.Item as item
 use Rattle.c_tree.specs.Trees.{Then, trees_of}
 use Rattle.c_tree.proofs.TreeLaws.{tree-Evaluate, tree-Local, trees-none, trees-more}
-use Rattle.c_layers.specs.Items.{Declarator, Start, NoStart, StartValue, StartNames}
+use Rattle.c_grammar.specs.Items.{Declarator, Start, NoStart, StartValue, StartNames}
 use Rattle.c_kinds.specs.Scopes.{found}
 use Rattle.c_statements.specs.declared.extents.Kinded.{Kinded}
 use Rattle.c_statements.specs.Context.{Context, Walk, env_at, env_in, enter, in_switch, has_label, number_in}

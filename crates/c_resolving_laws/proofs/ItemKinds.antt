@@ -5,7 +5,7 @@ use Rattle.c_types.specs.declared.kinds.IntKind.{IntKind}
 use Rattle.c_tree.specs.ExpressionTrees.{ExpressionTree, PlaceTree, Arguments, Typed, Var, Cell, Number, Character, EnumName, Text, Array, Read, Unary, Cast, Binary, Conditional, Assign, Update, Count, Comma, Call, NoArgument, Argument, expression_tree}
 use Rattle.c_tree.specs.Trees.{Tree, Forest, Sections}
 use Rattle.c_tree.specs.Trees as tree
-use Rattle.c_layers.specs.Terms.{Term}
+use Rattle.c_grammar.specs.Terms.{Term}
 use Rattle.c_kinds.specs.Scopes.{Scope}
 use Rattle.c_statements.specs.Context.{Context, Walk, env_at, env_in, enter}
 use Rattle.c_statements.specs.Declarations.{declared, value_at, value_faults}

@@ -13,7 +13,7 @@ use Rattle.c_tree.specs.declared.tree.Node as node
 use Rattle.c_tree.specs.ExpressionTrees.{Typed}
 use Rattle.c_tree.specs.Constants.{constant_value}
 use Rattle.c_tree.proofs.ExpressionLaws.{node-Number}
-use Rattle.c_layers.specs.Terms.{Term}
+use Rattle.c_grammar.specs.Terms.{Term}
 use Rattle.c_kinds.specs.declared.typed.Typed as kinds
 use Rattle.c_kinds.specs.declared.typed.Typed.TheVariants as T
 use Rattle.c_kinds.specs.Constants.{is_constant, constant_of}

@@ -1,8 +1,8 @@
 -- A statement without a violation has none in any of its parts.
 use Rattle.std.proofs.Common.{ℕ, Bool, true, false, not, ◌||◌, List, [], ◌∷◌, Option, option_map, ◌≡◌, subst}
-use Rattle.c_layers.specs.Terms.{Term}
-use Rattle.c_layers.specs.Items.{Declarator, Declaration, Label, Start, Item, Declares, States, Plain, From, Statement, If, IfElse, While, DoWhile, For, Switch, Body, Items, NoItem, stated_first}
-use Rattle.c_layers.specs.Items as items
+use Rattle.c_grammar.specs.Terms.{Term}
+use Rattle.c_grammar.specs.Items.{Declarator, Declaration, Label, Start, Item, Declares, States, Plain, From, Statement, If, IfElse, While, DoWhile, For, Switch, Body, Items, NoItem, stated_first}
+use Rattle.c_grammar.specs.Items as items
 use Rattle.c_kinds.specs.Scopes.{Env, Faults, fault, fault_if, is_bound}
 use Rattle.c_kinds.specs.Typing.{typed}
 use Rattle.c_kinds.specs.Values.{value_of}

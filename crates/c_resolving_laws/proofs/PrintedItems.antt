@@ -10,8 +10,8 @@ use Rattle.c_tree.specs.Constants.{constant_value}
 use Rattle.c_tree.specs.ExpressionTrees.{ExpressionTree, Typed, expression_tree}
 use Rattle.c_tree.specs.Trees.{Tree, Local, Note, expression_trees}
 use Rattle.c_tree.proofs.ExpressionLaws.{node-Number}
-use Rattle.c_layers.specs.Terms.{Term}
-use Rattle.c_layers.specs.Items.{Initialiser, NoValue, OneValue, ValueList, Declarator}
+use Rattle.c_grammar.specs.Terms.{Term}
+use Rattle.c_grammar.specs.Items.{Initialiser, NoValue, OneValue, ValueList, Declarator}
 use Rattle.c_kinds.specs.declared.typed.Typed as kinds
 use Rattle.c_kinds.specs.declared.typed.Typed.TheVariants as T
 use Rattle.c_kinds.specs.Constants.{is_constant, constant_of}

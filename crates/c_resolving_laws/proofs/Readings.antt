@@ -1,8 +1,8 @@
 -- Sections that are being read.
 use Rattle.std.proofs.Common.{List, ◌++◌, None, ◌≡◌, refl}
 use Rattle.c_tree.specs.declared.tree.Item as item
-use Rattle.c_layers.specs.Items.{Label, Item, Declares, States, NoItem}
-use Rattle.c_layers.specs.Items as items
+use Rattle.c_grammar.specs.Items.{Label, Item, Declares, States, NoItem}
+use Rattle.c_grammar.specs.Items as items
 use Rattle.c_statements.specs.declared.anchors.Anchor.TheVariants.{AtSection}
 use Rattle.c_statements.specs.Context.{Context, Walk, env_at, notes_at}
 use Rattle.c_statements.specs.Labels.{section_marks, section_cases, has_default}

@@ -5,9 +5,9 @@ use Rattle.c_tree.specs.declared.tree.Slot.{Slot}
 use Rattle.c_tree.specs.declared.tree.Top.{Top}
 use Rattle.c_tree.specs.ExpressionTrees.{expression_tree}
 use Rattle.c_tree.specs.Trees.{expression_trees}
-use Rattle.c_layers.specs.Terms.{Term}
-use Rattle.c_layers.specs.Items.{Initialiser, NoValue, OneValue, ValueList, Declarator}
-use Rattle.c_layers.specs.Tops.{Enumerator}
+use Rattle.c_grammar.specs.Terms.{Term}
+use Rattle.c_grammar.specs.Items.{Initialiser, NoValue, OneValue, ValueList, Declarator}
+use Rattle.c_grammar.specs.Tops.{Enumerator}
 use Rattle.c_kinds.specs.Scopes.{Env}
 use Rattle.c_scopes.specs.Enums.{enum_item, enum_items}
 use Rattle.c_statements.specs.Declarations.{constant_at, initial}

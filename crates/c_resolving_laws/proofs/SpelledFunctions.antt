@@ -5,9 +5,9 @@ use Rattle.std.proofs.lemmas.List.{append-nil}
 use Rattle.c_tree.specs.declared.tree.Top.{Top}
 use Rattle.c_tree.specs.Trees.{Tree, trees_of}
 use Rattle.c_tree.proofs.WellMoved.{everywhere_map, everywhere_both}
-use Rattle.c_layers.specs.Items.{Label, Named, Case, Default, Item, Declares, States, Plain, From, Statement, Null, Evaluate, If, IfElse, While, DoWhile, For, Switch, Block, Goto, Break, Continue, Return, Unread, Body, Braces, Lone, Items, NoItem}
-use Rattle.c_layers.specs.Items as items
-use Rattle.c_layers.specs.Tops.{Parameter, Function}
+use Rattle.c_grammar.specs.Items.{Label, Named, Case, Default, Item, Declares, States, Plain, From, Statement, Null, Evaluate, If, IfElse, While, DoWhile, For, Switch, Block, Goto, Break, Continue, Return, Unread, Body, Braces, Lone, Items, NoItem}
+use Rattle.c_grammar.specs.Items as items
+use Rattle.c_grammar.specs.Tops.{Parameter, Function}
 use Rattle.c_kinds.specs.Scopes.{Scope, Faults, fault_if, bind_fault}
 use Rattle.c_statements.specs.declared.anchors.Anchor.{Anchor}
 use Rattle.c_statements.specs.Context.{Context, Walk, env_at}

@@ -6,9 +6,9 @@ use Rattle.c_tree.specs.declared.tree.Top.{Top}
 use Rattle.c_tree.specs.declared.tree.Top.TheVariants as T
 use Rattle.c_tree.specs.declared.tree.Program.{Program}
 use Rattle.c_lexer.specs.declared.token.Token.{Token}
-use Rattle.c_layers.specs.Words.{word_of}
-use Rattle.c_layers.specs.Parts.{file_of}
-use Rattle.c_layers.specs.Tops as tops
+use Rattle.c_grammar.specs.Words.{word_of}
+use Rattle.c_grammar.specs.Parts.{file_of}
+use Rattle.c_grammar.specs.Tops as tops
 use Rattle.c_kinds.specs.declared.typed.Fault.{Fault}
 use Rattle.c_kinds.specs.Scopes.{Faults}
 use Rattle.c_scopes.specs.FunctionNames.{has_function, bodies_of}

@@ -5,7 +5,7 @@ use Rattle.c_types.specs.declared.kinds.IntKind.{IntKind}
 use Rattle.c_tree.specs.declared.tree.Expression.{Expression}
 use Rattle.c_tree.specs.ExpressionTrees.{ExpressionTree, NodeTree, Typed, Number, Character, EnumName, Unary, Cast, Binary, Conditional, expression_tree}
 use Rattle.c_tree.specs.Constants.{HasKind, IsConstant, IsConstantNode, constant_value}
-use Rattle.c_layers.specs.Terms.{Term, first_of}
+use Rattle.c_grammar.specs.Terms.{Term, first_of}
 use Rattle.c_kinds.specs.declared.typed.Typed as typed
 use Rattle.c_kinds.specs.declared.typed.Typed.TheVariants as T
 use Rattle.c_kinds.specs.declared.typed.Valued.{Valued}

@@ -11,8 +11,8 @@ use Rattle.c_tree.specs.Trees as tree
 use Rattle.c_tree.specs.Everywhere.{Everywhere, EverywhereOf, EverywhereIn}
 use Rattle.c_tree.proofs.KeptLemmas.{everywhere_join}
 use Rattle.c_tree.proofs.TreeLaws.{trees-append}
-use Rattle.c_layers.specs.Terms.{Term}
-use Rattle.c_layers.specs.Items.{Declarator, Start, Body}
+use Rattle.c_grammar.specs.Terms.{Term}
+use Rattle.c_grammar.specs.Items.{Declarator, Start, Body}
 use Rattle.c_kinds.specs.Scopes.{Scope}
 use Rattle.c_kinds.specs.Typing.{typed, constant_faults}
 use Rattle.c_kinds.specs.Values.{value_of}

@@ -3,9 +3,9 @@
 use Rattle.std.specs.Prelude.{ℕ, ◌+◌, ◌≤◌, List, IfSome}
 use Rattle.c_lexer.specs.Marks.{mark_of}
 use Rattle.c_tree.specs.TextExpressions.{binary_level}
-use Rattle.c_layers.specs.Terms.{Term, Form, Terms, At, Cell, Prefix, Suffix, CastTo, CastVoid, Binary, Choice, Assign, Commas, Call, NoTerm, Then}
-use Rattle.c_layers.specs.Items.{Initialiser, NoValue, OneValue, ValueList, Declarator, Declaration, Label, Case, Start, NoStart, StartValue, StartNames, Item, Declares, States, Plain, From, Statement, Evaluate, If, IfElse, While, DoWhile, For, Switch, Block, Return, Body, Braces, Lone, Items, NoItem}
-use Rattle.c_layers.specs.Items as items
+use Rattle.c_grammar.specs.Terms.{Term, Form, Terms, At, Cell, Prefix, Suffix, CastTo, CastVoid, Binary, Choice, Assign, Commas, Call, NoTerm, Then}
+use Rattle.c_grammar.specs.Items.{Initialiser, NoValue, OneValue, ValueList, Declarator, Declaration, Label, Case, Start, NoStart, StartValue, StartNames, Item, Declares, States, Plain, From, Statement, Evaluate, If, IfElse, While, DoWhile, For, Switch, Block, Return, Body, Braces, Lone, Items, NoItem}
+use Rattle.c_grammar.specs.Items as items
 use Rattle.c_kinds.specs.Marks.{binary_op}
 use Rattle.c_resolved_defs.specs.Within.{Each}
 use Rattle.c_resolved_defs.specs.PrintableExpressions.{bracket_count}

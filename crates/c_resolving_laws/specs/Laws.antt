@@ -11,8 +11,8 @@ use Rattle.c_tree.specs.declared.tree.Item.{Item}
 use Rattle.c_tree.specs.Trees.{Nil, expression_trees, trees_of}
 use Rattle.c_tree.specs.Everywhere.{Everywhere}
 use Rattle.c_tree.specs.InRange.{body_of}
-use Rattle.c_layers.specs.Words.{word_of}
-use Rattle.c_layers.specs.Parts.{file_of}
+use Rattle.c_grammar.specs.Words.{word_of}
+use Rattle.c_grammar.specs.Parts.{file_of}
 use Rattle.c_statements.specs.Functions.{FlatCounts}
 use Rattle.c_comments.specs.Notes.{notes_of}
 use Rattle.c_scopes.specs.Resolving.{resolved}

@@ -2,13 +2,13 @@
 -- assigned or counted, and lists that the grammar asks for have an element.
 use Rattle.std.specs.Prelude.{ℕ, ◌≤◌, ◌<◌, ◌+◌, Bool, List, [], ◌∷◌, Option, Some, None, IfSome, length}
 use Rattle.c_lexer.specs.Marks.{mark_of}
-use Rattle.c_layers.specs.Terms.{Term, Form, Terms, At, Constant, Variable, Cell, Prefix, Suffix, CastTo, CastVoid, Binary, Choice, Assign, Commas, Call, Texts, Unknown, NoTerm}
-use Rattle.c_layers.specs.Terms as terms
-use Rattle.c_layers.specs.Items.{Size, NoSize, Unsized, Sized, Initialiser, NoValue, OneValue, ValueList, Declarator, Declaration, Label, Named, Case, Default, Start, NoStart, StartValue, StartNames, Item, Declares, States, Plain, From, Statement, Null, Evaluate, If, IfElse, While, DoWhile, For, Switch, Block, Goto, Break, Continue, Return, Unread, Body, Braces, Lone, Items, NoItem}
-use Rattle.c_layers.specs.Items as items
-use Rattle.c_layers.specs.Tops.{Enumerator, Parameter, Function, Top, Line, Enum, Globals, Defines}
-use Rattle.c_layers.specs.Tops as tops
-use Rattle.c_layers.specs.Words.{character}
+use Rattle.c_grammar.specs.Terms.{Term, Form, Terms, At, Constant, Variable, Cell, Prefix, Suffix, CastTo, CastVoid, Binary, Choice, Assign, Commas, Call, Texts, Unknown, NoTerm}
+use Rattle.c_grammar.specs.Terms as terms
+use Rattle.c_grammar.specs.Items.{Size, NoSize, Unsized, Sized, Initialiser, NoValue, OneValue, ValueList, Declarator, Declaration, Label, Named, Case, Default, Start, NoStart, StartValue, StartNames, Item, Declares, States, Plain, From, Statement, Null, Evaluate, If, IfElse, While, DoWhile, For, Switch, Block, Goto, Break, Continue, Return, Unread, Body, Braces, Lone, Items, NoItem}
+use Rattle.c_grammar.specs.Items as items
+use Rattle.c_grammar.specs.Tops.{Enumerator, Parameter, Function, Top, Line, Enum, Globals, Defines}
+use Rattle.c_grammar.specs.Tops as tops
+use Rattle.c_grammar.specs.Words.{character}
 use Rattle.c_kinds.specs.Marks.{step_of}
 use Rattle.c_kinds.specs.Typing.{joined_texts}
 use Rattle.c_statements.specs.declared.anchors.Anchor.{Anchor}

@@ -9,12 +9,12 @@ use Rattle.c_grammar.specs.Nodes.{node, leaf}
 use Rattle.c_grammar.specs.Opened.{out_node}
 use Rattle.c_grammar.specs.Shown.{in_postfix, in_unary, in_binary, in_conditional, in_assignment, in_expression, in_argument, raised, innermost, shown}
 use Rattle.c_scopes.specs.FullAbove.{is_full_above}
-use Rattle.c_layers.specs.Kept.{is_variable}
-use Rattle.c_layers.specs.Counted.{own_count, is_full, token_count}
-use Rattle.c_layers.specs.Parts.{Part, part_of, part_layer, greatest, sum_counted}
+use Rattle.c_grammar.specs.Kept.{is_variable}
+use Rattle.c_grammar.specs.Counted.{own_count, is_full, token_count}
+use Rattle.c_grammar.specs.Parts.{Part, part_of, part_layer, greatest, sum_counted}
 use Rattle.c_grammar.specs.Weighed.{open_weight}
-use Rattle.c_layers.proofs.Kept.{shown_weighs}
-use Rattle.c_layers.proofs.Layers.{open_part, weight-at}
+use Rattle.c_grammar.proofs.Kept.{shown_weighs}
+use Rattle.c_grammar.proofs.Layers.{open_part, weight-at}
 use Rattle.c_statements.specs.Measures.{bounded}
 
 pub part-counted : (word : ℕ → List ℕ) (x : Syntax) → (part_of word x).counted ≡ own_count word (out-Syntax x).rule (out-Syntax x).first (length (out-Syntax x).parts) (sum_counted (map (part_of word) (out-Syntax x).parts))

@@ -12,11 +12,11 @@ use Rattle.c_tree.specs.declared.tree.Home.TheVariants as home
 use Rattle.c_tree.specs.declared.tree.Item as item
 use Rattle.c_tree.specs.declared.tree.Test as test
 use Rattle.c_tree.specs.declared.tree.Top.TheVariants as top
-use Rattle.c_layers.specs.Terms.{Term, At, Constant, Variable, Binary, Suffix, Call, NoTerm}
-use Rattle.c_layers.specs.Terms as terms
-use Rattle.c_layers.specs.Items.{NoSize, NoValue, OneValue, Declaration, Named, Case, Default, Declares, States, From, Null, Evaluate, While, Switch, Goto, Break, Return, Braces, Items, Item, Then, NoItem}
-use Rattle.c_layers.specs.Tops as tops
-use Rattle.c_layers.specs.Tops.{Top, Globals, Defines}
+use Rattle.c_grammar.specs.Terms.{Term, At, Constant, Variable, Binary, Suffix, Call, NoTerm}
+use Rattle.c_grammar.specs.Terms as terms
+use Rattle.c_grammar.specs.Items.{NoSize, NoValue, OneValue, Declaration, Named, Case, Default, Declares, States, From, Null, Evaluate, While, Switch, Goto, Break, Return, Braces, Items, Item, Then, NoItem}
+use Rattle.c_grammar.specs.Tops as tops
+use Rattle.c_grammar.specs.Tops.{Top, Globals, Defines}
 use Rattle.c_kinds.specs.Scopes.{fault}
 use Rattle.c_scopes.specs.Files.{File, file_faults, tops_of, start}
 use Rattle.c_scopes.specs.FunctionNames.{bodies_of}

@@ -1,10 +1,10 @@
 -- What stands among the nodes of a list, from an index on.
 use Rattle.std.proofs.Common.{◌≡◌, ◌<◌, ◌+◌, ℕ, suc, List, [], ◌∷◌, length, get_or, map, drop, refl, ap, add-one, drop-cons, ◌∙◌, append_assoc, Option, Some, None}
 use Rattle.c_grammar.specs.declared.syntax.Syntax.{Syntax}
-use Rattle.c_layers.specs.Items.{Declarator}
-use Rattle.c_layers.specs.ItemViews.{declarator_of, declarators_of}
-use Rattle.c_layers.specs.Tops.{Enumerator, Parameter}
-use Rattle.c_layers.specs.TopViews.{enumerator_of, parameter_of}
+use Rattle.c_grammar.specs.Items.{Declarator}
+use Rattle.c_grammar.specs.ItemViews.{declarator_of, declarators_of}
+use Rattle.c_grammar.specs.Tops.{Enumerator, Parameter}
+use Rattle.c_grammar.specs.TopViews.{enumerator_of, parameter_of}
 use Rattle.c_comments.proofs.Nodes.{tops-next}
 use Rattle.c_scopes.specs.NodeViews.{enumerators_of, parameters_of}
 

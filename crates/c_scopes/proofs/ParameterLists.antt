@@ -1,8 +1,8 @@
 -- The parameters among the nodes of a list, from an index on.
 use Rattle.std.proofs.Common.{◌≡◌, ◌<◌, ◌+◌, ℕ, Bool, List, [], ◌∷◌, length, get_or, drop, refl, ap, ◌∙◌, Option, Some, None}
 use Rattle.c_grammar.specs.declared.syntax.Syntax.{Syntax}
-use Rattle.c_layers.specs.Tops.{Parameter}
-use Rattle.c_layers.specs.TopViews.{parameter_of}
+use Rattle.c_grammar.specs.Tops.{Parameter}
+use Rattle.c_grammar.specs.TopViews.{parameter_of}
 use Rattle.c_kinds.specs.Scopes.{Faults}
 use Rattle.c_statements.specs.Context.{Walk}
 use Rattle.c_statements.specs.Functions.{bind_parameters, parameters_faults}

@@ -1,7 +1,7 @@
 -- The block that is a function's body.
 use Rattle.std.specs.Prelude.{ℕ, List, map}
-use Rattle.c_layers.specs.Items.{Body, Braces}
-use Rattle.c_layers.specs.Parts.{part_of, items_in}
+use Rattle.c_grammar.specs.Items.{Body, Braces}
+use Rattle.c_grammar.specs.Parts.{part_of, items_in}
 use Rattle.c_scopes.specs.declared.blocks.Block.{Block}
 
 abbrev pub block_form : (ℕ → List ℕ) → Block → Body

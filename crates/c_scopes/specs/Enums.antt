@@ -3,8 +3,8 @@ use Rattle.std.specs.Prelude.{ℕ, ℤ, pos, ◌+ℤ◌, cond, not, List, [], �
 use Rattle.c_types.specs.declared.kinds.IntKind.TheVariants.{Int}
 use Rattle.c_types.specs.Numbers.{is_in_range}
 use Rattle.c_tree.specs.declared.tree.EnumItem.{EnumItem}
-use Rattle.c_layers.specs.Terms.{Term, first_of}
-use Rattle.c_layers.specs.Tops.{Enumerator}
+use Rattle.c_grammar.specs.Terms.{Term, first_of}
+use Rattle.c_grammar.specs.Tops.{Enumerator}
 use Rattle.c_kinds.specs.declared.binding.Binding.TheVariants.{Constant}
 use Rattle.c_kinds.specs.Scopes.{Env, Faults, fault_if}
 use Rattle.c_kinds.specs.Constants.{constant_of}

@@ -3,7 +3,7 @@ use Rattle.std.specs.Prelude.{ℕ, List}
 use Rattle.c_kinds.specs.Scopes.{Env}
 use Rattle.c_statements.specs.Functions.{FlatCounts}
 use Rattle.c_statements.specs.NoteViews.{notes_of}
-use Rattle.c_layers.specs.Views.{words_of}
+use Rattle.c_grammar.specs.Views.{words_of}
 use Rattle.c_scopes.specs.declared.files.FileContext.{FileContext}
 use Rattle.c_bodies.specs.declared.state.State as declared
 use Rattle.c_scopes.specs.Files.{File, State}

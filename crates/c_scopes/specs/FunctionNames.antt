@@ -6,7 +6,7 @@ use Rattle.std.specs.Str.{bytes_eq}
 use Rattle.c_types.specs.declared.kinds.IntKind.{IntKind}
 use Rattle.c_types.specs.declared.kinds.IntKind.TheVariants.{Int}
 use Rattle.c_types.specs.Words.{is_known, name_cmp}
-use Rattle.c_layers.specs.Tops.{Function, Top, From, Defines}
+use Rattle.c_grammar.specs.Tops.{Function, Top, From, Defines}
 use Rattle.c_kinds.specs.declared.binding.Want.{Want}
 use Rattle.c_kinds.specs.declared.binding.Want.TheVariants as want
 use Rattle.c_kinds.specs.declared.binding.Signature.{Signature}

@@ -3,7 +3,7 @@ use Rattle.std.specs.Prelude.{Bool, false, List, [], ◌∷◌}
 use Rattle.c_tree.specs.declared.tree.Top.{Top}
 use Rattle.c_tree.specs.declared.tree.Top.TheVariants as top
 use Rattle.c_tree.specs.declared.tree.GlobalVariable.{GlobalVariable}
-use Rattle.c_layers.specs.Items.{Declarator}
+use Rattle.c_grammar.specs.Items.{Declarator}
 use Rattle.c_kinds.specs.declared.binding.Binding.TheVariants.{Global}
 use Rattle.c_kinds.specs.Scopes.{Env, Faults, fault_if}
 use Rattle.c_kinds.specs.Typing.{constant_faults}

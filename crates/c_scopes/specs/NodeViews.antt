@@ -1,8 +1,8 @@
 -- What the nodes of a list write, in order.
 use Rattle.std.specs.Prelude.{ℕ, Bool, List, map, Option, Some, None}
 use Rattle.c_grammar.specs.declared.syntax.Syntax.{Syntax}
-use Rattle.c_layers.specs.Parts.{part_of, gathered, enumerator_in, parameter_in}
-use Rattle.c_layers.specs.Tops.{Enumerator, Parameter}
+use Rattle.c_grammar.specs.Parts.{part_of, gathered, enumerator_in, parameter_in}
+use Rattle.c_grammar.specs.Tops.{Enumerator, Parameter}
 use Rattle.c_kinds.specs.Scopes.{Faults}
 use Rattle.c_statements.specs.Context.{Walk}
 use Rattle.c_statements.specs.Functions.{bind_parameter, parameter_fault}

@@ -1,14 +1,13 @@
 //! The bodies of functions, as they are written.
 
 ghost use Rattle.std.specs.Prelude.{◌≡◌, ◌+◌, map, option_map, OnOk};
-ghost use Rattle.c_layers.specs.Parts.{part_of, block_in};
-ghost use Rattle.c_layers.specs.Views.{words_of};
+ghost use Rattle.c_grammar.specs.Parts.{part_of, block_in};
+ghost use Rattle.c_grammar.specs.Views.{words_of};
 ghost use Rattle.c_statements.specs.Labels.{body_labels};
 ghost use Rattle.c_statements.specs.Measures as measures;
 ghost use Rattle.c_scopes.specs.BlockViews.{block_form};
 
-use c_grammar::{Production, SyntaxNode};
-use c_layers::Words;
+use c_grammar::{Production, SyntaxNode, Words};
 use c_statements::{list_depth, list_labels, list_longest};
 use c_types::{Memory, Stack};
 
@@ -22,7 +21,7 @@ pub struct Block<'a> {
 }
 
 /// The block that is a function's body, and none where a `;` stands in its place.
-#[tactic(auto, using(c_layers::proofs::FileScope::opened_tops))]
+#[tactic(auto, using(c_grammar::proofs::FileScope::opened_tops))]
 pub fn block_of<'a>(words: &Words, x: &'a SyntaxNode) -> Option<Block<'a>>
     ensures { block_in (part_of (words_of words.now) x.now) ≡ option_map (block_form (words_of words.now)) result }
 {

@@ -3,13 +3,12 @@
 ghost use Rattle.std.specs.Prelude.{◌≡◌, ◌++◌, ◌∷◌, [], map, IfOk, OnOk};
 ghost use Rattle.c_kinds.specs.Typing.{constant_faults};
 ghost use Rattle.c_kinds.specs.Views.{env_of, term};
-ghost use Rattle.c_layers.specs.ItemViews.{initialiser_form, term_list_of};
-ghost use Rattle.c_layers.specs.Views.{words_of};
+ghost use Rattle.c_grammar.specs.ItemViews.{initialiser_form, term_list_of};
+ghost use Rattle.c_grammar.specs.Views.{words_of};
 ghost use Rattle.c_statements.specs.Declarations as spec;
 
-use c_grammar::SyntaxNode;
+use c_grammar::{InitialiserLayer, SyntaxNode};
 use c_kinds::{Fault, Known, constant_expression, expression_of};
-use c_layers::InitialiserLayer;
 use c_statements::is_token;
 use c_tree::{Expression, Node};
 use c_types::{IntKind, List, Memory, Stack};

@@ -4,14 +4,13 @@ ghost use Rattle.std.specs.Prelude.{◌≡◌, ◌+◌, ℕ, true, [], map, Some
 ghost use Rattle.c_grammar.specs.TokenClasses.{class_of_found};
 ghost use Rattle.c_grammar.specs.declared.syntax.Production.TheVariants as p;
 ghost use Rattle.c_grammar.specs.Shown.{innermost};
-ghost use Rattle.c_layers.specs.Counted as counted;
-ghost use Rattle.c_layers.specs.Parts.{part_of, greatest, sum_counted};
-ghost use Rattle.c_layers.specs.Views.{words_of};
+ghost use Rattle.c_grammar.specs.Counted as counted;
+ghost use Rattle.c_grammar.specs.Parts.{part_of, greatest, sum_counted};
+ghost use Rattle.c_grammar.specs.Views.{words_of};
 ghost use Rattle.c_scopes.specs.FullAbove as spec;
 ghost use Rattle.c_statements.specs.Measures.{bounded};
 
-use c_grammar::{Opened, Production, SyntaxNode};
-use c_layers::{Words, is_variable};
+use c_grammar::{Opened, Production, SyntaxNode, Words, is_variable};
 use c_lexer::{Mark, mark_of};
 use c_statements::greater;
 

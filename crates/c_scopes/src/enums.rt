@@ -2,9 +2,9 @@
 
 ghost use Rattle.std.specs.Prelude.{◌≡◌, ◌++◌, ◌∷◌, [], map, Some, negsuc, option_map, option_and_then, IfOk, OnOk};
 ghost use Rattle.c_kinds.specs.Views.{env_of, term};
-ghost use Rattle.c_layers.specs.Parts.{part_of, gathered, enumerator_in};
-ghost use Rattle.c_layers.specs.TopViews.{enumerator_form};
-ghost use Rattle.c_layers.specs.Views.{words_of};
+ghost use Rattle.c_grammar.specs.Parts.{part_of, gathered, enumerator_in};
+ghost use Rattle.c_grammar.specs.TopViews.{enumerator_form};
+ghost use Rattle.c_grammar.specs.Views.{words_of};
 ghost use Rattle.c_statements.specs.Declarations.{constant_at, constant_or_placeholder};
 ghost use Rattle.c_scopes.specs.Enums as spec;
 ghost use Rattle.c_scopes.specs.FileNames.{file_name_faults};
@@ -12,9 +12,8 @@ ghost use Rattle.c_scopes.specs.NodeViews.{enumerators_of};
 
 use crate::constants::placeholder;
 use crate::file_names::{bind_name, report_file_name};
-use c_grammar::SyntaxNode;
+use c_grammar::{EnumeratorLayer, SyntaxNode, Words, enumerator_layer, first_token};
 use c_kinds::{Binding, Fault, Known, constant_expression, name_of, report_if};
-use c_layers::{EnumeratorLayer, Words, enumerator_layer, first_token};
 use c_tree::{EnumItem, Expression};
 use c_types::{IntKind, List, Memory, Stack};
 use std::alloc::Global;

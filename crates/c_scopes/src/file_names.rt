@@ -2,7 +2,7 @@
 
 ghost use Rattle.std.specs.Prelude.{◌≡◌, OnOk};
 ghost use Rattle.c_kinds.specs.Views.{env_of};
-ghost use Rattle.c_layers.specs.Views.{words_of};
+ghost use Rattle.c_grammar.specs.Views.{words_of};
 ghost use Rattle.c_scopes.specs.FileNames as spec;
 
 use c_kinds::{Binding, Fault, Known, report_if};

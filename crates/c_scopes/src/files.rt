@@ -2,11 +2,11 @@
 
 ghost use Rattle.std.specs.Prelude.{◌≡◌, ◌++◌, ◌∷◌, [], Some, negsuc, map, IfOk, OnOk};
 ghost use Rattle.c_kinds.specs.Views.{env_of};
-ghost use Rattle.c_layers.specs.ItemViews.{declaration_of};
-ghost use Rattle.c_layers.specs.TopViews.{function_form, top_form, top_of};
-ghost use Rattle.c_layers.specs.Views.{words_of};
+ghost use Rattle.c_grammar.specs.ItemViews.{declaration_of};
+ghost use Rattle.c_grammar.specs.TopViews.{function_form, top_form, top_of};
+ghost use Rattle.c_grammar.specs.Views.{words_of};
 ghost use Rattle.c_statements.specs.NoteViews.{all_now, notes_of};
-ghost use Rattle.c_layers.specs.Tops as tops;
+ghost use Rattle.c_grammar.specs.Tops as tops;
 ghost use Rattle.c_comments.specs.NodeViews.{tops_in};
 ghost use Rattle.c_scopes.specs.Enums as enums;
 ghost use Rattle.c_scopes.specs.FunctionNames as names;
@@ -21,9 +21,8 @@ use crate::function_names::{FunctionNames, add_body, declare_function};
 use crate::functions::{Outside, read_function};
 use crate::globals::read_globals;
 use c_bodies::State;
-use c_grammar::SyntaxNode;
+use c_grammar::{FunctionLayer, SyntaxNode, TopLayer, declaration_layer, top_layer};
 use c_kinds::{Fault, Known};
-use c_layers::{FunctionLayer, TopLayer, declaration_layer, top_layer};
 use c_statements::{Anchor, Notes, kinded};
 use c_tree::Top;
 use c_types::{List, Memory, Stack};

@@ -3,17 +3,18 @@
 ghost use Rattle.std.specs.Prelude.{◌≡◌, [], IfOk, OnOk};
 ghost use Rattle.std.specs.Option.{option_copied};
 ghost use Rattle.c_kinds.specs.Views.{env_of};
-ghost use Rattle.c_layers.specs.TopViews.{function_form, top_of};
-ghost use Rattle.c_layers.specs.Views.{words_of};
+ghost use Rattle.c_grammar.specs.TopViews.{function_form, top_of};
+ghost use Rattle.c_grammar.specs.Views.{words_of};
 ghost use Rattle.c_comments.specs.NodeViews.{tops_in};
 ghost use Rattle.c_scopes.specs.FunctionNames as spec;
 ghost use Rattle.c_scopes.specs.NodeViews.{parameters_of};
 
 use crate::file_names::bind_name;
 use crate::signatures::{result_kind, same_result, same_signature, signature};
-use c_grammar::SyntaxNode;
+use c_grammar::{
+    FunctionLayer, SyntaxNode, TopLayer, Words, block_layer, parameter_layer, top_layer,
+};
 use c_kinds::{Binding, Fault, Known, Signature, report, report_if};
-use c_layers::{FunctionLayer, TopLayer, Words, block_layer, parameter_layer, top_layer};
 use c_types::{IntKind, Memory, Stack, is_known};
 use name_keys::{Key, key_of};
 use std::alloc::Global;

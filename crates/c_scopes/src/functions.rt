@@ -2,8 +2,8 @@
 
 ghost use Rattle.std.specs.Prelude.{◌≡◌, [], Some, drop, map, IfOk, OnOk};
 ghost use Rattle.c_bodies.specs.Views.{context_of, walk_of};
-ghost use Rattle.c_layers.specs.TopViews.{function_form};
-ghost use Rattle.c_layers.specs.Views.{words_of};
+ghost use Rattle.c_grammar.specs.TopViews.{function_form};
+ghost use Rattle.c_grammar.specs.Views.{words_of};
 ghost use Rattle.c_statements.specs.Functions as spec;
 ghost use Rattle.c_statements.specs.Labels as labels;
 ghost use Rattle.c_statements.specs.NoteViews.{notes_of};
@@ -17,8 +17,8 @@ use crate::parameters::read_parameters;
 use crate::signatures::result_kind;
 use crate::tangle::{is_tangled, measures_of};
 use c_bodies::{FunctionContext, State};
+use c_grammar::{FunctionLayer, Words};
 use c_kinds::{Fault, name_of, report_if};
-use c_layers::{FunctionLayer, Words};
 use c_statements::{FunctionLabels, LabelNumbers, Notes, function_labels};
 use c_tree::{Function, Item, Slot};
 use c_types::{List, Memory, Name, Stack};

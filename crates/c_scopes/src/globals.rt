@@ -2,8 +2,8 @@
 
 ghost use Rattle.std.specs.Prelude.{◌≡◌, ◌++◌, ◌∷◌, [], IfOk, OnOk};
 ghost use Rattle.c_kinds.specs.Views.{env_of};
-ghost use Rattle.c_layers.specs.ItemViews.{declarator_form, declarators_of, initialiser_form, size_form};
-ghost use Rattle.c_layers.specs.Views.{words_of};
+ghost use Rattle.c_grammar.specs.ItemViews.{declarator_form, declarators_of, initialiser_form, size_form};
+ghost use Rattle.c_grammar.specs.Views.{words_of};
 ghost use Rattle.c_statements.specs.Declarations as spec;
 ghost use Rattle.c_tree.specs.declared.tree.Top.TheVariants as top;
 ghost use Rattle.c_scopes.specs.FileNames.{file_name_faults};
@@ -11,9 +11,8 @@ ghost use Rattle.c_scopes.specs.Globals as globals;
 
 use crate::constants::constant_initial;
 use crate::file_names::{bind_name, report_file_name};
-use c_grammar::SyntaxNode;
+use c_grammar::{DeclaratorLayer, SyntaxNode, Words, declarator_layer};
 use c_kinds::{Binding, Fault, Known, Shape, name_of, report_if};
-use c_layers::{DeclaratorLayer, Words, declarator_layer};
 use c_statements::{
     Extent, Kinded, Length, cells_of, extent_of, is_array, is_bad_shape, read_length,
 };

@@ -2,13 +2,13 @@
 
 ghost use Rattle.std.specs.Prelude.{◌≡◌, IfOk, OnOk};
 ghost use Rattle.c_bodies.specs.Views.{context_of, walk_of};
-ghost use Rattle.c_layers.specs.Views.{words_of};
+ghost use Rattle.c_grammar.specs.Views.{words_of};
 ghost use Rattle.c_statements.specs.Functions as spec;
 ghost use Rattle.c_scopes.specs.BlockViews.{block_form};
 
 use crate::blocks::Block;
 use c_bodies::{FunctionContext, State, function_body};
-use c_layers::BodyLayer;
+use c_grammar::BodyLayer;
 use c_tree::Item;
 use c_types::{List, Memory};
 use std::alloc::Global;

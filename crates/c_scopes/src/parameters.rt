@@ -3,9 +3,9 @@
 ghost use Rattle.std.specs.Prelude.{◌≡◌, ◌++◌, ◌∷◌, [], length, IfOk, OnOk};
 ghost use Rattle.c_bodies.specs.Views.{walk_of};
 ghost use Rattle.c_kinds.specs.Views.{env_of};
-ghost use Rattle.c_layers.specs.ItemViews.{size_form};
-ghost use Rattle.c_layers.specs.TopViews.{parameter_form, parameter_of};
-ghost use Rattle.c_layers.specs.Views.{words_of};
+ghost use Rattle.c_grammar.specs.ItemViews.{size_form};
+ghost use Rattle.c_grammar.specs.TopViews.{parameter_form, parameter_of};
+ghost use Rattle.c_grammar.specs.Views.{words_of};
 ghost use Rattle.c_statements.specs.Declarations.{walk};
 ghost use Rattle.c_statements.specs.Functions as spec;
 ghost use Rattle.c_scopes.specs.NodeViews as views;
@@ -13,9 +13,8 @@ ghost use Rattle.c_scopes.specs.NodeViews.{parameters_of};
 
 use crate::signatures::parameter_kind;
 use c_bodies::State;
-use c_grammar::SyntaxNode;
+use c_grammar::{ParameterLayer, SyntaxNode, Words, parameter_layer};
 use c_kinds::{Binding, Fault, Known, Shape, name_of, report_if};
-use c_layers::{ParameterLayer, Words, parameter_layer};
 use c_statements::{is_array, read_length};
 use c_tree::Slot;
 use c_types::{List, Memory, Name, Stack};

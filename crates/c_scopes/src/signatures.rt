@@ -1,16 +1,15 @@
 //! Signatures of functions (ISO/IEC 9899:2011, 6.7.6.3).
 
 ghost use Rattle.std.specs.Prelude.{◌≡◌, ◌++◌, ◌∷◌, [], map, option_map, IfOk, OnOk};
-ghost use Rattle.c_layers.specs.TopViews.{function_form, parameter_form};
-ghost use Rattle.c_layers.specs.Views.{words_of};
-ghost use Rattle.c_layers.specs.Words as source;
+ghost use Rattle.c_grammar.specs.TopViews.{function_form, parameter_form};
+ghost use Rattle.c_grammar.specs.Views.{words_of};
+ghost use Rattle.c_grammar.specs.Words as source;
 ghost use Rattle.c_statements.specs.Functions as functions;
 ghost use Rattle.c_scopes.specs.FunctionNames as spec;
 ghost use Rattle.c_scopes.specs.NodeViews.{parameters_of};
 
-use c_grammar::SyntaxNode;
+use c_grammar::{FunctionLayer, ParameterLayer, SyntaxNode, Words, kind_of, parameter_layer};
 use c_kinds::{Signature, Want, same_kind, same_truth};
-use c_layers::{FunctionLayer, ParameterLayer, Words, kind_of, parameter_layer};
 use c_statements::is_array;
 use c_types::{IntKind, List, Memory};
 use std::alloc::Global;

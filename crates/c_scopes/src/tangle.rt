@@ -1,16 +1,16 @@
 //! The numbers by which a function with jumps is too tangled.
 
 ghost use Rattle.std.specs.Prelude.{◌≡◌, OnOk};
-ghost use Rattle.c_layers.specs.TopViews.{function_form};
-ghost use Rattle.c_layers.specs.Views.{words_of};
+ghost use Rattle.c_grammar.specs.TopViews.{function_form};
+ghost use Rattle.c_grammar.specs.Views.{words_of};
 ghost use Rattle.c_statements.specs.Functions as functions;
 ghost use Rattle.c_statements.specs.Measures as spec;
 ghost use Rattle.c_scopes.specs.BlockViews.{block_form};
 
 use crate::blocks::{Block, block_depth, block_longest};
 use crate::counted::counts_in;
+use c_grammar::{FunctionLayer, Words};
 use c_kinds::{Fault, report_if};
-use c_layers::{FunctionLayer, Words};
 use c_statements::Measures;
 use c_types::{Memory, Stack};
 

@@ -5,8 +5,8 @@ ghost use Rattle.c_grammar.specs.TokenClasses.{offset_of as the_offset};
 ghost use Rattle.c_lexer.specs.Pieces.{IsWithin};
 ghost use Rattle.c_scopes.specs.Resolving as spec;
 
+use c_grammar::Words;
 use c_kinds::Fault;
-use c_layers::Words;
 use c_lexer::{Token, refusal_at};
 use c_types::{Refusal, Stack};
 

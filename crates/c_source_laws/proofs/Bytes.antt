@@ -7,9 +7,9 @@ use Rattle.c_lexer.specs.declared.token.Token.{Token}
 use Rattle.c_lexer.specs.Bytes.{is_octal_digit, is_hexadecimal_digit}
 use Rattle.c_lexer.specs.Numbers.{value_of}
 use Rattle.c_lexer.proofs.Truths.{both_true}
-use Rattle.c_layers.specs.Words.{Element, Itself, Simple, Octal, Hexadecimal, escape_value, written, value, escape, first_element, Writes, nothing, element, within_quotes, first_value, character, bytes_of, word_of}
-use Rattle.c_layers.specs.DecodingSteps.{decoded}
-use Rattle.c_layers.proofs.DecodedSteps.{decoded_writes}
+use Rattle.c_grammar.specs.Words.{Element, Itself, Simple, Octal, Hexadecimal, escape_value, written, value, escape, first_element, Writes, nothing, element, within_quotes, first_value, character, bytes_of, word_of}
+use Rattle.c_grammar.specs.DecodingSteps.{decoded}
+use Rattle.c_grammar.proofs.DecodedSteps.{decoded_writes}
 use Rattle.c_kinds.specs.Typing.{joined_texts}
 use Rattle.c_resolved_defs.specs.PrintableExpressions.{AreBytes}
 

@@ -8,7 +8,7 @@ use Rattle.c_lexer.specs.Pieces as l
 use Rattle.c_lexer.proofs.PieceLemmas.{Stands}
 use Rattle.c_lexer.proofs.PieceWalks.{spells_walked, comments_are}
 use Rattle.c_statements.specs.declared.anchors.Anchor.{Anchor}
-use Rattle.c_layers.specs.Tops.{Top}
+use Rattle.c_grammar.specs.Tops.{Top}
 use Rattle.c_comments.specs.Notes.{notes_of, place_in, next_token}
 use Rattle.c_statements.specs.Context.{same_place}
 use Rattle.c_resolved_defs.specs.Verbatims.{IsComment}

@@ -12,9 +12,9 @@ use Rattle.c_grammar.specs.Expressions.{Base, CharBase, IntBase, LongBase, LongI
 use Rattle.c_grammar.specs.ExpressionSyntax.{base_parts, type_end, type_parts, type_node, expression_node, assignment_end, assignment_node, conditional_end, conditional_node}
 use Rattle.c_grammar.specs.Statements.{Size, NoSize, Unsized, Sized, Initialiser, OneValue, ValueList, Declarator, Declared, Local, Locals, more_tokens, rest_tokens, size_tokens, initialiser_tokens, value_tokens, declarator_tokens, local_tokens, FitsMore, FitsSize, FitsInitialiser, FitsValue, FitsDeclarator, FitsLocal}
 use Rattle.c_grammar.specs.StatementSyntax.{word_end, more_end, size_end, initialiser_end, value_end, declarator_end, word_parts, more_parts, rest_parts, size_parts, initialiser_parts, initialiser_node, value_parts, declarator_node, local_node}
-use Rattle.c_layers.specs.Counted.{is_full}
-use Rattle.c_layers.specs.Parts.{part_of, greatest}
-use Rattle.c_layers.specs.Terms.{At}
+use Rattle.c_grammar.specs.Counted.{is_full}
+use Rattle.c_grammar.specs.Parts.{part_of, greatest}
+use Rattle.c_grammar.specs.Terms.{At}
 use Rattle.c_resolved_defs.specs.Within.{Each}
 use Rattle.reread_parts_laws.specs.WrittenExpressions.{expression_form, assignment_form, conditional_form}
 use Rattle.reread_parts_laws.specs.WrittenStatements.{further_terms, written_initialiser, written_value, written_declarator, further_declarators, written_declaration}

@@ -12,8 +12,8 @@ use Rattle.c_grammar.specs.Statements.{Block, Braces, Local, rest_tokens, FitsMo
 use Rattle.c_grammar.specs.StatementSyntax.{word_end, size_end, word_parts, size_parts}
 use Rattle.c_grammar.specs.Files.{Parameter, Typed, Parameters, NoParameters, VoidParameters, SomeParameters, Enumeration, Enumerated, Declares, Function, Defined, parameter_tokens, parameters_tokens, enumerator_tokens, enumeration_tokens, declaration_tokens, body_tokens, function_tokens, FitsParameter, FitsParameters, FitsConstant, FitsEnumeration, FitsBody, FitsFunction}
 use Rattle.c_grammar.specs.FileSyntax.{parameter_end, parameters_end, enumerator_end, result_end, parameter_node, parameters_parts, result_node, body_node}
-use Rattle.c_layers.specs.Parts.{part_of, greatest}
-use Rattle.c_layers.specs.Tops as s
+use Rattle.c_grammar.specs.Parts.{part_of, greatest}
+use Rattle.c_grammar.specs.Tops as s
 use Rattle.c_resolved_defs.specs.Within.{Each}
 use Rattle.reread_parts_laws.specs.WrittenStatements.{written_declaration}
 use Rattle.reread_parts_laws.specs.WrittenFunctions.{written_function_body, function_parts, written_function}

@@ -9,8 +9,8 @@ use Rattle.c_grammar.specs.Classes.{level, is_assign, is_prefix}
 use Rattle.c_grammar.specs.Nodes.{node, leaf}
 use Rattle.c_grammar.specs.Expressions.{Base, CharBase, IntBase, LongBase, LongIntBase, NumberType, OfBase, Signed, SignedOf, Unsigned, UnsignedOf, Expression, One, More, Assignment, To, Value, Conditional, Choose, Only, Binary, Single, Both, Unary, Prefixed, StepTo, CastTo, CastVoid, Place, StepAfter, CallNone, CallWith, Number, Character, Within, Target, Variable, Cell, Round, Arguments, Last, Then, Argument, Given, Written, Texts, OneText, MoreTexts, base_tokens, type_tokens, expression_tokens, assignment_tokens, conditional_tokens, binary_tokens, unary_tokens, target_tokens, arguments_tokens, argument_tokens, texts_tokens, FitsExpression, FitsAssignment, FitsConditional, FitsBinary, FitsUnary, FitsTarget, FitsArguments, FitsArgument}
 use Rattle.c_grammar.specs.ExpressionSyntax.{base_parts, type_end, type_parts, type_node, expression_end, assignment_end, conditional_end, binary_end, unary_end, target_end, arguments_end, argument_end, texts_end, expression_parts, assignment_node, conditional_node, binary_node, unary_parts, target_node, arguments_parts, argument_node, texts_parts, expression_node, unary_node}
-use Rattle.c_layers.specs.Counted.{is_full, own_count}
-use Rattle.c_layers.specs.Parts.{Part, part_of, sum_counted, greatest}
+use Rattle.c_grammar.specs.Counted.{is_full, own_count}
+use Rattle.c_grammar.specs.Parts.{Part, part_of, sum_counted, greatest}
 use Rattle.reread_parts_laws.proofs.ExpressionSources.{part_node}
 use Rattle.c_source_laws.proofs.Past.{type_past, expression_past, assignment_past, binary_past, target_past, arguments_past, argument_past}
 use Rattle.c_source_laws.proofs.Numbered.{Along}

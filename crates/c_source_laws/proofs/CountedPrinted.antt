@@ -6,7 +6,7 @@ use Rattle.c_grammar.specs.declared.class.Class.TheVariants as c
 use Rattle.c_grammar.specs.Classes.{level}
 use Rattle.c_grammar.specs.Expressions.{Expression, One, More, Assignment, To, Value, Conditional, Choose, Only, Binary, Single, Both, Unary, Prefixed, StepTo, CastTo, CastVoid, Place, StepAfter, CallNone, CallWith, Number, Character, Within, Target, Variable, Cell, Round, Arguments, Last, Then, Argument, Given, Written, expression_tokens, assignment_tokens, conditional_tokens, binary_tokens, unary_tokens, target_tokens, arguments_tokens, argument_tokens, root, FitsExpression, FitsAssignment, FitsConditional, FitsBinary, FitsUnary, FitsTarget, FitsArguments, FitsArgument}
 use Rattle.c_grammar.specs.ExpressionSyntax.{type_end, expression_end, assignment_end, binary_end, target_end, argument_end}
-use Rattle.c_layers.specs.Terms.{Form}
+use Rattle.c_grammar.specs.Terms.{Form}
 use Rattle.c_resolved_defs.specs.PrintableExpressions.{bracket_count}
 use Rattle.reread_parts_laws.specs.WrittenExpressions.{expression_form, expression_terms, assignment_form, conditional_form, binary_form, unary_form, target_form, arguments_terms, argument_form}
 use Rattle.c_resolving_laws.specs.Counts.{form_level, form_counted, commas_counted, all_counted}

@@ -11,8 +11,8 @@ use Rattle.c_grammar.specs.Expressions.{Expression, expression_tokens, FitsExpre
 use Rattle.c_grammar.specs.ExpressionSyntax.{expression_end, expression_node, conditional_end}
 use Rattle.c_grammar.specs.Statements.{Label, NameLabel, CaseLabel, DefaultLabel, ForStart, StartLocal, StartValue, Braces, Items, NoItems, LocalItem, StatementItem, Statement, Labelled, Unlabelled, Plain, Compound, Simple, If, IfElse, While, DoWhile, For, Switch, Goto, Break, Continue, Return, is_block, optional_tokens, label_tokens, for_start_tokens, items_tokens, statement_tokens, plain_tokens, FitsOptional, FitsLabel, FitsForStart, FitsItems, FitsStatement, FitsPlain}
 use Rattle.c_grammar.specs.StatementSyntax.{optional_end, local_end, label_end, for_start_end, items_end, statement_end, plain_end, optional_parts, label_parts, label_node, for_start_parts, items_parts, statement_parts, plain_parts, block_node, statement_node}
-use Rattle.c_layers.specs.Items as s
-use Rattle.c_layers.specs.Parts.{list_of_plain}
+use Rattle.c_grammar.specs.Items as s
+use Rattle.c_grammar.specs.Parts.{list_of_plain}
 use Rattle.c_resolved_defs.specs.Within.{Each}
 use Rattle.reread_parts_laws.specs.WrittenStatements.{optional_term, written_label, written_start, written_labels, written_items, behind_labels, written_plain, written_body}
 use Rattle.c_resolving_laws.specs.Counts.{IsFew, IsFewLabel, IsFewStart, IsFewPlain, IsFewStatement, IsFewBody, AreFewItems}

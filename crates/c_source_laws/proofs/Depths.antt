@@ -10,7 +10,7 @@ use Rattle.c_grammar.specs.Statements.{Size, NoSize, Unsized, Sized, Initialiser
 use Rattle.c_grammar.specs.StatementSyntax.{word_end, optional_end, local_end, label_end, for_start_end, statement_end}
 use Rattle.c_grammar.specs.Files.{Parameter, Typed, Parameters, NoParameters, VoidParameters, SomeParameters, Enumeration, Enumerated, Declares, Defined, Top, Line, OfEnum, OfDeclaration, OfFunction}
 use Rattle.c_grammar.specs.FileSyntax.{parameters_end, result_end, top_end}
-use Rattle.c_layers.specs.Tops as s
+use Rattle.c_grammar.specs.Tops as s
 use Rattle.c_statements.specs.Measures.{plain_depth, statement_depth, body_depth, list_depth}
 use Rattle.c_resolved_defs.specs.Within.{Each}
 use Rattle.reread_parts_laws.specs.WrittenStatements.{behind_labels, written_plain, written_items, written_body}

@@ -21,7 +21,7 @@ use Rattle.c_lexer.proofs.Truths.{both_true}
 use Rattle.c_grammar.specs.declared.class.Class.{Class}
 use Rattle.c_grammar.specs.declared.class.Class.TheVariants as c
 use Rattle.c_grammar.specs.TokenClasses.{class_of, class_of_bytes, class_of_found, classes_of}
-use Rattle.c_layers.specs.Words.{word_of}
+use Rattle.c_grammar.specs.Words.{word_of}
 use Rattle.c_resolved_defs.specs.Verbatims.{IsDirective, IsOneLine}
 use Rattle.c_resolved_defs.specs.Within.{Each}
 use Rattle.print_laws.specs.Reread.{Spelling, spelling_of}

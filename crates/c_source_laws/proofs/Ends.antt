@@ -5,8 +5,8 @@ use Rattle.c_grammar.specs.Expressions.{Base, CharBase, IntBase, LongBase, LongI
 use Rattle.c_grammar.specs.ExpressionSyntax.{base_end, type_end, expression_end, assignment_end, conditional_end, binary_end, unary_end, target_end, arguments_end, argument_end, texts_end}
 use Rattle.c_grammar.specs.Statements.{Size, NoSize, Unsized, Sized, Initialiser, OneValue, ValueList, Declarator, Declared, Local, Locals, NameLabel, CaseLabel, DefaultLabel, ForStart, StartLocal, StartValue, Braces, Items, NoItems, LocalItem, StatementItem, Statement, Labelled, Unlabelled, Plain, Compound, Simple, If, IfElse, While, DoWhile, For, Switch, Goto, Break, Continue, Return}
 use Rattle.c_grammar.specs.StatementSyntax.{word_end, more_end, rest_end, optional_end, size_end, initialiser_end, value_end, declarator_end, local_end, for_start_end, items_end, statement_end, plain_end}
-use Rattle.c_layers.specs.Items as s
-use Rattle.c_layers.specs.Parts.{list_of_plain}
+use Rattle.c_grammar.specs.Items as s
+use Rattle.c_grammar.specs.Parts.{list_of_plain}
 use Rattle.reread_parts_laws.specs.WrittenStatements.{written_labels, behind_labels, written_plain, written_items, written_body}
 use Rattle.c_resolving_laws.specs.Read.{label_cases, plain_cases, statement_cases, body_cases, list_cases}
 use Rattle.c_source_laws.specs.Classed.{Stand}

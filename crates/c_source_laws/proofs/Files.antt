@@ -9,7 +9,7 @@ use Rattle.c_grammar.specs.Statements.{Block, Braces, word_tokens, more_tokens, 
 use Rattle.c_grammar.specs.StatementSyntax.{word_end, more_end, rest_end}
 use Rattle.c_grammar.specs.Files.{Parameter, Typed, Parameters, NoParameters, VoidParameters, SomeParameters, Enumeration, Enumerated, Declares, Function, Defined, Top, Line, OfEnum, OfDeclaration, OfFunction, parameter_tokens, parameters_tokens, constant_tokens, enumerator_tokens, enumeration_tokens, result_tokens, body_tokens, function_tokens, top_tokens, file_tokens, FitsParameter, FitsParameters, FitsConstant, FitsEnumeration, FitsBody, FitsFunction, FitsTop, FitsFile}
 use Rattle.c_grammar.specs.FileSyntax.{parameter_end, parameters_end, enumerator_end, enumeration_end, result_end, body_end, function_end, top_end}
-use Rattle.c_layers.specs.Tops as s
+use Rattle.c_grammar.specs.Tops as s
 use Rattle.c_resolved_defs.specs.PrintableExpressions.{AreBytes}
 use Rattle.c_resolved_defs.specs.Within.{Each}
 use Rattle.reread_parts_laws.specs.Keywords.{BodyHasKeywords, FunctionHasKeywords}

@@ -4,7 +4,7 @@ use Rattle.c_grammar.specs.declared.class.Class.{Class}
 use Rattle.c_grammar.specs.declared.class.Class.TheVariants as c
 use Rattle.c_grammar.specs.Expressions.{Expression, Assignment, FitsExpression, FitsAssignment}
 use Rattle.c_grammar.specs.Statements.{Size, NoSize, Unsized, Sized, Initialiser, OneValue, ValueList, Declarator, Declared, Local, Locals, Label, NameLabel, CaseLabel, DefaultLabel, ForStart, StartLocal, StartValue, Block, Braces, Items, NoItems, LocalItem, StatementItem, Statement, Labelled, Unlabelled, Plain, Compound, Simple, If, IfElse, While, DoWhile, For, Switch, Goto, Break, Continue, Return, is_statement_open, is_plain_open, FitsMore, FitsOptional, FitsSize, FitsInitialiser, FitsValue, FitsDeclarator, FitsLocal, FitsLabel, FitsForStart, FitsBlock, FitsItems, FitsStatement, FitsPlain}
-use Rattle.c_layers.specs.Items as s
+use Rattle.c_grammar.specs.Items as s
 use Rattle.c_reading_defs.specs.Symbols.{Symbol, token_behind}
 use Rattle.c_reading_defs.specs.DerivedItems.{MayBe, AreMore, AreEach, IsSize, IsValue, IsInitialiser, IsGiven, IsDeclarator, IsDeclaration, IsOptional, IsLabel, IsStart, IsTested, IsBlock, AreItems, IsStatement, IsBody, IsPlain}
 use Rattle.c_reading_defs.specs.DerivedItems as r

@@ -4,8 +4,8 @@ use Rattle.c_grammar.specs.declared.class.Class.{Class}
 use Rattle.c_grammar.specs.declared.class.Class.TheVariants as c
 use Rattle.c_grammar.specs.Expressions.{FitsExpression, FitsAssignment}
 use Rattle.c_grammar.specs.Statements.{NoSize, Unsized, Sized, OneValue, ValueList, Declared, Locals, NameLabel, CaseLabel, DefaultLabel, StartLocal, StartValue, Braces, NoItems, LocalItem, StatementItem, Statement, Labelled, Unlabelled, Plain, Compound, Simple, If, IfElse, While, DoWhile, For, Switch, Goto, Break, Continue, Return, is_statement_open, is_plain_open, FitsMore, FitsOptional, FitsSize, FitsInitialiser, FitsValue, FitsDeclarator, FitsLocal, FitsLabel, FitsForStart, FitsBlock, FitsItems, FitsStatement, FitsPlain}
-use Rattle.c_layers.specs.Terms.{Term, At}
-use Rattle.c_layers.specs.Items as s
+use Rattle.c_grammar.specs.Terms.{Term, At}
+use Rattle.c_grammar.specs.Items as s
 use Rattle.c_reading_defs.specs.Symbols.{Symbol, Outside, token_behind, numbers_of}
 use Rattle.c_reading_defs.specs.DerivedItems.{MayBe, AreMore, AreEach, IsSize, IsValue, IsInitialiser, IsGiven, IsDeclarator, IsDeclaration, IsOptional, IsLabel, IsStart, IsTested, nested, IsBlock, AreItems, IsStatement, IsBody, IsPlain}
 use Rattle.c_reading_defs.specs.DerivedItems as r

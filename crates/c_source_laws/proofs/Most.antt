@@ -9,8 +9,8 @@ use Rattle.c_grammar.specs.Events.{Event, Uncounted, Counted, count_of}
 use Rattle.c_grammar.specs.Counts.{base_events, type_events, expression_events, assignment_events, conditional_events, binary_events, unary_events, target_events, arguments_events, argument_events, texts_events}
 use Rattle.c_grammar.specs.Expressions.{Base, CharBase, IntBase, LongBase, LongIntBase, NumberType, OfBase, Signed, SignedOf, Unsigned, UnsignedOf, Expression, One, More, Assignment, To, Value, Conditional, Choose, Only, Binary, Single, Both, Unary, Prefixed, StepTo, CastTo, CastVoid, Place, StepAfter, CallNone, CallWith, Number, Character, Within, Target, Variable, Cell, Round, Arguments, Last, Then, Argument, Given, Written, Texts, OneText, MoreTexts, expression_tokens, assignment_tokens, conditional_tokens, FitsExpression, FitsAssignment, FitsConditional}
 use Rattle.c_grammar.specs.ExpressionSyntax.{base_parts, type_end, type_parts, type_node, expression_node, assignment_node, conditional_node}
-use Rattle.c_layers.specs.Counted.{is_full}
-use Rattle.c_layers.specs.Parts.{part_of, greatest}
+use Rattle.c_grammar.specs.Counted.{is_full}
+use Rattle.c_grammar.specs.Parts.{part_of, greatest}
 use Rattle.c_source_laws.proofs.Limits.{peak}
 use Rattle.c_source_laws.proofs.Numbered.{Along}
 use Rattle.c_source_laws.proofs.Weights.{IsWeighed}

@@ -8,7 +8,7 @@ use Rattle.c_lexer.specs.Pieces.{Piece, spelled, bare, word_kind, tokens_of, Fit
 use Rattle.c_lexer.specs.Pieces as l
 use Rattle.c_grammar.specs.declared.class.Class.TheVariants as c
 use Rattle.c_grammar.specs.TokenClasses.{class_of_bytes, classes_of}
-use Rattle.c_layers.specs.Words.{word_of}
+use Rattle.c_grammar.specs.Words.{word_of}
 use Rattle.c_resolved_defs.specs.Within.{Each}
 use Rattle.print_laws.specs.Reread.{Spelling, spelling_of}
 use Rattle.c_source_laws.specs.Classed.{IsFound, IsClassed}

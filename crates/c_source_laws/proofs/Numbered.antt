@@ -12,7 +12,7 @@ use Rattle.c_lexer.proofs.Theorem.{scan_read_back}
 use Rattle.c_grammar.specs.declared.class.Class.{Class}
 use Rattle.c_grammar.specs.declared.class.Class.TheVariants as c
 use Rattle.c_grammar.specs.TokenClasses.{class_of, classes_of}
-use Rattle.c_layers.specs.Words.{bytes_of, word_of}
+use Rattle.c_grammar.specs.Words.{bytes_of, word_of}
 use Rattle.c_resolved_defs.specs.Within.{Each}
 use Rattle.print_laws.specs.Reread.{Spelling, spelling_of, spellings, read_at}
 use Rattle.print_laws.proofs.Tokens.{tokens_read}

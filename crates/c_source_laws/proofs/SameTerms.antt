@@ -2,8 +2,8 @@
 use Rattle.std.proofs.Common.{◌≡◌, ◌+◌, ℕ, List, ◌∷◌, refl, ap, ◌∙◌, arith}
 use Rattle.c_grammar.specs.Expressions.{Base, CharBase, IntBase, LongBase, LongIntBase, NumberType, OfBase, Signed, SignedOf, Unsigned, UnsignedOf, Expression, One, More, Assignment, To, Value, Conditional, Choose, Only, Binary, Single, Both, Unary, Prefixed, StepTo, CastTo, CastVoid, Place, StepAfter, CallNone, CallWith, Number, Character, Within, Target, Variable, Cell, Round, Arguments, Last, Then, Argument, Given, Written, Texts, OneText, MoreTexts}
 use Rattle.c_grammar.specs.ExpressionSyntax.{type_end, expression_end, assignment_end, binary_end, target_end, argument_end}
-use Rattle.c_layers.specs.Terms.{At, NoTerm}
-use Rattle.c_layers.specs.Terms as s
+use Rattle.c_grammar.specs.Terms.{At, NoTerm}
+use Rattle.c_grammar.specs.Terms as s
 use Rattle.reread_parts_laws.specs.WrittenExpressions as old
 use Rattle.c_reading_defs.specs.Symbols.{Symbol, token_behind, numbers_of}
 use Rattle.c_source_laws.proofs.ExpressionSymbols.{type_symbols, expression_symbols, assignment_symbols, binary_symbols, target_symbols, argument_symbols, texts_symbols}

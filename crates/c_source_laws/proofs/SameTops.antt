@@ -8,8 +8,8 @@ use Rattle.c_grammar.specs.Statements.{Block, Braces}
 use Rattle.c_grammar.specs.StatementSyntax.{word_end}
 use Rattle.c_grammar.specs.Files.{Parameter, Typed, Parameters, NoParameters, VoidParameters, SomeParameters, Enumeration, Enumerated, Declares, Function, Defined, Top, Line, OfEnum, OfDeclaration, OfFunction, function_tokens, top_tokens, file_tokens, FitsFunction, FitsTop, FitsFile}
 use Rattle.c_grammar.specs.FileSyntax.{parameter_end, parameters_end, enumerator_end, result_end, top_end}
-use Rattle.c_layers.specs.Terms.{At}
-use Rattle.c_layers.specs.Tops as s
+use Rattle.c_grammar.specs.Terms.{At}
+use Rattle.c_grammar.specs.Tops as s
 use Rattle.reread_parts_laws.specs.WrittenFunctions as old
 use Rattle.reread_parts_laws.specs.WrittenFiles as old_files
 use Rattle.c_reading_defs.specs.Symbols.{token_behind, numbers_of}

@@ -3,8 +3,8 @@ use Rattle.std.specs.Prelude.{ℕ, ◌+◌, List, [], ◌∷◌, ◌++◌, Optio
 use Rattle.c_grammar.specs.declared.class.Class.TheVariants as c
 use Rattle.c_grammar.specs.Expressions.{Expression}
 use Rattle.c_grammar.specs.Statements.{Size, NoSize, Unsized, Sized, Initialiser, OneValue, ValueList, Declarator, Declared, Local, Locals, Label, NameLabel, CaseLabel, DefaultLabel, ForStart, StartLocal, StartValue, Block, Braces, Items, NoItems, LocalItem, StatementItem, Statement, Labelled, Unlabelled, Plain, Compound, Simple, If, IfElse, While, DoWhile, For, Switch, Goto, Break, Continue, Return}
-use Rattle.c_layers.specs.Terms.{Term}
-use Rattle.c_layers.specs.Items as s
+use Rattle.c_grammar.specs.Terms.{Term}
+use Rattle.c_grammar.specs.Items as s
 use Rattle.c_reading_defs.specs.Symbols.{Symbol, token_behind, numbers_of}
 use Rattle.c_source_laws.proofs.ExpressionSymbols.{type_symbols, assignment_symbols, conditional_symbols}
 use Rattle.c_source_laws.proofs.StatementSymbols.{word_symbols, optional_symbols, size_symbols, declarator_symbols, local_symbols, label_symbols, start_symbols, tested_symbols, items_symbols, statement_symbols, body_symbols, plain_symbols}

@@ -1,8 +1,8 @@
 -- What the derivation of an expression writes (ISO/IEC 9899:2011, 6.5): its term, from the number of its first token on.
 use Rattle.std.specs.Prelude.{ℕ, ◌+◌}
 use Rattle.c_grammar.specs.Expressions.{Expression, One, More, Assignment, To, Value, Conditional, Choose, Only, Binary, Single, Both, Unary, Prefixed, StepTo, CastTo, CastVoid, Place, StepAfter, CallNone, CallWith, Number, Character, Within, Target, Variable, Cell, Round, Arguments, Last, Then, Argument, Given, Written}
-use Rattle.c_layers.specs.Terms.{Term, Form, Terms, At, NoTerm}
-use Rattle.c_layers.specs.Terms as s
+use Rattle.c_grammar.specs.Terms.{Term, Form, Terms, At, NoTerm}
+use Rattle.c_grammar.specs.Terms as s
 use Rattle.c_reading_defs.specs.Symbols.{token_behind, numbers_of}
 use Rattle.c_source_laws.proofs.ExpressionSymbols.{type_symbols, expression_symbols, assignment_symbols, binary_symbols, target_symbols, argument_symbols, texts_symbols}
 

@@ -3,7 +3,7 @@ use Rattle.std.specs.Prelude.{ℕ, ◌+◌, cond, List, [], ◌∷◌, Option, S
 use Rattle.c_grammar.specs.declared.class.Class.TheVariants as c
 use Rattle.c_grammar.specs.Expressions.{NumberType, Conditional}
 use Rattle.c_grammar.specs.Files.{Parameter, Typed, Parameters, SomeParameters, Enumeration, Enumerated, Declares, Function, Defined, Top, Line, OfEnum, OfDeclaration, OfFunction}
-use Rattle.c_layers.specs.Tops as s
+use Rattle.c_grammar.specs.Tops as s
 use Rattle.c_reading_defs.specs.Symbols.{token_behind, numbers_of, most_counted}
 use Rattle.c_source_laws.proofs.ExpressionSymbols.{type_symbols}
 use Rattle.c_source_laws.proofs.StatementSymbols.{word_symbols}

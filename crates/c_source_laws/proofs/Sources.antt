@@ -8,8 +8,8 @@ use Rattle.c_grammar.specs.Files.{file_tokens, FitsFile}
 use Rattle.c_grammar.specs.FileSyntax.{file_node}
 use Rattle.c_grammar.specs.Derives.{Derives}
 use Rattle.c_grammar.specs.Derives as old
-use Rattle.c_layers.specs.Parts.{file_of}
-use Rattle.c_layers.specs.Tops.{Top}
+use Rattle.c_grammar.specs.Parts.{file_of}
+use Rattle.c_grammar.specs.Tops.{Top}
 use Rattle.reread_parts_laws.proofs.FileSources.{file_writes}
 use Rattle.c_source_laws.specs.Classed.{IsClassed}
 use Rattle.c_source_laws.proofs.Numbered.{Along}

@@ -6,8 +6,8 @@ use Rattle.c_grammar.specs.Expressions.{expression_tokens}
 use Rattle.c_grammar.specs.ExpressionSyntax.{expression_end}
 use Rattle.c_grammar.specs.Statements.{Label, NameLabel, CaseLabel, DefaultLabel, ForStart, StartLocal, StartValue, Braces, Items, NoItems, LocalItem, StatementItem, Statement, Labelled, Unlabelled, Plain, Compound, Simple, If, IfElse, While, DoWhile, For, Switch, Goto, Break, Continue, Return, optional_tokens, label_tokens, for_start_tokens, items_tokens, statement_tokens, plain_tokens, FitsLabel, FitsForStart, FitsItems, FitsStatement, FitsPlain}
 use Rattle.c_grammar.specs.StatementSyntax.{optional_end, local_end, label_end, for_start_end, items_end, statement_end, plain_end}
-use Rattle.c_layers.specs.Items as s
-use Rattle.c_layers.specs.Parts.{list_of_plain}
+use Rattle.c_grammar.specs.Items as s
+use Rattle.c_grammar.specs.Parts.{list_of_plain}
 use Rattle.c_resolved_defs.specs.PrintableExpressions.{AreBytes}
 use Rattle.c_resolved_defs.specs.Within.{Each}
 use Rattle.reread_parts_laws.specs.Keywords.{LabelHasKeyword, ItemsHaveKeywords, HasKeywords, PlainHasKeywords}

@@ -4,8 +4,8 @@ use Rattle.c_grammar.specs.declared.class.Class.TheVariants as c
 use Rattle.c_grammar.specs.Classes.{level}
 use Rattle.c_grammar.specs.Expressions.{Base, CharBase, IntBase, LongBase, LongIntBase, NumberType, OfBase, Signed, SignedOf, Unsigned, UnsignedOf, Expression, One, More, Assignment, To, Value, Conditional, Choose, Only, Binary, Single, Both, Unary, Prefixed, StepTo, CastTo, CastVoid, Place, StepAfter, CallNone, CallWith, Number, Character, Within, Target, Variable, Cell, Round, Arguments, Last, Then, Argument, Texts, OneText, MoreTexts, root, FitsExpression, FitsAssignment, FitsConditional, FitsBinary, FitsUnary, FitsTarget, FitsArguments, FitsArgument}
 use Rattle.c_grammar.specs.Expressions as g
-use Rattle.c_layers.specs.Terms.{Form, Terms, At, NoTerm}
-use Rattle.c_layers.specs.Terms as s
+use Rattle.c_grammar.specs.Terms.{Form, Terms, At, NoTerm}
+use Rattle.c_grammar.specs.Terms as s
 use Rattle.c_reading_defs.specs.Symbols.{Symbol, Counted, Uncounted, token_behind, numbers_of}
 use Rattle.c_reading_defs.specs.DerivedTerms.{IsBase, IsType, AreTexts, is_target, IsExpression, AreAssignments, IsAssignment, IsConditional, IsBinary, IsUnary, IsTarget, AreArguments, IsArgument}
 use Rattle.c_reading_defs.specs.DerivedTerms as r

@@ -5,8 +5,8 @@ use Rattle.c_grammar.specs.declared.class.Class.TheVariants as c
 use Rattle.c_grammar.specs.declared.syntax.Syntax.{Syntax}
 use Rattle.c_grammar.specs.TokenClasses.{classes_of}
 use Rattle.c_grammar.specs.Derives.{Derives}
-use Rattle.c_layers.specs.Words.{word_of}
-use Rattle.c_layers.specs.Parts.{file_of}
+use Rattle.c_grammar.specs.Words.{word_of}
+use Rattle.c_grammar.specs.Parts.{file_of}
 use Rattle.c_comments.specs.Notes.{notes_of}
 use Rattle.c_resolved_defs.specs.PrintableExpressions.{AreBytes}
 use Rattle.c_resolving_laws.specs.Read.{IsReadFile, IsRead}

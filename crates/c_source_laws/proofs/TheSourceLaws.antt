@@ -4,9 +4,9 @@ use Rattle.c_lexer.specs.Pieces.{Piece, Spells, tokens_of}
 use Rattle.c_grammar.specs.declared.syntax.Syntax.{Syntax}
 use Rattle.c_grammar.specs.TokenClasses.{classes_of}
 use Rattle.c_grammar.specs.Derives.{Derives}
-use Rattle.c_layers.specs.Parts.{file_of}
-use Rattle.c_layers.specs.Tops.{Top}
-use Rattle.c_layers.specs.Words.{word_of}
+use Rattle.c_grammar.specs.Parts.{file_of}
+use Rattle.c_grammar.specs.Tops.{Top}
+use Rattle.c_grammar.specs.Words.{word_of}
 use Rattle.c_source_laws.proofs.Weights.{weights}
 use Rattle.c_reading_defs.specs.Derivations.{DeriveFile}
 use Rattle.c_source_laws.specs.SourceLaws.{SyntaxOf, SourceLaws}

@@ -3,9 +3,9 @@ use Rattle.std.proofs.Common.{◌≡◌, ◌+◌, ℕ, Bool, true, false, cond, 
 use Rattle.c_grammar.specs.declared.class.Class.TheVariants as c
 use Rattle.c_grammar.specs.Expressions.{NumberType}
 use Rattle.c_grammar.specs.Files.{Typed, NoParameters, VoidParameters, SomeParameters, Enumerated, Declares, Defined, Line, OfEnum, OfDeclaration, OfFunction, FitsParameter, FitsParameters, FitsConstant, FitsBody, FitsFunction, FitsTop, FitsFile}
-use Rattle.c_layers.specs.Terms.{At}
-use Rattle.c_layers.specs.Items.{Body}
-use Rattle.c_layers.specs.Tops as s
+use Rattle.c_grammar.specs.Terms.{At}
+use Rattle.c_grammar.specs.Items.{Body}
+use Rattle.c_grammar.specs.Tops as s
 use Rattle.c_reading_defs.specs.Symbols.{Symbol, Outside, token_behind, numbers_of, most_counted}
 use Rattle.c_reading_defs.specs.DerivedTops.{IsEnumerator, IsNamed, IsParameter, AreParameters, IsResult, IsDefined, IsFunction, IsTop, IsFile}
 use Rattle.c_reading_defs.specs.DerivedTops as r

@@ -17,8 +17,8 @@ use Rattle.c_grammar.specs.declared.class.Class.{Class}
 use Rattle.c_grammar.specs.declared.class.Class.TheVariants as c
 use Rattle.c_grammar.specs.Classes.{level}
 use Rattle.c_grammar.specs.TokenClasses.{class_of_bytes, class_of_found, classes_of, keyword_class}
-use Rattle.c_layers.specs.Counted.{is_counted}
-use Rattle.c_layers.specs.Words.{word_of}
+use Rattle.c_grammar.specs.Counted.{is_counted}
+use Rattle.c_grammar.specs.Words.{word_of}
 use Rattle.c_kinds.specs.Marks.{binary_op}
 use Rattle.c_resolved_defs.specs.Within.{Each}
 use Rattle.print_laws.specs.Reread.{Spelling, spelling_of}

@@ -5,7 +5,7 @@ use Rattle.c_grammar.specs.Events.{Event, first_over}
 use Rattle.c_grammar.specs.Counts.{top_events, file_events}
 use Rattle.c_grammar.specs.Files.{Declares, Top, Line, OfEnum, OfDeclaration, OfFunction, top_tokens, file_tokens, FitsTop, FitsFile}
 use Rattle.c_grammar.specs.FileSyntax.{top_end}
-use Rattle.c_layers.specs.Tops as s
+use Rattle.c_grammar.specs.Tops as s
 use Rattle.c_resolved_defs.specs.Within.{Each}
 use Rattle.reread_parts_laws.specs.WrittenFiles.{written_enumeration, written_form, written_tops}
 use Rattle.c_resolving_laws.specs.Read.{IsReadEnumerator, IsReadTopForm, IsReadLine, IsReadFile}

@@ -11,9 +11,9 @@ use Rattle.c_grammar.specs.Expressions.{Expression, FitsExpression, expression_t
 use Rattle.c_grammar.specs.ExpressionSyntax.{expression_end}
 use Rattle.c_grammar.specs.Statements.{Items, FitsItems, items_tokens}
 use Rattle.c_grammar.specs.StatementSyntax.{items_end}
-use Rattle.c_layers.specs.Words.{word_of}
-use Rattle.c_layers.specs.Parts.{file_of}
-use Rattle.c_layers.specs.Tops.{Top}
+use Rattle.c_grammar.specs.Words.{word_of}
+use Rattle.c_grammar.specs.Parts.{file_of}
+use Rattle.c_grammar.specs.Tops.{Top}
 use Rattle.c_statements.specs.declared.anchors.Anchor.{Anchor}
 use Rattle.c_comments.specs.Notes.{notes_of}
 use Rattle.c_resolved_defs.specs.PrintableExpressions.{AreBytes}

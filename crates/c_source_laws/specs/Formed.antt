@@ -1,6 +1,6 @@
 -- What is read of a file apart from its limits: each name is one, each body, value and size is read.
 use Rattle.std.specs.Prelude.{◌<◌, ◌≤◌, ℕ, List, IfSome, length}
-use Rattle.c_layers.specs.Tops.{Enumerator, Function, Top, Form, Line, Enum, Globals, Defines, From, Unread}
+use Rattle.c_grammar.specs.Tops.{Enumerator, Function, Top, Form, Line, Enum, Globals, Defines, From, Unread}
 use Rattle.c_statements.specs.Measures.{body_depth}
 use Rattle.c_resolved_defs.specs.Within.{Each}
 use Rattle.c_resolving_laws.specs.Read.{IsNameAt, IsReadTerm, IsReadParameter, IsReadDeclaration, IsReadBody}

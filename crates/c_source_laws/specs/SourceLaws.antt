@@ -6,9 +6,9 @@ use Rattle.c_grammar.specs.declared.syntax.Syntax.{Syntax}
 use Rattle.c_grammar.specs.TokenClasses.{classes_of}
 use Rattle.c_grammar.specs.Derives.{Derives}
 use Rattle.c_grammar.specs.Derives as grammar
-use Rattle.c_layers.specs.Parts.{file_of}
-use Rattle.c_layers.specs.Tops.{Top}
-use Rattle.c_layers.specs.Words.{word_of}
+use Rattle.c_grammar.specs.Parts.{file_of}
+use Rattle.c_grammar.specs.Tops.{Top}
+use Rattle.c_grammar.specs.Words.{word_of}
 use Rattle.c_reading_defs.specs.Derivations.{DeriveFile, IsUnexpected, IsTooMany}
 
 -- a syntax that the tokens of a text derive, and that writes this file

@@ -2,11 +2,11 @@
 use Rattle.std.proofs.Common.{◌≡◌, ◌<◌, ◌+◌, ℕ, suc, Bool, List, [], ◌∷◌, ◌++◌, append_assoc, true, false, cond, length, get_or, map, drop, max, refl, ap, arith, add-one, drop-cons, Option, Some, None}
 use Rattle.std.proofs.lemmas.List.{append-nil}
 use Rattle.c_grammar.specs.declared.syntax.Syntax.{Syntax, out-Syntax}
-use Rattle.c_layers.specs.Items.{Label, Declarator, Then}
-use Rattle.c_layers.specs.ItemViews.{item_of, term_list_of, label_of, labels_of, declarator_of, declarators_of}
-use Rattle.c_layers.specs.Parts.{term_of, is_token}
-use Rattle.c_layers.specs.Terms.{Term}
-use Rattle.c_layers.proofs.Layers.{part-rule, weight-at}
+use Rattle.c_grammar.specs.Items.{Label, Declarator, Then}
+use Rattle.c_grammar.specs.ItemViews.{item_of, term_list_of, label_of, labels_of, declarator_of, declarators_of}
+use Rattle.c_grammar.specs.Parts.{term_of, is_token}
+use Rattle.c_grammar.specs.Terms.{Term}
+use Rattle.c_grammar.proofs.Layers.{part-rule, weight-at}
 use Rattle.c_statements.specs.Labels.{name_in, named_in, new_name}
 use Rattle.c_statements.specs.Measures.{length_in, longest_label, declared_length, longest_declared}
 use Rattle.c_statements.specs.Nodes.{items_of}

@@ -6,9 +6,9 @@ use Rattle.c_tree.specs.declared.tree.Item.{Item}
 use Rattle.c_tree.specs.declared.tree.Item as item
 use Rattle.c_tree.specs.declared.tree.Node as node
 use Rattle.c_tree.specs.declared.tree.Expression.{Expression}
-use Rattle.c_layers.specs.Terms.{Term}
-use Rattle.c_layers.specs.Items.{Size, NoSize, Unsized, Sized, Initialiser, NoValue, OneValue, ValueList, Declarator, Declaration}
-use Rattle.c_layers.specs.Words.{kind_of}
+use Rattle.c_grammar.specs.Terms.{Term}
+use Rattle.c_grammar.specs.Items.{Size, NoSize, Unsized, Sized, Initialiser, NoValue, OneValue, ValueList, Declarator, Declaration}
+use Rattle.c_grammar.specs.Words.{kind_of}
 use Rattle.c_kinds.specs.declared.binding.Shape.{Shape}
 use Rattle.c_kinds.specs.declared.binding.Binding.TheVariants.{Local}
 use Rattle.c_kinds.specs.declared.typed.Valued.{Valued}

@@ -4,9 +4,9 @@ use Rattle.c_types.specs.declared.kinds.IntKind.{IntKind}
 use Rattle.c_tree.specs.declared.tree.Slot.{Slot}
 use Rattle.c_tree.specs.declared.tree.Function as tree
 use Rattle.c_tree.specs.declared.tree.Item as item
-use Rattle.c_layers.specs.Items.{Body, Braces, Lone}
-use Rattle.c_layers.specs.Tops.{Parameter, Function}
-use Rattle.c_layers.specs.Words.{kind_of}
+use Rattle.c_grammar.specs.Items.{Body, Braces, Lone}
+use Rattle.c_grammar.specs.Tops.{Parameter, Function}
+use Rattle.c_grammar.specs.Words.{kind_of}
 use Rattle.c_kinds.specs.declared.binding.Shape.{Shape}
 use Rattle.c_kinds.specs.declared.binding.Want.{Want}
 use Rattle.c_kinds.specs.declared.binding.Want.TheVariants as want

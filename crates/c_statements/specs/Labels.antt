@@ -2,8 +2,8 @@
 use Rattle.std.specs.Prelude.{ℕ, Bool, true, false, cond, not, ◌||◌, List, [], ◌∷◌, ◌++◌, Option, Some, None, length}
 use Rattle.c_tree.specs.declared.tree.Expression.{Expression}
 use Rattle.c_tree.specs.declared.tree.Item as item
-use Rattle.c_layers.specs.Items.{Label, Named, Case, Default, Declares, States, Plain, From, Statement, Null, Evaluate, If, IfElse, While, DoWhile, For, Switch, Block, Goto, Break, Continue, Return, Unread, Body, Braces, Lone, Items, NoItem, Then}
-use Rattle.c_layers.specs.Items as items
+use Rattle.c_grammar.specs.Items.{Label, Named, Case, Default, Declares, States, Plain, From, Statement, Null, Evaluate, If, IfElse, While, DoWhile, For, Switch, Block, Goto, Break, Continue, Return, Unread, Body, Braces, Lone, Items, NoItem, Then}
+use Rattle.c_grammar.specs.Items as items
 use Rattle.c_kinds.specs.Scopes.{Env, Faults, Names, fault_if, with_entry}
 use Rattle.c_kinds.specs.Typing.{constant_faults}
 use Rattle.c_statements.specs.Context.{Context, Before, notes_at, number_in, has_label}

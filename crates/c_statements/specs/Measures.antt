@@ -1,6 +1,6 @@
 -- The numbers by which a function with jumps is too tangled.
 use Rattle.std.specs.Prelude.{ℕ, ◌+◌, ◌*◌, Bool, ◌||◌, nat_lt, List, [], ◌∷◌, length, max, min, Option, Some, None}
-use Rattle.c_layers.specs.Items.{Declarator, Label, Named, Start, StartNames, Item, Declares, States, Plain, From, Statement, If, IfElse, While, DoWhile, For, Switch, Block, Body, Braces, Lone, Items, NoItem, Then}
+use Rattle.c_grammar.specs.Items.{Declarator, Label, Named, Start, StartNames, Item, Declares, States, Plain, From, Statement, If, IfElse, While, DoWhile, For, Switch, Block, Body, Braces, Lone, Items, NoItem, Then}
 use Rattle.c_statements.specs.declared.measures.Measures.{Measures}
 
 -- ---- statement nesting: a list is one level more than what it stands in

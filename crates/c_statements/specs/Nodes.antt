@@ -2,8 +2,8 @@
 use Rattle.std.specs.Prelude.{ℕ, List, [], map, Option, Some, None}
 use Rattle.std.specs.Borrow.{Bor}
 use Rattle.c_grammar.specs.declared.syntax.Syntax.{Syntax}
-use Rattle.c_layers.specs.Items.{Items}
-use Rattle.c_layers.specs.Parts.{part_of, items_in}
+use Rattle.c_grammar.specs.Items.{Items}
+use Rattle.c_grammar.specs.Parts.{part_of, items_in}
 
 -- those among these nodes, in order
 abbrev pub items_of : (ℕ → List ℕ) → List Syntax → Items

@@ -5,9 +5,9 @@ use Rattle.c_tree.specs.declared.tree.Item as item
 use Rattle.c_tree.specs.declared.tree.Test as test
 use Rattle.c_tree.specs.declared.tree.Selector as selector
 use Rattle.c_tree.specs.declared.tree.Section.{Section}
-use Rattle.c_layers.specs.Terms.{Term}
-use Rattle.c_layers.specs.Items.{Declaration, Label, Named, Case, Default, Start, NoStart, StartValue, StartNames, Declares, States, Plain, From, Statement, Null, Evaluate, If, IfElse, While, DoWhile, For, Switch, Block, Goto, Break, Continue, Return, Unread, Body, Braces, Lone, Items, NoItem, Then}
-use Rattle.c_layers.specs.Items as items
+use Rattle.c_grammar.specs.Terms.{Term}
+use Rattle.c_grammar.specs.Items.{Declaration, Label, Named, Case, Default, Start, NoStart, StartValue, StartNames, Declares, States, Plain, From, Statement, Null, Evaluate, If, IfElse, While, DoWhile, For, Switch, Block, Goto, Break, Continue, Return, Unread, Body, Braces, Lone, Items, NoItem, Then}
+use Rattle.c_grammar.specs.Items as items
 use Rattle.c_kinds.specs.Scopes.{Env}
 use Rattle.c_kinds.specs.Values.{dropped}
 use Rattle.c_kinds.specs.Typing.{typed}

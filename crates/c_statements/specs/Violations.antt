@@ -1,8 +1,8 @@
 -- The violations of statements (ISO/IEC 9899:2011, 6.8), in front of those that were found before.
 use Rattle.std.specs.Prelude.{ℕ, true, false, not, ◌||◌, [], Option, Some, None, option_map}
 use Rattle.c_types.specs.declared.kinds.IntKind.{IntKind}
-use Rattle.c_layers.specs.Terms.{Term}
-use Rattle.c_layers.specs.Items.{Declaration, Start, NoStart, StartValue, StartNames, Item, Declares, States, Plain, From, Statement, Null, Evaluate, If, IfElse, While, DoWhile, For, Switch, Block, Goto, Break, Continue, Return, Unread, Body, Braces, Lone, Items, NoItem, Then, stated_first}
+use Rattle.c_grammar.specs.Terms.{Term}
+use Rattle.c_grammar.specs.Items.{Declaration, Start, NoStart, StartValue, StartNames, Item, Declares, States, Plain, From, Statement, Null, Evaluate, If, IfElse, While, DoWhile, For, Switch, Block, Goto, Break, Continue, Return, Unread, Body, Braces, Lone, Items, NoItem, Then, stated_first}
 use Rattle.c_kinds.specs.Scopes.{Env, Faults, fault, fault_if}
 use Rattle.c_kinds.specs.Values.{value_of}
 use Rattle.c_kinds.specs.Typing.{typed, faults, unused}

@@ -2,15 +2,14 @@
 
 ghost use Rattle.std.specs.Prelude.{◌≡◌, ◌≤◌, length, option_map, IfOk, OnOk};
 ghost use Rattle.c_kinds.specs.Views.{env_of};
-ghost use Rattle.c_layers.specs.ItemViews.{initialiser_form, size_form, term_list_of};
-ghost use Rattle.c_layers.specs.Views.{words_of};
+ghost use Rattle.c_grammar.specs.ItemViews.{initialiser_form, size_form, term_list_of};
+ghost use Rattle.c_grammar.specs.Views.{words_of};
 ghost use Rattle.c_statements.specs.Declarations as spec;
 
 use crate::extents::{Extent, Length};
 use crate::nodes::value_count;
-use c_grammar::SyntaxNode;
+use c_grammar::{InitialiserLayer, SizeLayer, SyntaxNode, Words};
 use c_kinds::{Fault, Known, constant_expression};
-use c_layers::{InitialiserLayer, SizeLayer, Words};
 use c_tree::Expression;
 use c_types::{Memory, Stack};
 use std::alloc::Global;

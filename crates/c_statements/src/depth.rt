@@ -1,15 +1,15 @@
 //! How deep statements are nested.
 
 ghost use Rattle.std.specs.Prelude.{◌≡◌, ◌+◌};
-ghost use Rattle.c_layers.specs.ItemViews.{item_of, plain_of, body_of};
-ghost use Rattle.c_layers.specs.Views.{words_of};
+ghost use Rattle.c_grammar.specs.ItemViews.{item_of, plain_of, body_of};
+ghost use Rattle.c_grammar.specs.Views.{words_of};
 ghost use Rattle.c_statements.specs.Measures as spec;
 ghost use Rattle.c_statements.specs.Nodes.{items_of};
 
 use crate::nodes::{greater, is_token};
-use c_grammar::SyntaxNode;
-use c_layers::{
-    BodyLayer, ItemLayer, StatementLayer, Words, body_layer, item_layer, statement_layer,
+use c_grammar::{
+    BodyLayer, ItemLayer, StatementLayer, SyntaxNode, Words, body_layer, item_layer,
+    statement_layer,
 };
 
 fn one_more(n: u64) -> u64

@@ -1,13 +1,13 @@
 //! The labels of a function: their numbers and names, and which of them stand there twice.
 
 ghost use Rattle.std.specs.Prelude.{◌≡◌, ◌++◌, [], map, IfOk, OnOk};
-ghost use Rattle.c_layers.specs.Views.{words_of};
+ghost use Rattle.c_grammar.specs.Views.{words_of};
 ghost use Rattle.c_statements.specs.Context.{has_label};
 ghost use Rattle.c_statements.specs.Labels as spec;
 
 use crate::label_numbers::LabelNumbers;
+use c_grammar::Words;
 use c_kinds::{Fault, name_of, report_if};
-use c_layers::Words;
 use c_types::{List, Memory, Name, Stack};
 use std::alloc::Global;
 

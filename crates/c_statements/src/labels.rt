@@ -1,17 +1,16 @@
 //! The labels of a function, by the tokens of their names.
 
 ghost use Rattle.std.specs.Prelude.{◌≡◌, OnOk};
-ghost use Rattle.c_layers.specs.ItemViews.{item_of, plain_of, body_of, label_of, labels_of, label_form};
-ghost use Rattle.c_layers.specs.Parts.{part_of, items_in};
-ghost use Rattle.c_layers.specs.Views.{words_of};
+ghost use Rattle.c_grammar.specs.ItemViews.{item_of, plain_of, body_of, label_of, labels_of, label_form};
+ghost use Rattle.c_grammar.specs.Parts.{part_of, items_in};
+ghost use Rattle.c_grammar.specs.Views.{words_of};
 ghost use Rattle.c_statements.specs.Labels as spec;
 ghost use Rattle.c_statements.specs.Nodes.{items_of};
 
 use crate::nodes::is_token;
-use c_grammar::SyntaxNode;
-use c_layers::{
-    BodyLayer, ItemLayer, LabelLayer, StatementLayer, Words, body_layer, item_layer, label_layer,
-    statement_layer,
+use c_grammar::{
+    BodyLayer, ItemLayer, LabelLayer, StatementLayer, SyntaxNode, Words, body_layer, item_layer,
+    label_layer, statement_layer,
 };
 use c_types::{Memory, Stack};
 

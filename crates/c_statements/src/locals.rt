@@ -1,9 +1,9 @@
 //! Declared variables of a block.
 
 ghost use Rattle.std.specs.Prelude.{◌≡◌, ◌++◌, ◌∷◌, [], IfOk, OnOk};
-ghost use Rattle.c_layers.specs.ItemViews.{declaration_of, declaration_form, declarator_form, declarators_of, size_form};
-ghost use Rattle.c_layers.specs.Views.{words_of};
-ghost use Rattle.c_layers.specs.Words.{kind_of as the_kind};
+ghost use Rattle.c_grammar.specs.ItemViews.{declaration_of, declaration_form, declarator_form, declarators_of, size_form};
+ghost use Rattle.c_grammar.specs.Views.{words_of};
+ghost use Rattle.c_grammar.specs.Words.{kind_of as the_kind};
 ghost use Rattle.c_kinds.specs.Views.{env_of};
 ghost use Rattle.c_statements.specs.Declarations as spec;
 ghost use Rattle.c_statements.specs.Nodes.{type_words};
@@ -12,12 +12,11 @@ use crate::arrays::{extent_of, is_bad_shape, read_length};
 use crate::extents::{Kinded, Length};
 use crate::initialisers::initial;
 use crate::slots::declare;
-use c_grammar::SyntaxNode;
-use c_kinds::{Fault, Known, Shape, report_if};
-use c_layers::{
-    DeclarationLayer, DeclaratorLayer, SizeLayer, Words, declaration_layer, declarator_layer,
-    kind_of,
+use c_grammar::{
+    DeclarationLayer, DeclaratorLayer, SizeLayer, SyntaxNode, Words, declaration_layer,
+    declarator_layer, kind_of,
 };
+use c_kinds::{Fault, Known, Shape, report_if};
 use c_tree::{Item, Slot};
 use c_types::{IntKind, List, Memory, Stack};
 use std::alloc::Global;

@@ -1,15 +1,14 @@
 //! The longest name of a label or a variable of a block.
 
 ghost use Rattle.std.specs.Prelude.{◌≡◌, max};
-ghost use Rattle.c_layers.specs.ItemViews.{item_of, plain_of, body_of, label_of, labels_of, declarator_of, declarators_of, declaration_of, start_form};
-ghost use Rattle.c_layers.specs.Views.{words_of};
+ghost use Rattle.c_grammar.specs.ItemViews.{item_of, plain_of, body_of, label_of, labels_of, declarator_of, declarators_of, declaration_of, start_form};
+ghost use Rattle.c_grammar.specs.Views.{words_of};
 ghost use Rattle.c_statements.specs.Measures as spec;
 ghost use Rattle.c_statements.specs.Nodes.{items_of};
 
 use crate::nodes::{greater, is_token};
-use c_grammar::SyntaxNode;
-use c_layers::{
-    BodyLayer, ItemLayer, LabelLayer, StartLayer, StatementLayer, Words, body_layer,
+use c_grammar::{
+    BodyLayer, ItemLayer, LabelLayer, StartLayer, StatementLayer, SyntaxNode, Words, body_layer,
     declaration_layer, declarator_layer, item_layer, label_layer, statement_layer,
 };
 

@@ -1,6 +1,6 @@
 ghost use Rattle.std.specs.Prelude.{◌≡◌, ◌≤◌, cond, max};
 ghost use Rattle.c_grammar.specs.declared.syntax.Syntax.{out-Syntax};
-ghost use Rattle.c_layers.specs.Parts as parts;
+ghost use Rattle.c_grammar.specs.Parts as parts;
 
 use c_grammar::{Production, SyntaxNode};
 

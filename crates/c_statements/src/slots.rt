@@ -2,12 +2,12 @@
 
 ghost use Rattle.std.specs.Prelude.{◌≡◌, ◌++◌, ◌∷◌, [], length, IfOk, OnOk};
 ghost use Rattle.c_kinds.specs.Scopes.{bind};
-ghost use Rattle.c_layers.specs.Views.{words_of};
+ghost use Rattle.c_grammar.specs.Views.{words_of};
 ghost use Rattle.c_statements.specs.Declarations as spec;
 
 use crate::extents::Extent;
+use c_grammar::Words;
 use c_kinds::{Binding, Scopes, Shape, name_of};
-use c_layers::Words;
 use c_tree::Slot;
 use c_types::{List, Memory};
 use std::alloc::Global;

@@ -19,10 +19,10 @@ use Rattle.c_parser.specs.Answers.{parsed, answer as answer_of}
 use Rattle.c_parser.specs.Reads.{IsRefusedAt}
 use Rattle.c_parser.proofs.Reading.{reads, parses}
 use Rattle.c_parser.proofs.Decides.{refuses, limits}
-use Rattle.c_layers.specs.Words.{word_of}
-use Rattle.c_layers.specs.Parts.{file_of}
+use Rattle.c_grammar.specs.Words.{word_of}
+use Rattle.c_grammar.specs.Parts.{file_of}
 use Rattle.c_kinds.specs.declared.typed.Fault.{Fault}
-use Rattle.c_layers.specs.Tops.{Top}
+use Rattle.c_grammar.specs.Tops.{Top}
 use Rattle.c_scopes.specs.Files.{File}
 use Rattle.c_kinds.specs.Typing.{typed}
 use Rattle.c_reading_defs.specs.Derivations.{DeriveFile, IsUnexpected, IsTooMany}

@@ -5,7 +5,7 @@ use Rattle.c_lexer.specs.Pieces.{Piece, Spells, tokens_of, comments_of}
 use Rattle.c_lexer.specs.Faults.{IsFirstFault}
 use Rattle.c_grammar.specs.TokenClasses.{classes_of}
 use Rattle.c_parser.specs.Reads.{IsRefusedAt}
-use Rattle.c_layers.specs.Tops.{Top}
+use Rattle.c_grammar.specs.Tops.{Top}
 use Rattle.c_kinds.specs.declared.typed.Fault.{Fault}
 use Rattle.c_statements.specs.Functions.{FlatCounts}
 use Rattle.c_scopes.specs.Reading.{reading as reading_with}

@@ -1,7 +1,7 @@
 -- Expressions are the same, and break the same rules, by the maps of a walk and by the scopes of its place.
 use Rattle.std.proofs.Common.{◌≡◌, ℕ, true, false, List, ◌∷◌, Some, None, refl}
-use Rattle.c_layers.specs.Terms.{Term, Form, Terms, At, Constant, Variable, Cell, Prefix, Suffix, CastTo, CastVoid, Binary, Choice, Assign, Commas, Call, Texts, Unknown, NoTerm, Then, first_of}
-use Rattle.c_layers.specs.Words.{kind_of}
+use Rattle.c_grammar.specs.Terms.{Term, Form, Terms, At, Constant, Variable, Cell, Prefix, Suffix, CastTo, CastVoid, Binary, Choice, Assign, Commas, Call, Texts, Unknown, NoTerm, Then, first_of}
+use Rattle.c_grammar.specs.Words.{kind_of}
 use Rattle.c_lexer.specs.Marks.{mark_of}
 use Rattle.c_kinds.specs.declared.typed.Typed.{Typed}
 use Rattle.c_kinds.specs.Marks.{step_of, counts_up, unary_op, binary_op, update_op}

@@ -1,8 +1,8 @@
 -- Brackets and initialisers that a walk finds bad are those that the rule for arrays names.
 use Rattle.std.proofs.Common.{◌≡◌, inl, inr, ℕ, ℤ, Bool, true, not, ◌&&◌, ◌||◌, nat_lt, List, length, Option, Some, None, is_some, refl, sym, subst, true≢false}
 use Rattle.std.proofs.lemmas.Bool.{ltb-true, lt-ltb, or_cases, and_parts, or_left, or_right}
-use Rattle.c_layers.specs.Terms.{Term}
-use Rattle.c_layers.specs.Items.{Size, NoSize, Unsized, Sized, Initialiser, NoValue, OneValue, ValueList}
+use Rattle.c_grammar.specs.Terms.{Term}
+use Rattle.c_grammar.specs.Items.{Size, NoSize, Unsized, Sized, Initialiser, NoValue, OneValue, ValueList}
 use Rattle.c_kinds.specs.Scopes.{Env}
 use Rattle.c_kinds.specs.Typing.{typed}
 use Rattle.c_statements.specs.Declarations.{in_bounds, of_length, constant_extent, is_out_of_bounds, is_bad_list, is_bad_value, is_bad_shape}

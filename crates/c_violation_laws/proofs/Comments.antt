@@ -4,9 +4,9 @@ use Rattle.std.specs.Prelude.{filter, option_and_then}
 use Rattle.std.specs.Option.{option_or}
 use Rattle.c_lexer.specs.declared.token.Token.{Token}
 use Rattle.c_lexer.specs.declared.token.Span.{Span}
-use Rattle.c_layers.specs.Items.{Label, Named, Case, Default, Item, Declares, States, Plain, From, Statement, Null, Evaluate, If, IfElse, While, DoWhile, For, Switch, Block, Goto, Break, Continue, Return, Unread, Body, Braces, Lone, Items, NoItem, Then, label_first}
-use Rattle.c_layers.specs.Tops.{Form, Defines, Top}
-use Rattle.c_layers.specs.Tops as tops
+use Rattle.c_grammar.specs.Items.{Label, Named, Case, Default, Item, Declares, States, Plain, From, Statement, Null, Evaluate, If, IfElse, While, DoWhile, For, Switch, Block, Goto, Break, Continue, Return, Unread, Body, Braces, Lone, Items, NoItem, Then, label_first}
+use Rattle.c_grammar.specs.Tops.{Form, Defines, Top}
+use Rattle.c_grammar.specs.Tops as tops
 use Rattle.c_statements.specs.declared.anchors.Anchor.{Anchor}
 use Rattle.c_statements.specs.declared.anchors.Anchor.TheVariants.{Before, AtEnd}
 use Rattle.c_statements.specs.Context.{same_place}

@@ -1,7 +1,7 @@
 -- A constant expression is what the walk finds to be one.
 use Rattle.std.proofs.Common.{◌≡◌, ℤ, Option, Some, None, refl, ap, ◌∙◌}
 use Rattle.c_tree.specs.declared.tree.Expression.{Expression}
-use Rattle.c_layers.specs.Terms.{Term}
+use Rattle.c_grammar.specs.Terms.{Term}
 use Rattle.c_kinds.specs.declared.typed.Typed.{Typed}
 use Rattle.c_kinds.specs.declared.typed.Typed.TheVariants.{Value, Void, Text, Array, Wrong}
 use Rattle.c_kinds.specs.Constants.{constant_of}

@@ -10,7 +10,7 @@ use Rattle.std.proofs.lemmas.Int.{ints}
 use Rattle.c_types.specs.declared.kinds.IntKind.{IntKind}
 use Rattle.c_types.specs.Numbers.{promoted, converted}
 use Rattle.c_tree.specs.declared.tree.Expression.{Expression}
-use Rattle.c_layers.specs.Items.{Label, Named, Case, Default, Item, Declares, States, Plain, From, Statement, Null, Evaluate, If, IfElse, While, DoWhile, For, Switch, Block, Goto, Break, Continue, Return, Unread, Body, Braces, Lone, Items, NoItem, Then}
+use Rattle.c_grammar.specs.Items.{Label, Named, Case, Default, Item, Declares, States, Plain, From, Statement, Null, Evaluate, If, IfElse, While, DoWhile, For, Switch, Block, Goto, Break, Continue, Return, Unread, Body, Braces, Lone, Items, NoItem, Then}
 use Rattle.c_kinds.specs.declared.typed.Fault.{Fault}
 use Rattle.c_kinds.specs.Constants.{constant_of}
 use Rattle.c_kinds.specs.Scopes.{fault_if}
@@ -24,7 +24,7 @@ use Rattle.c_statements.specs.Cases.{is_among, with_value, entry_faults, default
 use Rattle.c_violation_laws.proofs.Behind.{Behind, finds_behind}
 use Rattle.c_reading_defs.specs.Labels.{InFunction}
 use Rattle.c_reading_defs.specs.Variables.{item_variables, plain_variables, statement_variables, body_variables, list_variables}
-use Rattle.c_layers.specs.Terms.{first_of}
+use Rattle.c_grammar.specs.Terms.{first_of}
 use Rattle.c_reading_defs.specs.Scopes.{scopes_at}
 use Rattle.c_reading_defs.specs.Places.{Place, item_identifiers, list_identifiers, within}
 use Rattle.c_reading_defs.specs.Places as places

@@ -4,7 +4,7 @@ use Rattle.std.specs.Prelude.{ℤ, negsuc, option_map}
 use Rattle.std.proofs.lemmas.List.{reverse-append}
 use Rattle.c_tree.specs.declared.tree.EnumItem.{EnumItem}
 use Rattle.c_lexer.specs.Behind.{each_behind}
-use Rattle.c_layers.specs.Tops.{Enumerator}
+use Rattle.c_grammar.specs.Tops.{Enumerator}
 use Rattle.c_kinds.specs.declared.binding.Binding.TheVariants.{Constant}
 use Rattle.c_kinds.specs.Typing.{typed}
 use Rattle.c_scopes.specs.Enums.{next_value, or_zero}

@@ -1,7 +1,7 @@
 -- What a walk finds in an expression.
 use Rattle.std.proofs.Common.{Bool, Option, Some, None}
 use Rattle.c_lexer.specs.Marks.{mark_of}
-use Rattle.c_layers.specs.Terms.{Term, Form, Terms, At, Constant, Variable, Cell, Prefix, Suffix, CastTo, CastVoid, Binary, Choice, Assign, Commas, Call, Texts, Unknown, NoTerm, Then}
+use Rattle.c_grammar.specs.Terms.{Term, Form, Terms, At, Constant, Variable, Cell, Prefix, Suffix, CastTo, CastVoid, Binary, Choice, Assign, Commas, Call, Texts, Unknown, NoTerm, Then}
 use Rattle.c_kinds.specs.Marks.{step_of}
 use Rattle.c_kinds.specs.Scopes.{Env}
 use Rattle.c_kinds.specs.Typing.{used, unused, faults, form_faults, target_faults, unused_faults, given_faults, constant_faults}

@@ -1,9 +1,9 @@
 -- The maps of a walk over a file find what is known in the scope of the file.
 use Rattle.std.proofs.Common.{◌≡◌, ℕ, ◌+◌, ℤ, List, [], ◌∷◌, ◌++◌, map, Option, Some, None, refl, sym, ap, subst, ◌∙◌, append_assoc, append-nil, arith}
 use Rattle.std.specs.Prelude.{option_map, option_and_then}
-use Rattle.c_layers.specs.Terms.{Term}
-use Rattle.c_layers.specs.Items.{Declarator}
-use Rattle.c_layers.specs.Tops.{Enumerator, Function, Form, Line, Enum, Globals, Defines, Unread, Top, From}
+use Rattle.c_grammar.specs.Terms.{Term}
+use Rattle.c_grammar.specs.Items.{Declarator}
+use Rattle.c_grammar.specs.Tops.{Enumerator, Function, Form, Line, Enum, Globals, Defines, Unread, Top, From}
 use Rattle.c_kinds.specs.declared.binding.Binding.{Binding}
 use Rattle.c_kinds.specs.declared.binding.Binding.TheVariants.{Constant, Global}
 use Rattle.c_kinds.specs.declared.binding.Binding.TheVariants as binding

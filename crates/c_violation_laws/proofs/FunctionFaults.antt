@@ -2,8 +2,8 @@
 use Rattle.std.specs.Prelude.{flat_map}
 use Rattle.std.proofs.Common.{append_assoc, arith, ◌≤◌, ◌≡◌, ◌⊎◌, ℕ, Bool, true, List, [], ◌∷◌, map, Option, Some, None, is_some, refl, sym, ap, subst, ◌++◌, ◌∙◌}
 use Rattle.c_tree.specs.declared.tree.Item as tree
-use Rattle.c_layers.specs.Items.{Body, Braces, Lone}
-use Rattle.c_layers.specs.Tops.{Parameter, Function}
+use Rattle.c_grammar.specs.Items.{Body, Braces, Lone}
+use Rattle.c_grammar.specs.Tops.{Parameter, Function}
 use Rattle.c_kinds.specs.declared.typed.Fault.{Fault}
 use Rattle.c_kinds.specs.Scopes.{Scope, fault_if, bind_fault}
 use Rattle.c_statements.specs.declared.anchors.Anchor.{Anchor}

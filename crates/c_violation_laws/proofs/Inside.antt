@@ -1,8 +1,8 @@
 -- A walk into a function: behind its parameters it stands in the outermost list.
 use Rattle.std.proofs.Common.{◌≡◌, ◌≤◌, ◌+◌, ℕ, List, [], ◌∷◌, ◌++◌, map, length, Option, Some, None, refl, ap, sym, subst, append_assoc, append-nil, length-append, arith}
 use Rattle.std.specs.Prelude.{flat_map}
-use Rattle.c_layers.specs.Items.{Body, Braces, Lone, Then, NoItem}
-use Rattle.c_layers.specs.Tops.{Parameter, Function}
+use Rattle.c_grammar.specs.Items.{Body, Braces, Lone, Then, NoItem}
+use Rattle.c_grammar.specs.Tops.{Parameter, Function}
 use Rattle.c_kinds.specs.declared.binding.Binding.TheVariants.{Local}
 use Rattle.c_kinds.specs.Scopes.{Scope, bind}
 use Rattle.c_statements.specs.Context.{Walk}

@@ -5,9 +5,9 @@ use Rattle.c_tree.specs.declared.tree.Item as item
 use Rattle.c_tree.specs.declared.tree.Section.{Section}
 use Rattle.c_tree.specs.declared.tree.Selector as selector
 use Rattle.c_tree.specs.declared.tree.Test as test
-use Rattle.c_layers.specs.Terms.{Term, first_of}
-use Rattle.c_layers.specs.Items.{Size, NoSize, Unsized, Sized, Initialiser, NoValue, OneValue, ValueList, Declarator, Declaration, Label, Named, Case, Default, Start, NoStart, StartValue, StartNames, Declares, States, Plain, From, Statement, Null, Evaluate, If, IfElse, While, DoWhile, For, Switch, Block, Goto, Break, Continue, Return, Unread, Body, Braces, Lone, Items, NoItem, Then, first_label}
-use Rattle.c_layers.specs.Items as items
+use Rattle.c_grammar.specs.Terms.{Term, first_of}
+use Rattle.c_grammar.specs.Items.{Size, NoSize, Unsized, Sized, Initialiser, NoValue, OneValue, ValueList, Declarator, Declaration, Label, Named, Case, Default, Start, NoStart, StartValue, StartNames, Declares, States, Plain, From, Statement, Null, Evaluate, If, IfElse, While, DoWhile, For, Switch, Block, Goto, Break, Continue, Return, Unread, Body, Braces, Lone, Items, NoItem, Then, first_label}
+use Rattle.c_grammar.specs.Items as items
 use Rattle.c_tree.specs.declared.tree.Expression.{Expression}
 use Rattle.c_kinds.specs.Scopes.{Scope, Env}
 use Rattle.c_kinds.specs.Values.{value_of, dropped}

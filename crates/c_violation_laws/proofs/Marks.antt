@@ -1,9 +1,9 @@
 -- The tokens of a file at which names are declared or expressions begin, in text order; behind a name also the next one.
 use Rattle.std.proofs.Common.{◌+◌, ℕ, List, [], ◌∷◌, ◌++◌, Option, Some, None}
-use Rattle.c_layers.specs.Terms.{Term, first_of}
-use Rattle.c_layers.specs.Items.{Initialiser, NoValue, OneValue, ValueList, Declarator, Declaration, Label, Case, Start, NoStart, StartValue, StartNames, Item, Declares, States, Plain, From, Statement, Evaluate, If, IfElse, While, DoWhile, For, Switch, Block, Return, Body, Braces, Lone, Items, NoItem, Then}
-use Rattle.c_layers.specs.Tops.{Enumerator, Parameter, Function, Form, Line, Enum, Globals, Defines, Top}
-use Rattle.c_layers.specs.Tops as tops
+use Rattle.c_grammar.specs.Terms.{Term, first_of}
+use Rattle.c_grammar.specs.Items.{Initialiser, NoValue, OneValue, ValueList, Declarator, Declaration, Label, Case, Start, NoStart, StartValue, StartNames, Item, Declares, States, Plain, From, Statement, Evaluate, If, IfElse, While, DoWhile, For, Switch, Block, Return, Body, Braces, Lone, Items, NoItem, Then}
+use Rattle.c_grammar.specs.Tops.{Enumerator, Parameter, Function, Form, Line, Enum, Globals, Defines, Top}
+use Rattle.c_grammar.specs.Tops as tops
 
 -- of these, in order
 abbrev pub each_marks : {W : Type 0} → (W → List ℕ) → List W → List ℕ

@@ -14,10 +14,10 @@ use Rattle.c_tree.specs.declared.tree.Node.{Node}
 use Rattle.c_lexer.specs.Marks.{mark_of}
 use Rattle.c_lexer.specs.Numbers.{integer_of}
 use Rattle.c_lexer.specs.declared.number.Integer.{Integer}
-use Rattle.c_layers.specs.Words.{is_character, character}
-use Rattle.c_layers.specs.DecodingSteps.{decoded}
-use Rattle.c_layers.proofs.DecodedSteps.{decoded_writes, written_decoded}
-use Rattle.c_layers.specs.Terms.{Term, Form, Terms, At, Constant, Variable, Cell, Prefix, Suffix, CastTo, CastVoid, Binary, Choice, Assign, Commas, Call, Texts, Unknown, NoTerm, Then}
+use Rattle.c_grammar.specs.Words.{is_character, character}
+use Rattle.c_grammar.specs.DecodingSteps.{decoded}
+use Rattle.c_grammar.proofs.DecodedSteps.{decoded_writes, written_decoded}
+use Rattle.c_grammar.specs.Terms.{Term, Form, Terms, At, Constant, Variable, Cell, Prefix, Suffix, CastTo, CastVoid, Binary, Choice, Assign, Commas, Call, Texts, Unknown, NoTerm, Then}
 use Rattle.c_kinds.specs.declared.binding.Binding.{Binding}
 use Rattle.c_kinds.specs.declared.binding.Binding.TheVariants as binding
 use Rattle.c_kinds.specs.declared.typed.Typed.{Typed}

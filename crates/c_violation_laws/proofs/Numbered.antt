@@ -1,8 +1,8 @@
 -- The variables of a function climb, if its tokens are in order.
 use Rattle.std.proofs.Common.{◌+◌, ℕ, List, [], ◌∷◌, ◌++◌, map, Option, Some, None, arith}
-use Rattle.c_layers.specs.Items.{Declarator, Start, NoStart, StartValue, StartNames, Item, Declares, States, Plain, From, Statement, Null, Evaluate, If, IfElse, While, DoWhile, For, Switch, Block, Goto, Break, Continue, Return, Unread, Body, Braces, Lone, Items, NoItem, Then}
-use Rattle.c_layers.specs.Tops.{Parameter, Function, Form, Line, Enum, Globals, Defines, Top}
-use Rattle.c_layers.specs.Tops as tops
+use Rattle.c_grammar.specs.Items.{Declarator, Start, NoStart, StartValue, StartNames, Item, Declares, States, Plain, From, Statement, Null, Evaluate, If, IfElse, While, DoWhile, For, Switch, Block, Goto, Break, Continue, Return, Unread, Body, Braces, Lone, Items, NoItem, Then}
+use Rattle.c_grammar.specs.Tops.{Parameter, Function, Form, Line, Enum, Globals, Defines, Top}
+use Rattle.c_grammar.specs.Tops as tops
 use Rattle.c_reading_defs.specs.Symbols.{Symbol}
 use Rattle.c_reading_defs.specs.DerivedTops.{IsFunction, IsFile}
 use Rattle.c_reading_defs.specs.Variables.{name_tokens, start_variables, item_variables, plain_variables, statement_variables, body_variables, list_variables, variables_within, variables_of}

@@ -1,8 +1,8 @@
 -- What is derived has its tokens in text order.
 use Rattle.std.proofs.Common.{◌≡◌, ◌≤◌, ◌+◌, ℕ, Bool, false, List, [], ◌∷◌, ◌++◌, length, Option, arith}
-use Rattle.c_layers.specs.Terms.{Term}
-use Rattle.c_layers.specs.Items.{Initialiser, Declarator, Declaration, Label, Start, Item, States, Statement, Body, Items}
-use Rattle.c_layers.specs.Tops.{Enumerator, Parameter, Function, Form, Top}
+use Rattle.c_grammar.specs.Terms.{Term}
+use Rattle.c_grammar.specs.Items.{Initialiser, Declarator, Declaration, Label, Start, Item, States, Statement, Body, Items}
+use Rattle.c_grammar.specs.Tops.{Enumerator, Parameter, Function, Form, Top}
 use Rattle.c_grammar.specs.declared.class.Class.{Class}
 use Rattle.c_grammar.specs.declared.class.Class.TheVariants as c
 use Rattle.c_reading_defs.specs.Symbols.{Symbol, Counted, Uncounted, Outside, OpensLevel, EndsLevel, classes_in, token_behind}

@@ -1,8 +1,8 @@
 -- The sections of a switch from back to front: the items that stand in front of the first section, and the sections.
 use Rattle.std.proofs.Common.{◌≡◌, Bool, true, false, cond, List, [], ◌∷◌, ◌++◌, refl, ap, ◌∙◌, append_assoc, append-nil}
 use Rattle.c_tree.specs.declared.tree.Item as item
-use Rattle.c_layers.specs.Items.{Label, Declares, States, Items, NoItem, Then, first_label}
-use Rattle.c_layers.specs.Items as items
+use Rattle.c_grammar.specs.Items.{Label, Declares, States, Items, NoItem, Then, first_label}
+use Rattle.c_grammar.specs.Items as items
 use Rattle.c_statements.specs.declared.anchors.Anchor.TheVariants.{AtSection}
 use Rattle.c_statements.specs.Labels.{has_case, has_default}
 use Rattle.c_statements.specs.Sections.{Reading}

@@ -8,9 +8,9 @@ use Rattle.std.specs.Ordering.{match_ordering, is_eq}
 use Rattle.std.proofs.lemmas.Map.Text.{is_eq-slice_cmp}
 use Rattle.c_types.specs.Words.{name_cmp}
 use Rattle.c_tree.specs.declared.tree.Top.TheVariants as top
-use Rattle.c_layers.specs.Terms.{Term, first_of}
-use Rattle.c_layers.specs.Items.{Declarator}
-use Rattle.c_layers.specs.Tops.{Enumerator, Form, Line, Enum, Globals, Defines, Unread, Top, From}
+use Rattle.c_grammar.specs.Terms.{Term, first_of}
+use Rattle.c_grammar.specs.Items.{Declarator}
+use Rattle.c_grammar.specs.Tops.{Enumerator, Form, Line, Enum, Globals, Defines, Unread, Top, From}
 use Rattle.c_kinds.specs.declared.binding.Binding.TheVariants.{Constant, Global}
 use Rattle.c_kinds.specs.Scopes.{Scope, bind}
 use Rattle.c_kinds.proofs.Entries.{same_names}

@@ -3,8 +3,8 @@ use Rattle.std.proofs.Common.{◌≡◌, ℕ, not, List, [], ◌∷◌, ◌++◌
 use Rattle.c_lexer.specs.declared.token.Token.{Token}
 use Rattle.c_lexer.specs.declared.token.Span.{Span}
 use Rattle.c_tree.specs.declared.tree.Top.TheVariants as top
-use Rattle.c_layers.specs.Words.{word_of}
-use Rattle.c_layers.specs.Tops.{Function, Form, Line, Enum, Globals, Defines, Unread, Top, From}
+use Rattle.c_grammar.specs.Words.{word_of}
+use Rattle.c_grammar.specs.Tops.{Function, Form, Line, Enum, Globals, Defines, Unread, Top, From}
 use Rattle.c_kinds.specs.declared.binding.Binding.TheVariants as binding
 use Rattle.c_kinds.specs.Scopes.{Faults}
 use Rattle.c_statements.specs.declared.anchors.Anchor.TheVariants.{Before}

@@ -1,7 +1,7 @@
 -- A walk stands at a place: the names are the same there, and it has as many slots as variables are declared before.
 use Rattle.std.proofs.Common.{◌≡◌, ◌≤◌, ℕ, ◌+◌, List, [], ◌∷◌, ◌++◌, map, length, length-append, Option, Some, None, refl, ap, sym, subst, ◌∙◌, arith, add-zero, add_assoc, append_assoc, append-nil}
-use Rattle.c_layers.specs.Items.{Declarator, Label, Named, Case, Default, Start, NoStart, StartValue, StartNames, Item, Declares, States, Plain, From, Statement, Null, Evaluate, If, IfElse, While, DoWhile, For, Switch, Block, Goto, Break, Continue, Return, Unread, Body, Braces, Lone, Items, NoItem, Then}
-use Rattle.c_layers.specs.Terms.{Term, first_of}
+use Rattle.c_grammar.specs.Items.{Declarator, Label, Named, Case, Default, Start, NoStart, StartValue, StartNames, Item, Declares, States, Plain, From, Statement, Null, Evaluate, If, IfElse, While, DoWhile, For, Switch, Block, Goto, Break, Continue, Return, Unread, Body, Braces, Lone, Items, NoItem, Then}
+use Rattle.c_grammar.specs.Terms.{Term, first_of}
 use Rattle.c_kinds.specs.declared.binding.Binding.TheVariants.{Local}
 use Rattle.c_statements.specs.declared.extents.Kinded.{Kinded}
 use Rattle.c_statements.specs.Context.{Context, Walk, enter}

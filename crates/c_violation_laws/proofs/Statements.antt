@@ -1,8 +1,8 @@
 -- What a walk finds in statements.
 use Rattle.std.proofs.Common.{◌≡◌, ◌⊎◌, inl, inr, ℕ, Bool, true, false, not, ◌||◌, List, [], ◌∷◌, ◌++◌, Option, Some, None, option_map, refl, sym, ap, subst, ◌∙◌, true≢false}
 use Rattle.c_types.specs.declared.kinds.IntKind.{IntKind}
-use Rattle.c_layers.specs.Terms.{Term, first_of}
-use Rattle.c_layers.specs.Items.{Label, Named, Case, Default, Declaration, Start, NoStart, StartValue, StartNames, Item, Declares, States, Plain, From, Statement, Null, Evaluate, If, IfElse, While, DoWhile, For, Switch, Block, Goto, Break, Continue, Return, Unread, Body, Braces, Lone, Items, NoItem, Then, items_in, item_first, stated_first}
+use Rattle.c_grammar.specs.Terms.{Term, first_of}
+use Rattle.c_grammar.specs.Items.{Label, Named, Case, Default, Declaration, Start, NoStart, StartValue, StartNames, Item, Declares, States, Plain, From, Statement, Null, Evaluate, If, IfElse, While, DoWhile, For, Switch, Block, Goto, Break, Continue, Return, Unread, Body, Braces, Lone, Items, NoItem, Then, items_in, item_first, stated_first}
 use Rattle.c_kinds.specs.declared.typed.Fault.{Fault}
 use Rattle.c_kinds.specs.Scopes.{Faults, fault, fault_if}
 use Rattle.c_kinds.specs.Typing.{typed, faults, constant_faults}

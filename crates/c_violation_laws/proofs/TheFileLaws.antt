@@ -1,6 +1,6 @@
 -- What a walk finds in a file, and what of that is reported.
 use Rattle.std.proofs.Common.{List, [], ◌∷◌, ◌++◌, map, true≢false, sym, subst}
-use Rattle.c_layers.specs.Tops.{Form, Line, Enum, Globals, Defines, Unread, Top, From}
+use Rattle.c_grammar.specs.Tops.{Form, Line, Enum, Globals, Defines, Unread, Top, From}
 use Rattle.c_statements.specs.Declarations.{kinded}
 use Rattle.c_statements.specs.Functions.{function_faults}
 use Rattle.c_scopes.specs.Enums.{enum_faults}

@@ -1,6 +1,6 @@
 -- What the walk finds all expressions to be is the one typing.
 use Rattle.std.proofs.Common.{◌≡◌, ◌⊎◌, inl, inr, refl, sym, subst, ◌∙◌}
-use Rattle.c_layers.specs.Terms.{Term}
+use Rattle.c_grammar.specs.Terms.{Term}
 use Rattle.c_kinds.specs.declared.typed.Typed.{Typed}
 use Rattle.c_kinds.specs.declared.typed.Typed.TheVariants.{Value, Void, Text, Array, Wrong}
 use Rattle.c_kinds.specs.Scopes.{Env}

@@ -1,6 +1,6 @@
 -- What a walk finds at a name, and at an expression that is used for something.
 use Rattle.std.proofs.Common.{◌≡◌, ◌≢◌, ◌⊎◌, inl, inr, ℕ, Bool, true, false, cond, not, ◌&&◌, Option, Some, None, is_some, refl, sym, ap, subst, ◌∙◌, true≢false}
-use Rattle.c_layers.specs.Terms.{Term, Variable, Cell, first_of}
+use Rattle.c_grammar.specs.Terms.{Term, Variable, Cell, first_of}
 use Rattle.c_kinds.specs.declared.binding.Binding.{Binding}
 use Rattle.c_kinds.specs.declared.binding.Binding.TheVariants.{Constant, Global, Local, Function, Printf}
 use Rattle.c_kinds.specs.declared.typed.Fault.{Fault}

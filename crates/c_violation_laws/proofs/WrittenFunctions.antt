@@ -1,8 +1,8 @@
 -- Functions, with their slots, labels and items.
 use Rattle.std.proofs.Common.{◌≡◌, ℕ, List, [], ◌++◌, map, Option, Some, None, refl, ap, sym, ◌∙◌, append-nil}
 use Rattle.std.specs.Prelude.{option_map}
-use Rattle.c_layers.specs.Items.{Body, Braces, Lone}
-use Rattle.c_layers.specs.Tops.{Function}
+use Rattle.c_grammar.specs.Items.{Body, Braces, Lone}
+use Rattle.c_grammar.specs.Tops.{Function}
 use Rattle.c_kinds.specs.Scopes.{Scope}
 use Rattle.c_statements.specs.declared.anchors.Anchor.{Anchor}
 use Rattle.c_statements.specs.declared.anchors.Anchor.TheVariants.{AtEnd}

@@ -1,6 +1,6 @@
 -- What the function of this crate states: what walks over expressions find.
 use Rattle.std.specs.Prelude.{◌≡◌, ℕ, List, Some, None}
-use Rattle.c_layers.specs.Terms.{Term}
+use Rattle.c_grammar.specs.Terms.{Term}
 use Rattle.c_kinds.specs.declared.binding.Binding.{Binding}
 use Rattle.c_kinds.specs.Scopes.{Scope, Env, look_up}
 use Rattle.c_kinds.specs.Typing.{faults, used, unused, constant_faults}

@@ -1,6 +1,6 @@
 -- What the function of this crate states: what the walk reports is the least of the violations by places.
 use Rattle.std.specs.Prelude.{◌≡◌, List, Some, None}
-use Rattle.c_layers.specs.Tops.{Top}
+use Rattle.c_grammar.specs.Tops.{Top}
 use Rattle.c_kinds.specs.declared.typed.Fault.{Fault}
 use Rattle.c_scopes.specs.Files.{File}
 use Rattle.c_scopes.specs.Resolving.{violation_of}

@@ -1,6 +1,6 @@
 -- What the function of this crate states: the walk over a function finds the rules that are broken in it.
 use Rattle.std.specs.Prelude.{◌≡◌, ◌≤◌, ◌<◌, ℕ, List}
-use Rattle.c_layers.specs.Tops.{Function}
+use Rattle.c_grammar.specs.Tops.{Function}
 use Rattle.c_kinds.specs.Scopes.{Scope}
 use Rattle.c_statements.specs.declared.anchors.Anchor.{Anchor}
 use Rattle.c_statements.specs.Functions.{FlatCounts, function_faults}

@@ -1,7 +1,7 @@
 -- What the function of this crate states.
 use Rattle.std.specs.Prelude.{◌≡◌, ◌≢◌, ℕ, ℤ, List, Some, None}
 use Rattle.c_tree.specs.declared.tree.Expression.{Expression}
-use Rattle.c_layers.specs.Terms.{Term}
+use Rattle.c_grammar.specs.Terms.{Term}
 use Rattle.c_kinds.specs.declared.binding.Binding.{Binding}
 use Rattle.c_kinds.specs.declared.binding.Want.{Want}
 use Rattle.c_kinds.specs.declared.typed.Typed.{Typed}

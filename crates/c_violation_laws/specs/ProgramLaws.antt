@@ -2,7 +2,7 @@
 use Rattle.std.specs.Prelude.{◌≡◌, ℕ, List}
 use Rattle.c_lexer.specs.declared.token.Token.{Token}
 use Rattle.c_lexer.specs.declared.token.Span.{Span}
-use Rattle.c_layers.specs.Tops.{Top}
+use Rattle.c_grammar.specs.Tops.{Top}
 use Rattle.c_statements.specs.Functions.{FlatCounts}
 use Rattle.c_scopes.specs.Files.{File}
 use Rattle.c_scopes.specs.Resolving.{file_at, program_of, violation_of}

@@ -14,7 +14,7 @@ use Rattle.c_copies.proofs.Rising.{has_name-with_name}
 use Rattle.c_fresh_names.specs.Fresh.{numbered, first_free, fresh}
 use Rattle.c_fresh_names.proofs.NameSets.{found_unused}
 use Rattle.c_resolved_defs.specs.PrintableExpressions.{IsName}
-use Rattle.plain_resolved_laws.proofs.GuardWords.{IsTail, tail_append, decimal_tail, and_both, and_first, and_second}
+use Rattle.whole_laws.proofs.GuardWords.{IsTail, tail_append, decimal_tail, and_both, and_first, and_second}
 
 -- ---- words that end in a digit
 

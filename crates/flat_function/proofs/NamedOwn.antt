@@ -19,9 +19,9 @@ use Rattle.flat_names.specs.declared.constructs.Construct.{Construct}
 use Rattle.flat_names.specs.FlatNames.{Given, Named, constructs, name_constructs, none_given, named_slots}
 use Rattle.c_resolved_defs.specs.Within.{Each, AllDiffer}
 use Rattle.c_resolved_defs.specs.PrintableExpressions.{IsName}
-use Rattle.plain_resolved_laws.specs.Names.{TopIsOther, IsFreeIn, HasOwnNames}
-use Rattle.plain_resolved_laws.proofs.GuardsOwn.{first_not, has_append, or_neither, tops_other, differ_append}
-use Rattle.plain_resolved_laws.proofs.Lists.{each_map, each_append, drop_append}
+use Rattle.whole_laws.specs.Names.{TopIsOther, IsFreeIn, HasOwnNames}
+use Rattle.whole_laws.proofs.GuardsOwn.{first_not, has_append, or_neither, tops_other, differ_append}
+use Rattle.whole_laws.proofs.PlainLists.{each_map, each_append, drop_append}
 use Rattle.flat_function.specs.Laws.{named_flat}
 use Rattle.flat_function.specs.Own.{IsNamedIn, FlatNamesAreOwn}
 use Rattle.flat_function.proofs.Forms.{kinds, numbers_named, named_length, first_same}

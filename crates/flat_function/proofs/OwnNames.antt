@@ -11,8 +11,8 @@ use Rattle.flat_names.specs.declared.constructs.Construct.TheVariants as c
 use Rattle.flat_names.specs.FlatNames.{Given, Named, number_slot, name_variable, name_case, name_cases, name_default, name_break, name_construct, name_constructs, variable_name, slot_named, slot_taken, slot_used, named_slots}
 use Rattle.c_resolved_defs.specs.Within.{Each, AllDiffer}
 use Rattle.c_resolved_defs.specs.PrintableExpressions.{IsName}
-use Rattle.plain_resolved_laws.proofs.GuardsOwn.{differ_append}
-use Rattle.plain_resolved_laws.proofs.Lists.{each_map, each_both, each_append}
+use Rattle.whole_laws.proofs.GuardsOwn.{differ_append}
+use Rattle.whole_laws.proofs.PlainLists.{each_map, each_both, each_append}
 use Rattle.flat_function.proofs.Forms.{break_same, default_same, cases_same}
 use Rattle.flat_function.proofs.FreshNames.{numbered_name, fresh_name, fresh_unused, Grows, grows_self, grows_then, grows_with, own_with}
 

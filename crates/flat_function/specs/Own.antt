@@ -10,7 +10,7 @@ use Rattle.c_tree.specs.Trees.{Forest, trees_of}
 use Rattle.flat_names.specs.FlatNames.{constructs, name_constructs, none_given, named_slots}
 use Rattle.c_resolved_defs.specs.Within.{Each}
 use Rattle.c_resolved_defs.specs.PrintableExpressions.{IsName}
-use Rattle.plain_resolved_laws.specs.Names.{HasOwnNames}
+use Rattle.whole_laws.specs.Names.{HasOwnNames}
 use Rattle.flat_function.specs.Laws.{named_flat}
 
 -- the names that are used once the variables of the flat form have theirs

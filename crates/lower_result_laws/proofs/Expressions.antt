@@ -34,9 +34,9 @@ use Rattle.lower_laws.specs.Straight.{jump_if}
 use Rattle.lower_laws.specs.Functions.{AreFlat}
 use Rattle.lower_laws.proofs.LoweredPrograms.{lowered_laws}
 use Rattle.lower_laws.specs.Lowering.{IsBodyLowered, IsLoweredFunction, IsTopLowered, LoweredTops, lt_none, lt_more, IsLoweredProgram}
-use Rattle.plain_resolved_laws.proofs.Facts.{AnyNote, ItemHas}
-use Rattle.plain_resolved_laws.proofs.Lists.{each_map}
-use Rattle.plain_resolved_laws.proofs.Wrappers.{bracket_most}
+use Rattle.whole_laws.proofs.Facts.{AnyNote, ItemHas}
+use Rattle.whole_laws.proofs.PlainLists.{each_map}
+use Rattle.whole_laws.proofs.Wrappers.{bracket_most}
 use Rattle.lower_result_laws.proofs.Lowered.{body_is, result, is_lowered}
 use Rattle.lower_result_laws.proofs.FactsLowered.{AreH, Tests}
 use Rattle.lower_result_laws.proofs.LoweredFacts.{front, list, facts_lowered}

@@ -23,7 +23,7 @@ use Rattle.lower_laws.specs.Straight.{jump_if, if_items, while_items, do_items, 
 use Rattle.lower_laws.specs.Lowered.{Layout, variables_of, past, past_item, inside, jump_of, lowered_if, lowered_do, lowered_for, break_aim, for_aim, continue_aim, lowered, lowered_item, lowered_among}
 use Rattle.lower_laws.specs.Source.{HaveVariables, HasVariables, HaveVariablesAmong}
 use Rattle.c_resolved_laws.specs.Laws.{IsUndeclaring}
-use Rattle.plain_resolved_laws.proofs.Facts.{ItemHas}
+use Rattle.whole_laws.proofs.Facts.{ItemHas}
 
 module _ (V O C : ExpressionTree → Type 0) (R : Option ExpressionTree → Type 0) (N : List ℕ → Type 0) where
   -- the facts of an item, which declares nothing

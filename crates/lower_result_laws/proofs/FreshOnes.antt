@@ -9,7 +9,7 @@ use Rattle.c_fresh_names.proofs.NameSets.{no_more}
 use Rattle.c_resolved_defs.specs.Within.{Each, AllDiffer}
 use Rattle.c_resolved_defs.specs.PrintableExpressions.{IsName}
 use Rattle.flat_function.proofs.FreshNames.{numbered_name, fresh_name, fresh_unused, Grows, grows_self, grows_then, grows_with, own_with}
-use Rattle.plain_resolved_laws.proofs.Lists.{each_map}
+use Rattle.whole_laws.proofs.PlainLists.{each_map}
 use Rattle.lower_laws.specs.Lowering.{label_names}
 use Rattle.lower_result_laws.proofs.Variables.{kinds, more_variables, used_behind}
 

@@ -31,12 +31,12 @@ use Rattle.c_resolved_defs.specs.Form.{numbers_from}
 use Rattle.c_resolved_defs.specs.Scopes.{Meaning, AVariable, Scope, found, look_up, inside, with_parameters, IsBound, AreBound}
 use Rattle.c_resolved_laws.specs.Laws.{BindsNothing}
 use Rattle.c_resolved_laws.proofs.OneScope.{one_scope}
-use Rattle.plain_resolved_laws.specs.Names.{IsFreeIn, HasOwnNames}
-use Rattle.plain_resolved_laws.proofs.Facts.{AnyNote, ItemHas}
-use Rattle.plain_resolved_laws.proofs.Lists.{each_map, each_both, each_name}
-use Rattle.plain_resolved_laws.proofs.PlainBound.{first_name}
-use Rattle.plain_resolved_laws.proofs.ScopeLists.{none_some, IsNoSlot, parameter_scope, parameters_bound, parameters_take, found_beside, FromParameters, parameter, before, parameters_found, declared_scope, declarations_bind, found_undeclared, found_declared, declarations_bound, bound_join, names_from}
-use Rattle.plain_resolved_laws.proofs.SourceBound.{DeclaresIn, slot_some, not_slot, source_seen}
+use Rattle.whole_laws.specs.Names.{IsFreeIn, HasOwnNames}
+use Rattle.whole_laws.proofs.Facts.{AnyNote, ItemHas}
+use Rattle.whole_laws.proofs.PlainLists.{each_map, each_both, each_name}
+use Rattle.whole_laws.proofs.PlainBound.{first_name}
+use Rattle.whole_laws.proofs.ScopeLists.{none_some, IsNoSlot, parameter_scope, parameters_bound, parameters_take, found_beside, FromParameters, parameter, before, parameters_found, declared_scope, declarations_bind, found_undeclared, found_declared, declarations_bound, bound_join, names_from}
+use Rattle.whole_laws.proofs.SourceBound.{DeclaresIn, slot_some, not_slot, source_seen}
 use Rattle.lower_result_laws.proofs.Lowered.{setting}
 use Rattle.lower_result_laws.proofs.FactsLowered.{H, AreH, Tests}
 use Rattle.lower_result_laws.proofs.LoweredFacts.{new_slots, slots_length, list, front, Source, list_has}

@@ -15,7 +15,7 @@ use Rattle.lower_laws.specs.Lowering.{constructs, lowered_names}
 use Rattle.flat_function.proofs.Forms.{named_length}
 use Rattle.lower_result_laws.proofs.Variables.{more_length, counted}
 use Rattle.lower_result_laws.proofs.Lowered.{blocks, switches, slots_are, layout_of, setting, have_variables}
-use Rattle.plain_resolved_laws.proofs.Facts.{ItemHas}
+use Rattle.whole_laws.proofs.Facts.{ItemHas}
 use Rattle.lower_result_laws.proofs.FactsLowered.{H, AreH, F, lowered_has}
 
 -- a function with this body, what it is lowered to where these names are used and taken, and the body of that

@@ -24,16 +24,16 @@ use Rattle.c_resolved_defs.specs.Names.{Names}
 use Rattle.c_resolved_defs.specs.Resolved.{IsResolvedFunction, IsResolvedTop, IsResolvedWith, names_in}
 use Rattle.c_resolved_defs.specs.Scopes.{AFunction, Scope, bind, behind_top, FunctionIsBound, TopIsBound, TopsAreBound, at_start}
 use Rattle.c_resolved_defs.specs.Spelling.{FunctionIsSpelled, TopIsSpelled}
-use Rattle.plain_resolved_laws.specs.Names.{TopIsOther, IsFreeIn}
-use Rattle.plain_resolved_laws.proofs.NamesKept.{names_kept, keeps_self, kinds_over}
-use Rattle.plain_resolved_laws.proofs.SameFile.{SameDeclaration, SameFile, sf_none, sf_function, sf_other, declarations_over, main_over, global_over, callee_over}
-use Rattle.plain_resolved_laws.proofs.SameTops.{self_declared}
+use Rattle.whole_laws.specs.Names.{TopIsOther, IsFreeIn}
+use Rattle.whole_laws.proofs.NamesKept.{names_kept, keeps_self, kinds_over}
+use Rattle.whole_laws.proofs.SameFile.{SameDeclaration, SameFile, sf_none, sf_function, sf_other, declarations_over, main_over, global_over, callee_over}
+use Rattle.whole_laws.proofs.SameTops.{self_declared}
 use Rattle.lower_result_laws.proofs.OwnNames.{AreAmong, among_left, among_right}
 use Rattle.lower_laws.specs.Lowering.{most_held, IsTopLowered, LoweredTops, lt_none, lt_more, IsLoweredProgram}
 use Rattle.lower_result_laws.proofs.Tops.{either}
 use Rattle.lower_result_laws.specs.Modest.{IsModestTop}
 use Rattle.lower_result_laws.specs.LoweredResolvedLaws.{IsTopUntangled}
-use Rattle.plain_resolved_laws.proofs.FileScopes.{IsFree, AreOfFile, top_file, start_file, body_bound, function_over}
+use Rattle.whole_laws.proofs.FileScopes.{IsFree, AreOfFile, top_file, start_file, body_bound, function_over}
 use Rattle.lower_result_laws.proofs.LoweredFunctions as F
 
 -- ---- lists of tops, with facts of the source

@@ -25,7 +25,7 @@ use Rattle.c_resolved_defs.specs.Resolved.{IsResolvedFunction}
 use Rattle.c_resolved_laws.specs.Laws.{IsUndeclaring}
 use Rattle.c_resolved_laws.proofs.LabelsGiven.{count_in}
 use Rattle.c_resolved_laws.proofs.Ranged.{function_ranged}
-use Rattle.plain_resolved_laws.proofs.PlainForms.{gathered_join}
+use Rattle.whole_laws.proofs.PlainForms.{gathered_join}
 use Rattle.lower_laws.specs.Lowering.{label_codes}
 use Rattle.lower_result_laws.proofs.Lowered.{body_is, result, is_lowered}
 use Rattle.lower_result_laws.proofs.OwnLabels.{function_own}

@@ -30,15 +30,15 @@ use Rattle.c_resolved_defs.specs.Scopes.{Scope, look_up, inside, with_parameters
 use Rattle.c_resolved_defs.specs.Spelling.{AreSpelled, BodyIsSpelled, HasName, FunctionIsSpelled}
 use Rattle.c_resolved_defs.specs.Switches.{HasCases}
 use Rattle.c_resolved_laws.specs.Laws.{IsUndeclaring}
-use Rattle.plain_resolved_laws.specs.Names.{IsFreeIn}
-use Rattle.plain_resolved_laws.proofs.Facts.{AnyNote}
-use Rattle.plain_resolved_laws.proofs.ItemKinds.{HasKinds, Agrees, Returned, from_kinds}
-use Rattle.plain_resolved_laws.proofs.MadeKinds.{Known, Value, Operand}
-use Rattle.plain_resolved_laws.proofs.NamesKept.{KeepsNames, names_kept}
-use Rattle.plain_resolved_laws.proofs.PlainSlots.{entry_there}
-use Rattle.plain_resolved_laws.proofs.SameFile.{SameDeclaration, SameFile, global_over, callee_over}
-use Rattle.plain_resolved_laws.proofs.ScopeLists.{IsNoSlot}
-use Rattle.plain_resolved_laws.proofs.SourceBound.{DeclaresIn}
+use Rattle.whole_laws.specs.Names.{IsFreeIn}
+use Rattle.whole_laws.proofs.Facts.{AnyNote}
+use Rattle.whole_laws.proofs.ItemKinds.{HasKinds, Agrees, Returned, from_kinds}
+use Rattle.whole_laws.proofs.MadeKinds.{Known, Value, Operand}
+use Rattle.whole_laws.proofs.NamesKept.{KeepsNames, names_kept}
+use Rattle.whole_laws.proofs.PlainSlots.{entry_there}
+use Rattle.whole_laws.proofs.SameFile.{SameDeclaration, SameFile, global_over, callee_over}
+use Rattle.whole_laws.proofs.ScopeLists.{IsNoSlot}
+use Rattle.whole_laws.proofs.SourceBound.{DeclaresIn}
 use Rattle.lower_result_laws.proofs.OwnNames.{AreAmong}
 use Rattle.lower_laws.specs.Lowering.{most_held, constructs, label_codes, label_names}
 use Rattle.lower_result_laws.proofs.Variables.{used_behind, variables_are}
@@ -52,7 +52,7 @@ use Rattle.lower_result_laws.proofs.GotosStand.{OfGoto}
 use Rattle.lower_result_laws.specs.Modest.{IsModestItem}
 use Rattle.lower_result_laws.proofs.FreshOnes.{labels_length, labels_named, labels_apart}
 use Rattle.lower_result_laws.proofs.OwnNames as O
-use Rattle.plain_resolved_laws.proofs.FileScopes.{declares_in}
+use Rattle.whole_laws.proofs.FileScopes.{declares_in}
 use Rattle.lower_result_laws.proofs.LoweredForm.{are_codes, codes_apart, body_flat, list_flat, list_marks, gotos_below, lowered_form}
 use Rattle.lower_result_laws.proofs.LoweredBound.{lowered_bound}
 use Rattle.lower_result_laws.proofs.LoweredSpelled.{flat_shallow, lowered_spelled}

@@ -32,12 +32,12 @@ use Rattle.c_resolved_defs.specs.Files.{AreInitialisers}
 use Rattle.c_resolved_defs.specs.Limits.{FlatCounts}
 use Rattle.c_resolved_defs.specs.Resolved.{IsInitialised, IsResolvedFunction, names_in}
 use Rattle.c_resolved_laws.proofs.SourceGiven.{Declared, function_declared}
-use Rattle.plain_resolved_laws.proofs.Facts.{AnyNote}
-use Rattle.plain_resolved_laws.proofs.ItemKinds.{HasKinds, Returned}
-use Rattle.plain_resolved_laws.proofs.MadeKinds.{Known, Value, Operand, value_operand, IsFreeNumber, IsFreeArray, number_known, assign_known, cell_known, test_known}
-use Rattle.plain_resolved_laws.proofs.NamesKept.{KeepsNames}
-use Rattle.plain_resolved_laws.proofs.PlainKinds.{source_kinds}
-use Rattle.plain_resolved_laws.proofs.PlainSlots.{entry_there}
+use Rattle.whole_laws.proofs.Facts.{AnyNote}
+use Rattle.whole_laws.proofs.ItemKinds.{HasKinds, Returned}
+use Rattle.whole_laws.proofs.MadeKinds.{Known, Value, Operand, value_operand, IsFreeNumber, IsFreeArray, number_known, assign_known, cell_known, test_known}
+use Rattle.whole_laws.proofs.NamesKept.{KeepsNames}
+use Rattle.whole_laws.proofs.PlainKinds.{source_kinds}
+use Rattle.whole_laws.proofs.PlainSlots.{entry_there}
 use Rattle.lower_result_laws.proofs.Lowered.{layout_of, setting}
 use Rattle.lower_result_laws.proofs.FactsLowered.{AreH, Tests}
 use Rattle.lower_result_laws.proofs.LoweredFacts.{new_slots, Source, front, list, list_has, facts_lowered}

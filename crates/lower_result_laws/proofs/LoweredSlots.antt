@@ -14,9 +14,9 @@ use Rattle.c_resolved_defs.specs.Files.{IsLength, IsParameterLength, AreLengths}
 use Rattle.c_resolved_defs.specs.Resolved.{HasLengths}
 use Rattle.flat_looser_laws.specs.Loose.{ExtendSlots}
 use Rattle.flat_function.proofs.Forms.{first_same}
-use Rattle.plain_resolved_laws.proofs.MadeKinds.{IsFreeNumber, IsFreeArray}
-use Rattle.plain_resolved_laws.proofs.NamesKept.{SameVariable, KeepsSlots, extended, Found, slot_over}
-use Rattle.plain_resolved_laws.proofs.PlainSlots.{entry_there, in_drop}
+use Rattle.whole_laws.proofs.MadeKinds.{IsFreeNumber, IsFreeArray}
+use Rattle.whole_laws.proofs.NamesKept.{SameVariable, KeepsSlots, extended, Found, slot_over}
+use Rattle.whole_laws.proofs.PlainSlots.{entry_there, in_drop}
 use Rattle.lower_laws.specs.Lowering.{constructs}
 use Rattle.lower_result_laws.proofs.Variables.{kinds, more_numbers, IsFree, free_behind}
 use Rattle.lower_result_laws.proofs.Lowered.{blocks, switches, slots_are, slots_extend, setting}

@@ -38,12 +38,12 @@ use Rattle.c_resolved_defs.specs.PrintableStatements.{most, FullPrints, OptionPr
 use Rattle.c_resolved_defs.specs.Resolved.{IsInitialised}
 use Rattle.c_resolved_defs.specs.Spelling.{AreSpelled}
 use Rattle.c_resolved_defs.specs.Verbatims.{IsComment}
-use Rattle.plain_resolved_laws.specs.Names.{HasOwnNames}
-use Rattle.plain_resolved_laws.proofs.PlainBound.{first_name}
-use Rattle.plain_resolved_laws.proofs.PlainSlots.{entry_there, in_drop}
-use Rattle.plain_resolved_laws.proofs.PrintsOver.{constant_prints}
-use Rattle.plain_resolved_laws.proofs.SourceBound.{DeclaresIn}
-use Rattle.plain_resolved_laws.proofs.Wrappers.{bracket_most, case_counted}
+use Rattle.whole_laws.specs.Names.{HasOwnNames}
+use Rattle.whole_laws.proofs.PlainBound.{first_name}
+use Rattle.whole_laws.proofs.PlainSlots.{entry_there, in_drop}
+use Rattle.whole_laws.proofs.PrintsOver.{constant_prints}
+use Rattle.whole_laws.proofs.SourceBound.{DeclaresIn}
+use Rattle.whole_laws.proofs.Wrappers.{bracket_most, case_counted}
 use Rattle.lower_result_laws.proofs.Lowered.{layout_of, setting}
 use Rattle.lower_result_laws.proofs.FactsLowered.{H, AreH, Tests}
 use Rattle.lower_result_laws.proofs.LoweredFacts.{new_slots, slots_length, list, front, Source, list_has}

@@ -27,16 +27,16 @@ use Rattle.c_resolved_defs.specs.Limits.{FlatCounts}
 use Rattle.c_resolved_defs.specs.PrintableExpressions.{IsName}
 use Rattle.c_resolved_defs.specs.Resolved.{IsResolvedFunction}
 use Rattle.c_resolved_defs.specs.Spelling.{BodyIsSpelled, FunctionIsSpelled}
-use Rattle.plain_resolved_laws.specs.Names.{IsFreeIn, HasOwnNames}
-use Rattle.plain_resolved_laws.proofs.GuardsOwn.{or_neither, tops_other, differ_append}
-use Rattle.plain_resolved_laws.proofs.Lists.{each_map, each_both, each_append, each_taken, each_dropped, drop_append, take_append}
+use Rattle.whole_laws.specs.Names.{IsFreeIn, HasOwnNames}
+use Rattle.whole_laws.proofs.GuardsOwn.{or_neither, tops_other, differ_append}
+use Rattle.whole_laws.proofs.PlainLists.{each_map, each_both, each_append, each_taken, each_dropped, drop_append, take_append}
 use Rattle.flat_function.specs.Own.{used_at_end, IsNamedIn}
 use Rattle.flat_function.proofs.Forms.{named_length}
 use Rattle.flat_function.proofs.FreshNames.{Grows, grows_self, grows_with, own_with}
 use Rattle.flat_function.proofs.NamedOwn.{flat_names_own}
 use Rattle.flat_function.proofs.OwnNames.{slots_grow}
-use Rattle.plain_resolved_laws.proofs.SourceNames as S
-use Rattle.plain_resolved_laws.proofs.SourceNames.{slots_named}
+use Rattle.whole_laws.proofs.SourceNames as S
+use Rattle.whole_laws.proofs.SourceNames.{slots_named}
 use Rattle.lower_laws.specs.Lowered.{variables_of}
 use Rattle.lower_laws.specs.Lowering.{most_held, constructs}
 use Rattle.lower_result_laws.proofs.Variables.{used_behind, counted}

@@ -16,9 +16,9 @@ use Rattle.c_resolved_defs.specs.PrintableExpressions.{IsName, bracket_count, le
 use Rattle.c_resolved_defs.specs.PrintableStatements.{FullPrints, OptionPrints, ListPrints, ValuesPrint, SlotPrints, TestPrints, SelectorPrints, FurtherPrint, StartPrints}
 use Rattle.c_resolved_defs.specs.Spelling.{ItemIsSpelled, AreSpelled, SectionsAreSpelled}
 use Rattle.c_resolved_defs.specs.Verbatims.{IsComment}
-use Rattle.plain_resolved_laws.proofs.Facts.{ItemHas}
-use Rattle.plain_resolved_laws.proofs.PrintsOver.{prints_over}
-use Rattle.plain_resolved_laws.proofs.Wrappers.{bracket_most}
+use Rattle.whole_laws.proofs.Facts.{ItemHas}
+use Rattle.whole_laws.proofs.PrintsOver.{prints_over}
+use Rattle.whole_laws.proofs.Wrappers.{bracket_most}
 
 -- where the grammar needs less, no bracket comes in addition
 fewer : (l n : ℕ) → 1 ≤ n → bracket_count l 1 ≤ bracket_count l n

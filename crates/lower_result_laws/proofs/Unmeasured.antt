@@ -17,13 +17,13 @@ use Rattle.c_grammar.specs.Files.{OfDeclaration}
 use Rattle.c_lexer.specs.declared.token.Token.{Token}
 use Rattle.c_lexer.specs.declared.token.TokenKind.TheVariants as k
 use Rattle.c_lexer.specs.Pieces.{bare, scanned_of}
-use Rattle.c_layers.specs.Words.{word_of}
-use Rattle.c_layers.specs.Tops as tops
+use Rattle.c_grammar.specs.Words.{word_of}
+use Rattle.c_grammar.specs.Tops as tops
 use Rattle.c_kinds.specs.declared.typed.Fault.{Fault}
 use Rattle.c_kinds.specs.declared.binding.Binding.TheVariants as binding
 use Rattle.c_kinds.specs.Scopes.{Faults, fault_if}
 use Rattle.c_kinds.specs.Scopes as kinds
-use Rattle.c_layers.specs.Items.{Body}
+use Rattle.c_grammar.specs.Items.{Body}
 use Rattle.c_statements.specs.Measures.{is_tangled}
 use Rattle.c_statements.specs.declared.anchors.Anchor.TheVariants.{Before}
 use Rattle.c_statements.specs.Functions.{FlatCounts, measures}

@@ -7,7 +7,7 @@ use Rattle.c_tree.specs.declared.tree.Program.{Program}
 use Rattle.guard_vars.specs.GuardNames.{guard_names}
 use Rattle.report_moves.specs.declared.moves.Move.{Move}
 use Rattle.restructure_laws.proofs.NamedTops.{named_program_laws}
-use Rattle.plain_resolved_laws.proofs.NamedForm.{tops_named}
+use Rattle.whole_laws.proofs.NamedForm.{tops_named}
 use Rattle.c_resolved_laws.specs.Counts.{flat_counts, IsResolved}
 use Rattle.restructure_laws.specs.EachPlace.{AtEachPlace, AtEachPair}
 use Rattle.restructure_laws.specs.Skeletons.{IsKept}

@@ -14,10 +14,10 @@ use Rattle.c_resolved_laws.specs.Counts.{IsResolved}
 use Rattle.move_driver.specs.declared.counts.Counts.{Counts}
 use Rattle.move_driver.specs.Counts.{counted, guards_from}
 use Rattle.print_limits.specs.Limits.{IsWithinLimits}
-use Rattle.replay_laws.specs.Lawful.{IsLawful, OneMoved, Moves, none, more}
-use Rattle.replay_laws.specs.Replayed.{IsTopWellMade, IsTopLeapless}
-use Rattle.replay_laws.proofs.Whole.{lawful_laws}
-use Rattle.replay_moves.specs.Steps.{StopsAt}
+use Rattle.restructure_laws.specs.Lawful.{IsLawful, OneMoved, Moves, none, more}
+use Rattle.restructure_laws.specs.Replayed.{IsTopWellMade, IsTopLeapless}
+use Rattle.restructure_laws.proofs.Whole.{lawful_laws}
+use Rattle.move_replay.specs.Steps.{StopsAt}
 use Rattle.move_replay.specs.Lines.{line_start}
 use Rattle.move_replay.specs.Replay.{IsReached, IsReplay, IsAt, IsUnreadable, IsUnlawful, HasLeapLeft, IsTooDeep, IsRefusal}
 use Rattle.move_replay.proofs.Starts.{one_flat, one_start, start_made}

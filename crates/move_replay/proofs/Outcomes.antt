@@ -19,11 +19,11 @@ use Rattle.move_driver.specs.Counts.{counts_of}
 use Rattle.move_driver.specs.Restructured.{IsRestructured}
 use Rattle.move_driver.proofs.Programs.{counts_are, reads_back}
 use Rattle.print_limits.specs.Limits.{IsWithinLimits}
-use Rattle.replay_laws.specs.Lawful.{Moves}
-use Rattle.replay_laws.specs.Replayed.{converted_tops, IsTopLeapless, IsReplayed}
-use Rattle.replay_laws.proofs.Whole.{replayed_laws}
-use Rattle.replay_laws.specs.ReplayLaws.{IsReplayedWithNames, IsNamed}
-use Rattle.replay_laws.proofs.Laws.{replayed_program_laws}
+use Rattle.restructure_laws.specs.Lawful.{Moves}
+use Rattle.restructure_laws.specs.Replayed.{converted_tops, IsTopLeapless, IsReplayed}
+use Rattle.restructure_laws.proofs.Whole.{replayed_laws}
+use Rattle.restructure_laws.specs.ReplayLaws.{IsReplayedWithNames, IsNamed}
+use Rattle.restructure_laws.proofs.Laws.{replayed_program_laws}
 use Rattle.move_replay.specs.Replay.{IsStart, IsReached, IsReplay, IsAt, IsRefusal, Stops}
 use Rattle.move_replay.proofs.Starts.{flat_tops}
 use Rattle.move_replay.proofs.Once.{one_replay, not_both, one_refusal}

@@ -14,9 +14,9 @@ use Rattle.c_resolved_laws.specs.Counts.{flat_counts, IsResolved}
 use Rattle.whole_laws.specs.Rewritten.{FlatTops}
 use Rattle.restructure_laws.specs.Flattened.{FlattenedTop, fd_function, fd_other, FlattenedTops, fd_none, fd_more}
 use Rattle.restructure_laws.proofs.NamedTops.{named_program_laws}
-use Rattle.replay_laws.specs.Replayed.{converted_tops, IsTopWellMade}
-use Rattle.replay_laws.proofs.OneBody.{same_items}
-use Rattle.replay_laws.proofs.Whole.{replayed_laws}
+use Rattle.restructure_laws.specs.Replayed.{converted_tops, IsTopWellMade}
+use Rattle.restructure_laws.proofs.OneBody.{same_items}
+use Rattle.restructure_laws.proofs.Whole.{replayed_laws}
 use Rattle.move_replay.specs.Replay.{IsStart}
 
 -- ---- flat forms

@@ -1,2 +1,4 @@
 pub mod Lines
 pub mod Replay
+pub mod Places
+pub mod Steps

@@ -13,9 +13,9 @@ use Rattle.restructure_laws.specs.Flattened.{most_held, FlattenedTops}
 use Rattle.move_driver.specs.declared.counts.Counts.{Counts}
 use Rattle.move_driver.specs.Counts.{counted, guards_from, counts_of}
 use Rattle.print_limits.specs.Limits.{IsWithinLimits}
-use Rattle.replay_laws.specs.Lawful.{Moves}
-use Rattle.replay_laws.specs.Replayed.{converted_tops, IsTopLeapless}
-use Rattle.replay_moves.specs.Steps.{StopsAt}
+use Rattle.restructure_laws.specs.Lawful.{Moves}
+use Rattle.restructure_laws.specs.Replayed.{converted_tops, IsTopLeapless}
+use Rattle.move_replay.specs.Steps.{StopsAt}
 use Rattle.move_replay.specs.Lines.{line_start}
 
 -- the functions of p have their flat forms, with the names of p, which are held in memory, and are converted

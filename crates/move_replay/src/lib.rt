@@ -1,8 +1,12 @@
-//! A program after the moves of a report, in whatever order they were chosen (docs/REWRITING.md).
+//! A program after the moves of a report, in whatever order they were chosen (docs/REWRITING.md). They are made in
+//! place, as far as each of them is lawful, where the flat functions are found by their names.
 #![tactic(auto)]
 
+mod all_moves;
 mod lines;
 mod making;
+mod one_move;
+mod places;
 mod reading;
 mod replaying;
 

@@ -1,15 +1,15 @@
 //! All moves of a report, made in a program.
 
 ghost use Rattle.std.specs.Prelude.{◌≡◌, ◌+◌, OnOk, Err, All, length};
-ghost use Rattle.replay_laws.specs.Lawful.{Moves};
-ghost use Rattle.replay_laws.specs.Replayed.{IsTopWellMade, IsTopLeapless};
+ghost use Rattle.restructure_laws.specs.Lawful.{Moves};
+ghost use Rattle.restructure_laws.specs.Replayed.{IsTopWellMade, IsTopLeapless};
 ghost use Rattle.move_replay.specs.Replay.{IsAt, IsStopped, Stops};
 
+use crate::all_moves::{leap_left, make_moves};
 use crate::lines::line_start;
 use crate::reading::refused;
 use c_tree::Top;
 use c_types::{List, ReadStop, Refusal};
-use replay_moves::{leap_left, make_moves};
 use report_moves::Move;
 use std::alloc::Global;
 

@@ -19,6 +19,7 @@ ghost use Rattle.plain_form.specs.Plain.{plain as the_plain};
 ghost use Rattle.print_limits.specs.Limits.{IsWithinLimits};
 ghost use Rattle.move_replay.specs.Replay.{IsStart, IsFinished, IsAt, IsReplay, IsRefusal};
 
+use crate::all_moves::convert_tops;
 use crate::making::make_all;
 use crate::reading::{read_moves, refused};
 use c_tree::Program;
@@ -26,7 +27,6 @@ use c_types::{List, Memory, Name, ReadStop, Refusal};
 use move_driver::{Counts, count, flatten_program, slot_counts};
 use plain_form::plain;
 use print_limits::is_within_limits;
-use replay_moves::convert_tops;
 use report_moves::Move;
 use std::alloc::Global;
 

@@ -1,0 +1,14 @@
+pub mod DemoSame
+pub mod DemoAlike
+pub mod CountedRuns
+pub mod BothRuns
+pub mod DemoCompletion
+pub mod DemoUnfit
+pub mod TidyBehaves
+pub mod Unmoved
+pub mod TidyOutcome
+pub mod LowerOutcome
+pub mod ReplayOutcomes
+pub mod Rewritten
+pub mod RunCompletion
+pub mod RunMains

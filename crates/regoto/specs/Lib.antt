@@ -1,2 +1,16 @@
 pub mod Restructure
 pub mod Works
+pub mod DemoRuns
+pub mod Demos
+pub mod Tidied
+pub mod TidiedTexts
+pub mod Lowered
+pub mod LoweredTexts
+pub mod Replayed
+pub mod Replays
+pub mod Reports
+pub mod ReportLaws
+pub mod ReplayedTexts
+pub mod Runnable
+pub mod Ran
+pub mod RunTexts

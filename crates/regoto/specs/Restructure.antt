@@ -13,7 +13,7 @@ use Rattle.cmd_files.specs.declared.translator.Part.{Part}
 use Rattle.cmd_files.specs.Translated.{Completes as CompletesWhere}
 use Rattle.cmd_files.specs.Written.{Writes}
 use Rattle.cmd_files.specs.Shown.{Shows}
-use Rattle.cmd_replay.specs.Laws.{GivesTheSame}
+use Rattle.regoto.specs.ReportLaws.{GivesTheSame}
 
 -- what is written of a restructured text, and told of it
 abbrev pub translation_of : Output → Translation

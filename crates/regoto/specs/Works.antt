@@ -1,11 +1,11 @@
 -- What the commands do with texts.
 use Rattle.std.specs.Prelude.{ℕ, List, Option}
 use Rattle.command_table.specs.Effects.{Effects}
-use Rattle.cmd_demo.specs.Demos.{ShowsDemo, CompletesDemo}
-use Rattle.cmd_run.specs.Texts.{RunsText, CompletesText}
-use Rattle.cmd_replay.specs.Texts.{ReplaysText, CompletesText as CompletesReplay}
-use Rattle.cmd_tidy.specs.Texts.{TidiesText, CompletesText as CompletesTidy}
-use Rattle.cmd_lower.specs.Texts.{LowersText, CompletesText as CompletesLower}
+use Rattle.regoto.specs.Demos.{ShowsDemo, CompletesDemo}
+use Rattle.regoto.specs.RunTexts.{RunsText, CompletesText}
+use Rattle.regoto.specs.ReplayedTexts.{ReplaysText, CompletesText as CompletesReplay}
+use Rattle.regoto.specs.TidiedTexts.{TidiesText, CompletesText as CompletesTidy}
+use Rattle.regoto.specs.LoweredTexts.{LowersText, CompletesText as CompletesLower}
 use Rattle.regoto.specs.Restructure.{Restructures, ShowsRestructured, Completes}
 
 abbrev pub text_effects : Effects

@@ -3,11 +3,11 @@ ghost use Rattle.cmd_words.specs.Lines.{Tells, usage_line};
 ghost use Rattle.cmd_words.specs.Command.{Restructure, Run, Demo, Help, Show, Moves, Replay, Tidy, Lower, command_of};
 ghost use Rattle.cmd_words.specs.Help.{Helps};
 ghost use Rattle.cmd_files.specs.Written.{Wanted};
-ghost use Rattle.cmd_demo.specs.Demos.{ShowsDemo, CompletesDemo};
-ghost use Rattle.cmd_run.specs.Texts.{RunsText, CompletesText};
-ghost use Rattle.cmd_replay.specs.Texts.{ReplaysText, CompletesText as CompletesReplay};
-ghost use Rattle.cmd_tidy.specs.Texts.{TidiesText, CompletesText as CompletesTidy};
-ghost use Rattle.cmd_lower.specs.Texts.{LowersText, CompletesText as CompletesLower};
+ghost use Rattle.regoto.specs.Demos.{ShowsDemo, CompletesDemo};
+ghost use Rattle.regoto.specs.RunTexts.{RunsText, CompletesText};
+ghost use Rattle.regoto.specs.ReplayedTexts.{ReplaysText, CompletesText as CompletesReplay};
+ghost use Rattle.regoto.specs.TidiedTexts.{TidiesText, CompletesText as CompletesTidy};
+ghost use Rattle.regoto.specs.LoweredTexts.{LowersText, CompletesText as CompletesLower};
 ghost use Rattle.regoto.specs.Restructure.{Restructures, ShowsRestructured, Completes};
 
 use crate::works::TextWorks;

@@ -20,7 +20,7 @@ impl Translator for Restructurer {
 
     ghost refuses = { λ text refusal. IsRefusedFor text refusal };
 
-    #[tactic(auto, using(cmd_replay::proofs::Rewritten::report_law))]
+    #[tactic(auto, using(crate::proofs::Rewritten::report_law))]
     fn translate(&self, alloc: Global, text: &[u8]) -> Result<Translation, ReadStop> {
         let Written {
             text,

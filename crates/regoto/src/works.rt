@@ -4,12 +4,8 @@ ghost use Rattle.cmd_files.specs.Translated.{Completes as CompletesWhere};
 ghost use Rattle.cmd_files.specs.Written.{Writes};
 
 use crate::restructurer::Restructurer;
-use cmd_demo::demo;
+use crate::{TextLowerer, TextReader, TextReplayer, TextTidier, demo, replay_file, run_file};
 use cmd_files::{Part, Targets, Translator, show, write};
-use cmd_lower::TextLowerer;
-use cmd_replay::{TextReplayer, replay_file};
-use cmd_run::{TextReader, run_file};
-use cmd_tidy::TextTidier;
 use cmd_words::Status;
 use command_table::Works;
 use rg_ports::{Shelf, Sink, Source};

@@ -11,7 +11,7 @@ use Rattle.c_tree.specs.ExpressionTrees.{ExpressionTree, Arguments, NoArgument, 
 use Rattle.c_tree.specs.ExpressionTrees as t
 use Rattle.c_tree.specs.Constants.{kind_of}
 use Rattle.c_grammar.specs.ExpressionSyntax.{argument_end}
-use Rattle.c_layers.specs.Terms.{Form, Terms, NoTerm, Call}
+use Rattle.c_grammar.specs.Terms.{Form, Terms, NoTerm, Call}
 use Rattle.c_kinds.specs.declared.binding.Want.{Want}
 use Rattle.c_kinds.specs.declared.binding.Want.TheVariants as want
 use Rattle.c_kinds.specs.declared.binding.Binding.{Binding}

@@ -26,7 +26,7 @@ use Rattle.reread_parts_laws.proofs.GoodGiven.{Both, both_everywhere, Exits, goo
 use Rattle.c_tree.specs.TextPieces.{Piece}
 use Rattle.c_tree.specs.TextItems.{braced, printed}
 use Rattle.c_grammar.specs.Statements.{NoItems}
-use Rattle.c_layers.specs.Tops as tops
+use Rattle.c_grammar.specs.Tops as tops
 use Rattle.c_statements.specs.declared.anchors.Anchor.{Anchor}
 use Rattle.c_statements.specs.Context.{Walk}
 use Rattle.c_statements.specs.Functions.{result_kind, context}

@@ -10,7 +10,7 @@ use Rattle.c_tree.specs.TextPieces.{Piece, ◌⨾◌, newline, indentation, punc
 use Rattle.c_tree.specs.TextItems.{Printed, list_text, braced, deeper, printed}
 use Rattle.c_grammar.specs.Statements.{NoItems}
 use Rattle.c_grammar.specs.StatementSyntax.{items_end}
-use Rattle.c_layers.specs.Items as source
+use Rattle.c_grammar.specs.Items as source
 use Rattle.c_statements.specs.Context.{Context, Walk, no_construct}
 use Rattle.c_statements.specs.Statements.{behind_items, list_items}
 use Rattle.c_statements.specs.Violations.{list_faults}

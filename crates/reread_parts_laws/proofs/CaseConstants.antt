@@ -12,7 +12,7 @@ use Rattle.c_tree.specs.ExpressionTrees as t
 use Rattle.c_tree.specs.Constants.{HasKind, IsConstant, IsConstantNode, constant_value}
 use Rattle.c_tree.specs.Cases.{case_number}
 use Rattle.c_grammar.specs.ExpressionSyntax.{conditional_end}
-use Rattle.c_layers.specs.Terms.{At}
+use Rattle.c_grammar.specs.Terms.{At}
 use Rattle.c_kinds.specs.Scopes.{Env, Faults, fault_if}
 use Rattle.c_kinds.specs.Typing.{form_typed, constant_faults}
 use Rattle.c_kinds.specs.Constants.{is_constant, is_constant_node, constant_of}

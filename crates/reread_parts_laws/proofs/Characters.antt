@@ -2,10 +2,10 @@
 use Rattle.std.proofs.Common.{◌≡◌, ◌≤◌, ◌==◌, ℕ, Bool, true, nat_le, List, [], ◌∷◌, map, refl, ap, ◌∙◌, arith}
 use Rattle.std.proofs.lemmas.Bool.{eqb-true, leb-true}
 use Rattle.std.specs.List.{list_all}
-use Rattle.c_layers.specs.Words.{value, character}
-use Rattle.c_layers.specs.DecodingSteps.{decoded}
-use Rattle.c_layers.proofs.DecodedSteps.{written_decoded}
-use Rattle.c_layers.proofs.Elements.{element_of, text_writes}
+use Rattle.c_grammar.specs.Words.{value, character}
+use Rattle.c_grammar.specs.DecodingSteps.{decoded}
+use Rattle.c_grammar.proofs.DecodedSteps.{written_decoded}
+use Rattle.c_grammar.proofs.Elements.{element_of, text_writes}
 use Rattle.c_lexer.specs.Pieces as l
 use Rattle.c_resolved_defs.specs.PrintableExpressions.{AreBytes}
 use Rattle.print_laws.specs.Reread.{character_in}

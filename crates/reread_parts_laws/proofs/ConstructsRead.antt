@@ -21,7 +21,7 @@ use Rattle.c_grammar.specs.ExpressionSyntax.{expression_end}
 use Rattle.c_grammar.specs.Statements.{NoItems}
 use Rattle.c_grammar.specs.Statements as g
 use Rattle.c_grammar.specs.StatementSyntax.{items_end, statement_end}
-use Rattle.c_layers.specs.Items as source
+use Rattle.c_grammar.specs.Items as source
 use Rattle.c_kinds.specs.Scopes.{Faults}
 use Rattle.c_statements.specs.declared.anchors.Anchor.TheVariants.{Before}
 use Rattle.c_statements.specs.Context.{Context, Walk, Around, in_loop, env_at, enter, leave, notes_at}

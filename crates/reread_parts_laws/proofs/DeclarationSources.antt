@@ -9,9 +9,9 @@ use Rattle.c_grammar.specs.Expressions.{Expression, Assignment, NumberType}
 use Rattle.c_grammar.specs.ExpressionSyntax.{type_end, type_node, expression_node, assignment_end, assignment_node, conditional_end, conditional_node}
 use Rattle.c_grammar.specs.Statements.{Size, NoSize, Unsized, Sized, Initialiser, OneValue, ValueList, Declarator, Declared, Local, Locals}
 use Rattle.c_grammar.specs.StatementSyntax.{word_end, more_end, size_end, initialiser_end, value_end, declarator_end, local_end, word_parts, more_parts, rest_parts, size_parts, initialiser_parts, initialiser_node, value_parts, declarator_node, local_node}
-use Rattle.c_layers.specs.Parts.{Part, Content, Leaf, OfType, OfInitialiser, OfDeclarator, OfLocal, part_of, content, at, term_in, term_list, is_token, gathered, initialiser, initialiser_in, declarator, declarator_in, declaration}
-use Rattle.c_layers.specs.Terms.{At}
-use Rattle.c_layers.specs.Items as s
+use Rattle.c_grammar.specs.Parts.{Part, Content, Leaf, OfType, OfInitialiser, OfDeclarator, OfLocal, part_of, content, at, term_in, term_list, is_token, gathered, initialiser, initialiser_in, declarator, declarator_in, declaration}
+use Rattle.c_grammar.specs.Terms.{At}
+use Rattle.c_grammar.specs.Items as s
 use Rattle.reread_parts_laws.specs.WrittenExpressions.{expression_form, assignment_form, conditional_form}
 use Rattle.reread_parts_laws.specs.WrittenStatements.{further_terms, written_initialiser, written_declarator, further_declarators, written_declaration}
 use Rattle.reread_parts_laws.proofs.ExpressionSources.{part_node, token, token_rule, token_first, term_is, expression_writes, assignment_writes, conditional_writes, type_writes, type_rule, not_one}

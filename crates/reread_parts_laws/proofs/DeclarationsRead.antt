@@ -15,13 +15,13 @@ use Rattle.c_tree.specs.TextPieces as p
 use Rattle.c_tree.specs.TextItems.{kind_words, length_text, initialisers_text, declarator_text}
 use Rattle.c_grammar.specs.ExpressionSyntax.{assignment_end, type_end}
 use Rattle.c_grammar.specs.StatementSyntax.{word_end, rest_end, size_end, value_end, declarator_end}
-use Rattle.c_layers.specs.Terms.{At}
-use Rattle.c_layers.specs.Items as s
+use Rattle.c_grammar.specs.Terms.{At}
+use Rattle.c_grammar.specs.Items as s
 use Rattle.c_kinds.specs.declared.binding.Binding.TheVariants as binding
 use Rattle.c_kinds.specs.Scopes.{Env, Faults, fault_if, is_bound}
 use Rattle.c_kinds.specs.Values.{use_fault}
 use Rattle.c_kinds.specs.Scopes as scopes
-use Rattle.c_layers.specs.Words.{kind_of as kind_of_words}
+use Rattle.c_grammar.specs.Words.{kind_of as kind_of_words}
 use Rattle.c_kinds.specs.Typing.{constant}
 use Rattle.c_kinds.specs.Constants.{is_constant, constant_of}
 use Rattle.c_statements.specs.declared.extents.Kinded.{Kinded}

@@ -11,7 +11,7 @@ use Rattle.c_tree.specs.TextPieces.{Piece, newline}
 use Rattle.c_grammar.specs.Statements.{NoItems}
 use Rattle.c_grammar.specs.Statements as g
 use Rattle.c_grammar.specs.StatementSyntax.{statement_end}
-use Rattle.c_layers.specs.Items as source
+use Rattle.c_grammar.specs.Items as source
 use Rattle.c_statements.specs.declared.anchors.Anchor.TheVariants.{Before, AtEnd}
 use Rattle.c_statements.specs.Context.{Context, Walk, Around, enter, leave}
 use Rattle.c_statements.specs.Statements.{behind_body, body_items}

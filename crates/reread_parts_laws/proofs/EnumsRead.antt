@@ -11,13 +11,13 @@ use Rattle.c_tree.specs.declared.tree.EnumItem.{EnumItem}
 use Rattle.c_tree.specs.declared.tree.Expression.{Expression}
 use Rattle.c_tree.specs.ExpressionTrees.{expression_tree}
 use Rattle.c_tree.specs.TextPieces.{Piece, ◌⨾◌, space, newline, punctuator, more}
-use Rattle.c_layers.specs.Terms.{At}
+use Rattle.c_grammar.specs.Terms.{At}
 use Rattle.c_tree.specs.TextExpressions.{expression_text}
 use Rattle.c_tree.specs.Text.{given_text, enumerator_text, enum_end, enum_text}
 use Rattle.c_grammar.specs.StatementSyntax.{rest_end}
 use Rattle.c_grammar.specs.Expressions.{Conditional}
 use Rattle.c_grammar.specs.FileSyntax.{constant_end, enumerator_end, enumeration_end}
-use Rattle.c_layers.specs.Tops.{Enumerator}
+use Rattle.c_grammar.specs.Tops.{Enumerator}
 use Rattle.c_kinds.specs.declared.binding.Binding.TheVariants as binding
 use Rattle.c_kinds.specs.Scopes.{Env, Faults, fault_if, is_bound}
 use Rattle.c_kinds.specs.Scopes as kinds

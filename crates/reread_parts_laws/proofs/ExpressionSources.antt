@@ -7,9 +7,9 @@ use Rattle.c_grammar.specs.declared.syntax.Production.TheVariants as p
 use Rattle.c_grammar.specs.Nodes.{node, leaf}
 use Rattle.c_grammar.specs.Expressions.{Base, CharBase, IntBase, LongBase, LongIntBase, NumberType, OfBase, Signed, SignedOf, Unsigned, UnsignedOf, Expression, One, More, Assignment, To, Value, Conditional, Choose, Only, Binary, Single, Both, Unary, Prefixed, StepTo, CastTo, CastVoid, Place, StepAfter, CallNone, CallWith, Number, Character, Within, Target, Variable, Cell, Round, Arguments, Last, Then, Argument, Given, Written, Texts, OneText, MoreTexts}
 use Rattle.c_grammar.specs.ExpressionSyntax.{base_parts, type_end, type_parts, type_node, expression_end, assignment_end, conditional_end, binary_end, unary_end, target_end, arguments_end, argument_end, texts_end, expression_parts, assignment_node, conditional_node, binary_node, unary_parts, target_node, arguments_parts, argument_node, texts_parts, expression_node, unary_node}
-use Rattle.c_layers.specs.Parts.{Part, part_of, part_layer, content, form_in, form_by, term_in, terms_in, expression_form as of_expression, bracket_form, postfix_form}
-use Rattle.c_layers.specs.Terms.{Form, Terms, At, NoTerm}
-use Rattle.c_layers.specs.Terms as s
+use Rattle.c_grammar.specs.Parts.{Part, part_of, part_layer, content, form_in, form_by, term_in, terms_in, expression_form as of_expression, bracket_form, postfix_form}
+use Rattle.c_grammar.specs.Terms.{Form, Terms, At, NoTerm}
+use Rattle.c_grammar.specs.Terms as s
 use Rattle.reread_parts_laws.specs.WrittenExpressions.{base_words, type_words, text_tokens, expression_form, expression_terms, assignment_form, conditional_form, binary_form, unary_form, target_form, arguments_terms, argument_form}
 
 -- ---- nodes

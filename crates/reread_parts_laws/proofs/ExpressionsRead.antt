@@ -17,10 +17,10 @@ use Rattle.c_tree.specs.TextExpressions.{unary_spelling, binary_spelling, count_
 use Rattle.c_lexer.specs.Marks.{mark_of}
 use Rattle.c_lexer.specs.Numbers.{is_run, integer_of}
 use Rattle.c_grammar.specs.ExpressionSyntax.{expression_end, target_end, type_end}
-use Rattle.c_layers.specs.Terms.{Form, At, Prefix, Suffix, Assign}
-use Rattle.c_layers.specs.Terms as source
-use Rattle.c_layers.specs.Words.{is_character, character}
-use Rattle.c_layers.specs.DecodingSteps.{decoded}
+use Rattle.c_grammar.specs.Terms.{Form, At, Prefix, Suffix, Assign}
+use Rattle.c_grammar.specs.Terms as source
+use Rattle.c_grammar.specs.Words.{is_character, character}
+use Rattle.c_grammar.specs.DecodingSteps.{decoded}
 use Rattle.c_kinds.specs.declared.typed.Typed.{Typed}
 use Rattle.c_kinds.specs.declared.typed.Typed.TheVariants.{Text, Array}
 use Rattle.c_kinds.specs.Marks.{step_of, counts_up, unary_op, binary_op, update_op, unary_kind, binary_kind}

@@ -9,8 +9,8 @@ use Rattle.c_grammar.specs.Statements.{Local}
 use Rattle.c_grammar.specs.StatementSyntax.{word_end, rest_end, local_end, word_parts, rest_parts, local_node}
 use Rattle.c_grammar.specs.Files.{Enumeration, Enumerated, Declares, Top, Line, OfEnum, OfDeclaration, OfFunction}
 use Rattle.c_grammar.specs.FileSyntax.{enumerator_end, enumeration_end, declaration_end, function_end, top_end, file_end, constant_parts, enumerator_node, enumeration_node, declaration_node, function_node, top_node, file_parts, file_node}
-use Rattle.c_layers.specs.Parts.{Part, Content, Leaf, OfEnumerator, OfTop, OfFile, part_of, gathered, enumerator, enumerator_in, globals, declaration_in, top_in, file_of, tops_in}
-use Rattle.c_layers.specs.Tops as s
+use Rattle.c_grammar.specs.Parts.{Part, Content, Leaf, OfEnumerator, OfTop, OfFile, part_of, gathered, enumerator, enumerator_in, globals, declaration_in, top_in, file_of, tops_in}
+use Rattle.c_grammar.specs.Tops as s
 use Rattle.reread_parts_laws.specs.WrittenStatements.{written_declaration}
 use Rattle.reread_parts_laws.specs.WrittenFunctions.{written_function}
 use Rattle.reread_parts_laws.specs.WrittenFiles.{written_enumerator, further_enumerators, written_enumeration, written_form, written_tops, TopHasKeywords, FileHasKeywords}

@@ -6,7 +6,7 @@ use Rattle.c_types.specs.Words.{known_functions}
 use Rattle.c_tree.specs.declared.tree.Program.{Program}
 use Rattle.c_lexer.specs.declared.token.Token.{Token}
 use Rattle.c_lexer.specs.declared.token.Span.{Span}
-use Rattle.c_layers.specs.Words.{word_of}
+use Rattle.c_grammar.specs.Words.{word_of}
 use Rattle.c_scopes.specs.Files.{start}
 use Rattle.c_scopes.specs.Resolving.{file_at, resolved, answer, program_of, violation_of, least}
 use Rattle.c_resolved_defs.specs.Scopes.{at_start, NamesAreBound}
@@ -27,7 +27,7 @@ use Rattle.c_tree.specs.Text.{top_text, function_text}
 use Rattle.c_grammar.specs.FileSyntax.{enumeration_end, declaration_end, function_end}
 use Rattle.c_lexer.specs.Pieces.{bare}
 use Rattle.c_lexer.specs.declared.token.TokenKind.TheVariants as k
-use Rattle.c_layers.specs.Tops as tops
+use Rattle.c_grammar.specs.Tops as tops
 use Rattle.c_kinds.specs.declared.binding.Binding.TheVariants as binding
 use Rattle.c_kinds.specs.Scopes.{Faults}
 use Rattle.c_kinds.specs.Scopes as kinds

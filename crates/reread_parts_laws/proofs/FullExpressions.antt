@@ -6,7 +6,7 @@ use Rattle.c_tree.specs.ExpressionTrees as t
 use Rattle.c_tree.specs.TextPieces.{Piece}
 use Rattle.c_tree.specs.TextExpressions.{expression_text}
 use Rattle.c_grammar.specs.ExpressionSyntax.{expression_end, assignment_end, conditional_end}
-use Rattle.c_layers.specs.Terms.{Term, Form, At}
+use Rattle.c_grammar.specs.Terms.{Term, Form, At}
 use Rattle.c_kinds.specs.Scopes.{Env}
 use Rattle.c_kinds.specs.Values.{of_result}
 use Rattle.c_kinds.specs.Typing.{typed, faults}

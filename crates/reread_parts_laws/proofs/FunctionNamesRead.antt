@@ -8,7 +8,7 @@ use Rattle.c_tree.specs.declared.tree.Slot.{Slot}
 use Rattle.c_tree.specs.declared.tree.Function.{Function}
 use Rattle.c_tree.specs.declared.tree.Top.{Top}
 use Rattle.c_tree.specs.declared.tree.Top.TheVariants as T
-use Rattle.c_layers.specs.Tops as tops
+use Rattle.c_grammar.specs.Tops as tops
 use Rattle.c_kinds.specs.declared.binding.Want.TheVariants as want
 use Rattle.c_kinds.specs.declared.binding.Signature.{Signature}
 use Rattle.c_kinds.specs.declared.binding.Binding.{Binding}

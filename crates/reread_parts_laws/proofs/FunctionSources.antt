@@ -9,10 +9,10 @@ use Rattle.c_grammar.specs.Statements.{Size, NoSize, Unsized, Sized, Block, Brac
 use Rattle.c_grammar.specs.StatementSyntax.{word_end, size_end, word_parts, size_parts, more_parts}
 use Rattle.c_grammar.specs.Files.{Parameter, Typed, Parameters, NoParameters, VoidParameters, SomeParameters, Function, Defined}
 use Rattle.c_grammar.specs.FileSyntax.{parameter_end, parameters_end, result_end, function_end, parameter_node, parameters_parts, parameters_node, result_node, body_node, function_node}
-use Rattle.c_layers.specs.Parts.{Part, Content, Leaf, OfType, OfBlock, OfParameter, OfParameters, OfTop, part_of, content, at, first_at, is_token, token_at, gathered, greatest, term_at, parameter, parameter_name, parameter_size, parameter_in, parameters_in, block_in, function, function_of}
-use Rattle.c_layers.specs.Parts as parts
-use Rattle.c_layers.specs.Items as s
-use Rattle.c_layers.specs.Tops as tops
+use Rattle.c_grammar.specs.Parts.{Part, Content, Leaf, OfType, OfBlock, OfParameter, OfParameters, OfTop, part_of, content, at, first_at, is_token, token_at, gathered, greatest, term_at, parameter, parameter_name, parameter_size, parameter_in, parameters_in, block_in, function, function_of}
+use Rattle.c_grammar.specs.Parts as parts
+use Rattle.c_grammar.specs.Items as s
+use Rattle.c_grammar.specs.Tops as tops
 use Rattle.reread_parts_laws.specs.WrittenStatements.{written_size}
 use Rattle.reread_parts_laws.specs.WrittenFunctions.{named_at, written_parameter, further_parameters, written_parameters, result_words, written_function_body, function_parts, written_function}
 use Rattle.reread_parts_laws.specs.Keywords.{BodyHasKeywords, FunctionHasKeywords}

@@ -9,7 +9,7 @@ use Rattle.c_tree.specs.declared.tree.Item.{Item}
 use Rattle.c_tree.specs.declared.tree.Top.{Top}
 use Rattle.c_tree.specs.Trees.{Nil, trees_of}
 use Rattle.c_tree.specs.InRange.{body_of}
-use Rattle.c_layers.specs.Words.{kind_of}
+use Rattle.c_grammar.specs.Words.{kind_of}
 use Rattle.c_tree.specs.TextPieces.{Piece, ◌⨾◌, space, newline, word, punctuator, only_if}
 use Rattle.c_tree.specs.TextExpressions.{result_text}
 use Rattle.c_tree.specs.Text.{parameters_text, body_text, function_text}
@@ -17,7 +17,7 @@ use Rattle.c_grammar.specs.Statements.{NoItems}
 use Rattle.c_grammar.specs.StatementSyntax.{word_end}
 use Rattle.c_grammar.specs.Files as files
 use Rattle.c_grammar.specs.FileSyntax.{parameters_end, result_end, function_end}
-use Rattle.c_layers.specs.Tops as tops
+use Rattle.c_grammar.specs.Tops as tops
 use Rattle.c_kinds.specs.Scopes.{Faults}
 use Rattle.c_kinds.specs.Scopes as kinds
 use Rattle.c_statements.specs.declared.anchors.Anchor.{Anchor}

@@ -18,7 +18,7 @@ use Rattle.c_tree.specs.TextItems.{length_text, initialisers_text, declarator_te
 use Rattle.c_tree.specs.Text.{global_text}
 use Rattle.c_grammar.specs.ExpressionSyntax.{assignment_end, type_end}
 use Rattle.c_grammar.specs.StatementSyntax.{word_end, rest_end, size_end, value_end, declarator_end}
-use Rattle.c_layers.specs.Terms.{At, Form}
+use Rattle.c_grammar.specs.Terms.{At, Form}
 use Rattle.c_kinds.specs.declared.binding.Binding.TheVariants as binding
 use Rattle.c_kinds.specs.Scopes.{Env, Faults, fault_if, is_bound}
 use Rattle.c_kinds.specs.Scopes as kinds

@@ -11,7 +11,7 @@ use Rattle.c_tree.specs.TextItems.{list_text}
 use Rattle.c_grammar.specs.Statements.{NoItems}
 use Rattle.c_grammar.specs.Statements as g
 use Rattle.c_grammar.specs.StatementSyntax.{local_end, items_end}
-use Rattle.c_layers.specs.Items as s
+use Rattle.c_grammar.specs.Items as s
 use Rattle.c_kinds.specs.Scopes.{Faults}
 use Rattle.c_statements.specs.declared.anchors.Anchor.TheVariants.{Before}
 use Rattle.c_statements.specs.Context.{Context, Walk, Around, enter, leave, notes_at}

@@ -10,7 +10,7 @@ use Rattle.c_tree.specs.declared.tree.BinaryOp.{BinaryOp}
 use Rattle.c_tree.specs.declared.tree.BinaryOp.TheVariants.{Arith, Less, Greater, AtMost, AtLeast, Equal, Unequal, AndThen, OrElse}
 use Rattle.c_tree.specs.TextExpressions.{unary_spelling, binary_spelling, update_spelling, count_spelling}
 use Rattle.c_lexer.specs.Marks.{mark_of}
-use Rattle.c_layers.specs.Words.{kind_of}
+use Rattle.c_grammar.specs.Words.{kind_of}
 use Rattle.c_kinds.specs.Marks.{step_of, counts_up, unary_op, binary_op, update_op, unary_kind, binary_kind}
 use Rattle.c_resolved_defs.specs.Kinds as resolved
 use Rattle.print_laws.specs.ExpressionDerivations.{type_of}

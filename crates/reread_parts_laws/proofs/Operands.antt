@@ -5,7 +5,7 @@ use Rattle.c_grammar.specs.declared.class.Class.TheVariants as c
 use Rattle.c_grammar.specs.Classes.{level}
 use Rattle.c_grammar.specs.Expressions.{Expression, One, More, To, Value, Choose, Only, Binary, Single, Both, Within, root, FitsExpression}
 use Rattle.c_grammar.specs.ExpressionSyntax.{expression_end, assignment_end, conditional_end, binary_end, unary_end}
-use Rattle.c_layers.specs.Terms.{Form}
+use Rattle.c_grammar.specs.Terms.{Form}
 use Rattle.c_tree.specs.ExpressionTrees.{ExpressionTree}
 use Rattle.c_resolved_defs.specs.PrintableExpressions.{level_of}
 use Rattle.print_laws.specs.ExpressionDerivations.{as_assignment, as_conditional, as_binary, as_unary, derivation_of}

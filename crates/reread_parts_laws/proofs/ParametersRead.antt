@@ -10,8 +10,8 @@ use Rattle.c_tree.specs.Text as text
 use Rattle.c_grammar.specs.ExpressionSyntax.{type_end}
 use Rattle.c_grammar.specs.StatementSyntax.{word_end, size_end, more_end}
 use Rattle.c_grammar.specs.FileSyntax.{parameter_end, parameters_end}
-use Rattle.c_layers.specs.Tops.{Parameter}
-use Rattle.c_layers.specs.Words.{kind_of}
+use Rattle.c_grammar.specs.Tops.{Parameter}
+use Rattle.c_grammar.specs.Words.{kind_of}
 use Rattle.c_kinds.specs.declared.binding.Binding.TheVariants as binding
 use Rattle.c_kinds.specs.declared.binding.Want.{Want}
 use Rattle.c_kinds.specs.declared.binding.Want.TheVariants as want

@@ -14,7 +14,7 @@ use Rattle.c_tree.specs.Constants.{kind_of, HasKind}
 use Rattle.c_tree.specs.TextExpressions.{home_name}
 use Rattle.c_grammar.specs.Expressions as g
 use Rattle.c_grammar.specs.ExpressionSyntax.{expression_end, assignment_end}
-use Rattle.c_layers.specs.Terms.{Form, At, Variable, Cell}
+use Rattle.c_grammar.specs.Terms.{Form, At, Variable, Cell}
 use Rattle.c_kinds.specs.declared.binding.Binding.TheVariants as binding
 use Rattle.c_kinds.specs.declared.typed.Typed.{Typed}
 use Rattle.c_kinds.specs.declared.typed.Typed.TheVariants.{Value, Array}

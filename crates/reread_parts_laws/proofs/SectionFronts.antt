@@ -7,7 +7,7 @@ use Rattle.c_tree.specs.TestTrees.{TestTree}
 use Rattle.c_tree.specs.Trees.{Tree, Forest, Nil, Then, Sections, NoSection, Section}
 use Rattle.c_tree.specs.Trees as t
 use Rattle.c_grammar.specs.Statements.{NoItems}
-use Rattle.c_layers.specs.Items as s
+use Rattle.c_grammar.specs.Items as s
 use Rattle.c_statements.specs.declared.entries.Entry.{Entry}
 use Rattle.c_statements.specs.Context.{Context, Walk, Around, enter}
 use Rattle.c_statements.specs.Sections.{Reading}

@@ -12,9 +12,9 @@ use Rattle.c_grammar.specs.ExpressionSyntax.{conditional_end}
 use Rattle.c_grammar.specs.Statements.{NoItems, StatementItem, LocalItem, Unlabelled, Simple, Break}
 use Rattle.c_grammar.specs.Statements as g
 use Rattle.c_grammar.specs.StatementSyntax.{items_end, statement_end}
-use Rattle.c_layers.specs.Terms.{At}
-use Rattle.c_layers.specs.Items as s
-use Rattle.c_layers.specs.Items.{first_label, stated_first}
+use Rattle.c_grammar.specs.Terms.{At}
+use Rattle.c_grammar.specs.Items as s
+use Rattle.c_grammar.specs.Items.{first_label, stated_first}
 use Rattle.c_kinds.specs.Scopes.{Env, Faults, fault_if}
 use Rattle.c_statements.specs.declared.entries.Entry.{Entry}
 use Rattle.c_statements.specs.declared.anchors.Anchor.TheVariants.{AtSection}

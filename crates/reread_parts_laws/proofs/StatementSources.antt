@@ -11,9 +11,9 @@ use Rattle.c_grammar.specs.Expressions.{Expression}
 use Rattle.c_grammar.specs.ExpressionSyntax.{expression_end, expression_parts, expression_node, conditional_end}
 use Rattle.c_grammar.specs.Statements.{Local, Label, NameLabel, CaseLabel, DefaultLabel, ForStart, StartLocal, StartValue, Braces, Items, NoItems, LocalItem, StatementItem, Statement, Labelled, Unlabelled, Plain, Compound, Simple, If, IfElse, While, DoWhile, For, Switch, Goto, Break, Continue, Return}
 use Rattle.c_grammar.specs.StatementSyntax.{local_end, label_end, for_start_end, optional_end, items_end, statement_end, plain_end, local_node, label_parts, label_node, for_start_parts, optional_parts, block_node, items_parts, statement_parts, plain_parts, statement_node, plain_node}
-use Rattle.c_layers.specs.Parts.{Part, Content, OfTerm, OfLocal, OfLabel, OfPlain, OfItem, OfBlock, at, term_in, is_token, is_local, optional_at, behind_optional, start_of, behind_start, for_of, gathered, label, label_in, two_part_label, declaration_in, list_of_item, body_in, body_at, keyword_statement, other_statement, plain_statement, statement_in, items_in, item_in, block_in}
-use Rattle.c_layers.specs.Terms.{Term, At}
-use Rattle.c_layers.specs.Items as s
+use Rattle.c_grammar.specs.Parts.{Part, Content, OfTerm, OfLocal, OfLabel, OfPlain, OfItem, OfBlock, at, term_in, is_token, is_local, optional_at, behind_optional, start_of, behind_start, for_of, gathered, label, label_in, two_part_label, declaration_in, list_of_item, body_in, body_at, keyword_statement, other_statement, plain_statement, statement_in, items_in, item_in, block_in}
+use Rattle.c_grammar.specs.Terms.{Term, At}
+use Rattle.c_grammar.specs.Items as s
 use Rattle.reread_parts_laws.specs.WrittenExpressions.{expression_form}
 use Rattle.reread_parts_laws.specs.WrittenStatements.{expression_term, optional_term, written_label, written_start, written_labels, written_items, behind_labels, written_plain, written_statement, written_body}
 use Rattle.reread_parts_laws.specs.Keywords.{LabelHasKeyword, ItemsHaveKeywords, HasKeywords, PlainHasKeywords}

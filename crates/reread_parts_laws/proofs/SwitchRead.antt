@@ -15,7 +15,7 @@ use Rattle.c_tree.specs.TextItems as text
 use Rattle.c_grammar.specs.Statements.{NoItems}
 use Rattle.c_grammar.specs.Statements as g
 use Rattle.c_grammar.specs.StatementSyntax.{items_end}
-use Rattle.c_layers.specs.Items as source
+use Rattle.c_grammar.specs.Items as source
 use Rattle.c_kinds.specs.Scopes.{Faults}
 use Rattle.c_statements.specs.declared.entries.Entry.{Entry}
 use Rattle.c_statements.specs.declared.anchors.Anchor.TheVariants.{Before}

@@ -3,7 +3,7 @@ use Rattle.std.proofs.Common.{ap}
 use Rattle.c_tree.specs.ExpressionTrees.{expression_tree}
 use Rattle.c_grammar.specs.declared.syntax.Production.TheVariants as p
 use Rattle.c_grammar.specs.ExpressionSyntax.{expression_node, assignment_node, conditional_node}
-use Rattle.c_layers.specs.Parts.{declaration_in}
+use Rattle.c_grammar.specs.Parts.{declaration_in}
 use Rattle.print_laws.specs.ExpressionDerivations.{derivation_of}
 use Rattle.print_laws.specs.StatementDerivations.{assignment_of, conditional_of}
 use Rattle.reread_parts_laws.specs.Laws.{RereadLaws}

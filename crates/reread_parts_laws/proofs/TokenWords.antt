@@ -5,7 +5,7 @@ use Rattle.std.proofs.lemmas.Bool.{le-leb}
 use Rattle.c_resolved_defs.specs.Within.{Each}
 use Rattle.reread_parts_laws.specs.Laws.{IsTokenOf}
 use Rattle.c_lexer.specs.declared.token.Token.{Token}
-use Rattle.c_layers.specs.Words.{word_of, bytes_of}
+use Rattle.c_grammar.specs.Words.{word_of, bytes_of}
 use Rattle.print_laws.specs.Reread.{Spelling, read_at}
 use Rattle.reread_parts_laws.specs.Words.{AreWords}
 

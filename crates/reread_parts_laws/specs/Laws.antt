@@ -13,10 +13,10 @@ use Rattle.c_grammar.specs.declared.syntax.Syntax.{Syntax}
 use Rattle.c_grammar.specs.Expressions.{Assignment, Conditional}
 use Rattle.c_grammar.specs.Expressions as g
 use Rattle.c_grammar.specs.ExpressionSyntax.{expression_node, assignment_node, conditional_node, expression_end, assignment_end, conditional_end}
-use Rattle.c_layers.specs.Terms.{Term, At}
+use Rattle.c_grammar.specs.Terms.{Term, At}
 use Rattle.c_grammar.specs.Statements.{Local, Items, NoItems, Braces}
 use Rattle.c_grammar.specs.StatementSyntax.{local_node, block_node, block_end, word_end}
-use Rattle.c_layers.specs.Parts.{part_of, term_of, declaration_in, block_in, OfTop, file_of}
+use Rattle.c_grammar.specs.Parts.{part_of, term_of, declaration_in, block_in, OfTop, file_of}
 use Rattle.c_kinds.specs.Scopes.{Env, Faults}
 use Rattle.c_kinds.specs.Values.{of_result}
 use Rattle.c_kinds.specs.Typing.{typed, faults}
@@ -31,7 +31,7 @@ use Rattle.c_resolved_defs.specs.Resolved.{names_in, IsResolvedFunction}
 use Rattle.c_resolved_defs.specs.Limits.{FlatCounts}
 use Rattle.c_resolved_defs.specs.Within.{AllDiffer, Each}
 use Rattle.c_resolved_defs.specs.PrintableStatements.{ItemsPrint, DeclaratorPrints}
-use Rattle.c_layers.specs.Tops as tops
+use Rattle.c_grammar.specs.Tops as tops
 use Rattle.c_resolved_defs.specs.Scopes.{Scope, behind_all, AreBound, bind_constants, ConstantsAreBound, Meaning, AVariable, at_start, NamesAreBound, IsFunctionName, behind_top, TopIsBound, inside, AreNewParameters, BodyIsBound}
 use Rattle.print_laws.specs.Reread.{Spelling, spellings, read_at}
 use Rattle.print_laws.specs.Standing.{Stands}
@@ -47,7 +47,7 @@ use Rattle.reread_parts_laws.specs.PlacedNotes.{NotesOfBody}
 use Rattle.c_tree.specs.declared.tree.EnumItem.{EnumItem}
 use Rattle.c_tree.specs.Text.{enum_text, top_text, global_text, function_text}
 use Rattle.c_grammar.specs.FileSyntax.{enumeration_end, declaration_end, parameters_end, result_end, function_end, function_node, file_node}
-use Rattle.c_layers.specs.Tops.{Enumerator}
+use Rattle.c_grammar.specs.Tops.{Enumerator}
 use Rattle.c_scopes.specs.Enums.{enum_items, behind_enum, enum_faults}
 use Rattle.c_resolved_defs.specs.Files.{HaveValues, AreNotMain, SameParameters, MainIsFormed, IsGlobal, IsNotMain}
 use Rattle.c_resolved_defs.specs.PrintablePrograms.{EnumPrints, FunctionPrints}
@@ -61,12 +61,12 @@ use Rattle.c_resolved_defs.specs.Verbatims.{IsComment, IsDirective}
 use Rattle.c_tree.specs.declared.tree.Program.{Program}
 use Rattle.c_lexer.specs.declared.token.Token.{Token}
 use Rattle.c_lexer.specs.declared.token.Span.{Span}
-use Rattle.c_layers.specs.Words.{word_of}
+use Rattle.c_grammar.specs.Words.{word_of}
 use Rattle.c_scopes.specs.Resolving.{file_at, resolved}
 use Rattle.print_laws.specs.PrintSyntaxLaws.{printed_pieces}
 use Rattle.c_tree.specs.declared.tree.Top.TheVariants as T
 use Rattle.c_tree.specs.declared.tree.GlobalVariable.{GlobalVariable}
-use Rattle.c_layers.specs.Items.{Declaration, Body}
+use Rattle.c_grammar.specs.Items.{Declaration, Body}
 use Rattle.c_statements.specs.Declarations.{kinded}
 use Rattle.c_scopes.specs.Globals.{behind_globals, globals, globals_faults}
 use Rattle.reread_parts_laws.specs.Bindings.{IsInScope, AreSameScopes}

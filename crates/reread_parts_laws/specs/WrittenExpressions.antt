@@ -2,8 +2,8 @@
 use Rattle.std.specs.Prelude.{ℕ, ◌+◌, List, [], ◌∷◌}
 use Rattle.c_grammar.specs.Expressions.{Base, LongIntBase, NumberType, OfBase, SignedOf, UnsignedOf, Expression, One, More, Assignment, To, Value, Conditional, Choose, Only, Binary, Single, Both, Unary, Prefixed, StepTo, CastTo, CastVoid, Place, StepAfter, CallNone, CallWith, Number, Character, Within, Target, Variable, Cell, Round, Arguments, Last, Then, Argument, Given, Written, Texts, OneText, MoreTexts}
 use Rattle.c_grammar.specs.ExpressionSyntax.{type_end, expression_end, assignment_end, binary_end, target_end, argument_end}
-use Rattle.c_layers.specs.Terms.{Term, Form, Terms, At, NoTerm}
-use Rattle.c_layers.specs.Terms as s
+use Rattle.c_grammar.specs.Terms.{Term, Form, Terms, At, NoTerm}
+use Rattle.c_grammar.specs.Terms as s
 
 -- the words of a type
 abbrev pub base_words : ℕ → Base → List ℕ

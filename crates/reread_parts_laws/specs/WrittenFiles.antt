@@ -4,8 +4,8 @@ use Rattle.c_grammar.specs.Expressions.{Conditional}
 use Rattle.c_grammar.specs.StatementSyntax.{word_end}
 use Rattle.c_grammar.specs.Files.{Enumeration, Enumerated, Declares, Top, Line, OfEnum, OfDeclaration, OfFunction}
 use Rattle.c_grammar.specs.FileSyntax.{enumerator_end, top_end}
-use Rattle.c_layers.specs.Terms.{Term, At}
-use Rattle.c_layers.specs.Tops as s
+use Rattle.c_grammar.specs.Terms.{Term, At}
+use Rattle.c_grammar.specs.Tops as s
 use Rattle.reread_parts_laws.specs.WrittenExpressions.{conditional_form}
 use Rattle.reread_parts_laws.specs.WrittenStatements.{written_declaration}
 use Rattle.reread_parts_laws.specs.WrittenFunctions.{written_function}

@@ -8,9 +8,9 @@ use Rattle.c_grammar.specs.Statements.{Block, Braces}
 use Rattle.c_grammar.specs.StatementSyntax.{word_end}
 use Rattle.c_grammar.specs.Files.{Parameter, Typed, Parameters, SomeParameters, Function, Defined}
 use Rattle.c_grammar.specs.FileSyntax.{parameter_end, parameters_end, result_end, result_node, parameters_node, body_node}
-use Rattle.c_layers.specs.Parts.{part_of, greatest}
-use Rattle.c_layers.specs.Items.{Body}
-use Rattle.c_layers.specs.Tops as tops
+use Rattle.c_grammar.specs.Parts.{part_of, greatest}
+use Rattle.c_grammar.specs.Items.{Body}
+use Rattle.c_grammar.specs.Tops as tops
 use Rattle.reread_parts_laws.specs.WrittenExpressions.{type_words}
 use Rattle.reread_parts_laws.specs.WrittenStatements.{written_size, written_block}
 

@@ -4,9 +4,9 @@ use Rattle.c_grammar.specs.Expressions.{Expression, Assignment}
 use Rattle.c_grammar.specs.ExpressionSyntax.{type_end, expression_end, assignment_end, conditional_end}
 use Rattle.c_grammar.specs.Statements.{Size, NoSize, Unsized, Sized, Initialiser, OneValue, ValueList, Declarator, Declared, Local, Locals, Label, NameLabel, CaseLabel, DefaultLabel, ForStart, StartLocal, StartValue, Braces, Items, NoItems, LocalItem, StatementItem, Statement, Labelled, Unlabelled, Plain, Compound, Simple, If, IfElse, While, DoWhile, For, Switch, Goto, Break, Continue, Return}
 use Rattle.c_grammar.specs.StatementSyntax.{word_end, size_end, declarator_end, local_end, label_end, for_start_end, optional_end, items_end, statement_end, plain_end}
-use Rattle.c_layers.specs.Terms.{Term, At}
-use Rattle.c_layers.specs.Items as s
-use Rattle.c_layers.specs.Parts.{list_of_item}
+use Rattle.c_grammar.specs.Terms.{Term, At}
+use Rattle.c_grammar.specs.Items as s
+use Rattle.c_grammar.specs.Parts.{list_of_item}
 use Rattle.reread_parts_laws.specs.WrittenExpressions.{type_words, expression_form, assignment_form, conditional_form}
 
 abbrev pub expression_term : ℕ → Expression → Term

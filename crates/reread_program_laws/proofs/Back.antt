@@ -8,8 +8,8 @@ use Rattle.c_lexer.specs.Pieces.{IsWithin, tokens_of, comments_of, scanned_of}
 use Rattle.c_lexer.proofs.Bounds.{tokens_bound}
 use Rattle.c_tree.specs.declared.tree.Program.{Program}
 use Rattle.c_tree.specs.Text.{text_of}
-use Rattle.c_layers.specs.Words.{word_of}
-use Rattle.c_layers.specs.Tops.{Top}
+use Rattle.c_grammar.specs.Words.{word_of}
+use Rattle.c_grammar.specs.Tops.{Top}
 use Rattle.c_statements.specs.Functions.{FlatCounts}
 use Rattle.c_scopes.specs.Files.{File, start}
 use Rattle.c_scopes.specs.FunctionNames.{has_function}

@@ -12,7 +12,7 @@ use Rattle.c_tree.specs.Text.{top_text, function_text}
 use Rattle.c_tree.specs.TextPieces.{Piece, newline, verbatim, joined}
 use Rattle.c_grammar.specs.declared.class.Class.{Class}
 use Rattle.c_grammar.specs.FileSyntax.{enumeration_end, declaration_end, function_end}
-use Rattle.c_layers.specs.Tops as tops
+use Rattle.c_grammar.specs.Tops as tops
 use Rattle.c_kinds.specs.declared.binding.Binding.TheVariants as binding
 use Rattle.c_kinds.specs.Scopes as kinds
 use Rattle.c_statements.specs.declared.anchors.Anchor.{Anchor}

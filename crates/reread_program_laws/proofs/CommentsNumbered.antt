@@ -11,7 +11,7 @@ use Rattle.c_lexer.proofs.Later.{has_byte}
 use Rattle.c_lexer.proofs.PieceWalks.{spells_walked, tokens_are, comments_are}
 use Rattle.c_grammar.specs.declared.class.Class.TheVariants as c
 use Rattle.c_grammar.specs.TokenClasses.{classes_of}
-use Rattle.c_layers.specs.Tops.{Top}
+use Rattle.c_grammar.specs.Tops.{Top}
 use Rattle.c_statements.specs.declared.anchors.Anchor.{Anchor}
 use Rattle.c_statements.specs.Context.{same_place}
 use Rattle.c_comments.specs.Notes.{place_in, next_token, comment_bytes, comment_place, notes_of}

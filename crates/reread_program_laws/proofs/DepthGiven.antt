@@ -7,8 +7,8 @@ use Rattle.c_tree.specs.Trees as t
 use Rattle.c_grammar.specs.Statements.{Label, Statement, Items, NoItems, LocalItem, StatementItem}
 use Rattle.c_grammar.specs.ExpressionSyntax.{expression_end}
 use Rattle.c_grammar.specs.StatementSyntax.{label_end, local_end, statement_end}
-use Rattle.c_layers.specs.Items as s
-use Rattle.c_layers.specs.Parts.{list_of_item}
+use Rattle.c_grammar.specs.Items as s
+use Rattle.c_grammar.specs.Parts.{list_of_item}
 use Rattle.c_statements.specs.Measures.{plain_depth, body_depth, list_depth}
 use Rattle.c_resolved_defs.specs.PrintableStatements.{depth_of, depth, depth_in}
 use Rattle.print_laws.specs.StatementDerivations.{selector_of, labels_of, behind_labels as put_labels, labelled, null_statement, starts_with_local, is_last, optional_item, section_end, is_lone_if, placed, block, statement_of, items_of, sections_of}

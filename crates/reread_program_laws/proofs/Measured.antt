@@ -19,7 +19,7 @@ use Rattle.c_grammar.specs.Statements.{NoItems, Braces}
 use Rattle.c_grammar.specs.StatementSyntax.{word_end, size_end, word_parts, more_parts, size_parts}
 use Rattle.c_grammar.specs.Files.{OfEnum, OfDeclaration, OfFunction, Defined, function_tokens, file_tokens}
 use Rattle.c_grammar.specs.FileSyntax.{parameter_end, parameters_end, result_end, enumeration_end, declaration_end, function_end, parameter_node, parameters_parts, parameters_node, result_node}
-use Rattle.c_layers.specs.Tops as tops
+use Rattle.c_grammar.specs.Tops as tops
 use Rattle.c_kinds.specs.Scopes.{Faults, fault_if}
 use Rattle.c_kinds.specs.Scopes as kinds
 use Rattle.c_statements.specs.declared.anchors.Anchor.{Anchor}

@@ -8,8 +8,8 @@ use Rattle.c_grammar.specs.declared.class.Class.TheVariants as c
 use Rattle.c_grammar.specs.Files.{file_tokens}
 use Rattle.c_tree.specs.declared.tree.Program.{Program}
 use Rattle.c_tree.specs.Text.{text_of}
-use Rattle.c_layers.specs.Words.{word_of}
-use Rattle.c_layers.specs.Tops.{Top}
+use Rattle.c_grammar.specs.Words.{word_of}
+use Rattle.c_grammar.specs.Tops.{Top}
 use Rattle.c_comments.specs.Notes.{place_in, notes_of}
 use Rattle.c_resolved_defs.specs.PrintablePrograms.{IsPrintable}
 use Rattle.print_laws.specs.Reread.{spellings, class_of_spelling, read_at}

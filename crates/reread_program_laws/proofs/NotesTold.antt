@@ -15,8 +15,8 @@ use Rattle.c_grammar.specs.Expressions.{expression_tokens}
 use Rattle.c_grammar.specs.ExpressionSyntax.{expression_end}
 use Rattle.c_grammar.specs.Statements.{NoItems, Statement, items_tokens}
 use Rattle.c_grammar.specs.StatementSyntax.{items_end, statement_end, for_start_end, optional_end}
-use Rattle.c_layers.specs.Items as s
-use Rattle.c_layers.specs.Parts.{list_of_item}
+use Rattle.c_grammar.specs.Items as s
+use Rattle.c_grammar.specs.Parts.{list_of_item}
 use Rattle.c_statements.specs.declared.anchors.Anchor.{Anchor}
 use Rattle.c_statements.specs.declared.anchors.Anchor.TheVariants.{Before, AtEnd, AtSection}
 use Rattle.c_comments.specs.Notes.{item_place, plain_place, body_place, list_place, or_behind}

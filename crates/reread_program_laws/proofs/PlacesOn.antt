@@ -10,9 +10,9 @@ use Rattle.c_grammar.specs.ExpressionSyntax.{conditional_end}
 use Rattle.c_grammar.specs.Statements.{NoItems, Statement, Labelled, Unlabelled}
 use Rattle.c_grammar.specs.Statements as g
 use Rattle.c_grammar.specs.StatementSyntax.{local_end, statement_end, items_end}
-use Rattle.c_layers.specs.Terms.{At}
-use Rattle.c_layers.specs.Items as s
-use Rattle.c_layers.specs.Items.{label_first, first_label}
+use Rattle.c_grammar.specs.Terms.{At}
+use Rattle.c_grammar.specs.Items as s
+use Rattle.c_grammar.specs.Items.{label_first, first_label}
 use Rattle.c_statements.specs.declared.anchors.Anchor.{Anchor}
 use Rattle.c_statements.specs.declared.anchors.Anchor.TheVariants.{Before, AtEnd}
 use Rattle.c_statements.specs.Labels.{has_case}

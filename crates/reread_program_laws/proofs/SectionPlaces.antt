@@ -7,7 +7,7 @@ use Rattle.c_tree.specs.Trees as t
 use Rattle.c_grammar.specs.Statements.{StatementItem}
 use Rattle.c_grammar.specs.Statements as g
 use Rattle.c_grammar.specs.StatementSyntax.{items_end}
-use Rattle.c_layers.specs.Items as s
+use Rattle.c_grammar.specs.Items as s
 use Rattle.c_statements.specs.declared.anchors.Anchor.{Anchor}
 use Rattle.c_statements.specs.declared.anchors.Anchor.TheVariants.{Before}
 use Rattle.c_comments.specs.Notes.{item_after, plain_after}

@@ -15,7 +15,7 @@ use Rattle.c_grammar.specs.declared.class.Class.TheVariants as c
 use Rattle.c_grammar.specs.Statements.{NoItems}
 use Rattle.c_grammar.specs.Files.{Line, OfEnum, OfDeclaration, OfFunction, file_tokens}
 use Rattle.c_grammar.specs.FileSyntax.{function_end, body_end, top_end}
-use Rattle.c_layers.specs.Tops as tops
+use Rattle.c_grammar.specs.Tops as tops
 use Rattle.c_statements.specs.declared.anchors.Anchor.{Anchor}
 use Rattle.c_statements.specs.declared.anchors.Anchor.TheVariants.{Before, Last}
 use Rattle.c_comments.specs.Notes.{place_in, form_place, function_place}

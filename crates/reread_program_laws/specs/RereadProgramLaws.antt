@@ -5,8 +5,8 @@ use Rattle.c_lexer.specs.declared.token.Span.{Span}
 use Rattle.c_lexer.specs.Pieces.{tokens_of, comments_of}
 use Rattle.c_tree.specs.declared.tree.Program.{Program}
 use Rattle.c_tree.specs.Text.{text_of}
-use Rattle.c_layers.specs.Words.{word_of}
-use Rattle.c_layers.specs.Tops.{Top}
+use Rattle.c_grammar.specs.Words.{word_of}
+use Rattle.c_grammar.specs.Tops.{Top}
 use Rattle.c_statements.specs.Functions.{FlatCounts}
 use Rattle.c_scopes.specs.Files.{File}
 use Rattle.c_comments.specs.Notes.{notes_of}

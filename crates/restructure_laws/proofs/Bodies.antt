@@ -10,7 +10,7 @@ use Rattle.struct_meaning.specs.Structured.{IsStructured}
 use Rattle.flat_laws.specs.Parts.{has_jumps}
 use Rattle.plain_laws.specs.Tidied.{last_break, without_last, give, put_section, tidy, tidy_item, tidy_sections}
 use Rattle.whole_laws.proofs.Unlabelled.{IsPlainItem}
-use Rattle.plain_resolved_laws.proofs.PlainLengths.{no_jumps}
+use Rattle.whole_laws.proofs.PlainLengths.{no_jumps}
 
 -- ---- the sections of a source have their plain form
 

@@ -17,7 +17,7 @@ use Rattle.report_moves.specs.declared.moves.Move.{Move}
 use Rattle.move_order_laws.specs.Moved.{IsMoved}
 use Rattle.plain_laws.specs.Plain.{guard_slot, names_left, plain_function, plain_top}
 use Rattle.plain_laws.proofs.TheLaws.{plain_laws}
-use Rattle.plain_resolved_laws.proofs.PlainTops.{plain_flat, no_body}
+use Rattle.whole_laws.proofs.PlainTops.{plain_flat, no_body}
 use Rattle.whole_laws.specs.WholeLaws.{IsTopNamed}
 use Rattle.whole_laws.specs.Rewritten.{IsFlatForm, IsUnlabelledForm, IsNoFunction}
 use Rattle.whole_laws.proofs.Flattened.{body_is}

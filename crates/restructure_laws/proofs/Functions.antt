@@ -13,8 +13,8 @@ use Rattle.flat_form.specs.declared.forms.Form.{Form}
 use Rattle.flat_form.specs.declared.forms.Form.TheVariants.{Same, Calm, Flat}
 use Rattle.plain_laws.specs.Plain.{tidied, with_guard_variables, plain_body, plain_function}
 use Rattle.plain_laws.proofs.TidyTrees.{tidied_trees}
-use Rattle.plain_resolved_laws.proofs.PlainTops.{no_body}
-use Rattle.plain_resolved_laws.proofs.TidyForm.{unmarked}
+use Rattle.whole_laws.proofs.PlainTops.{no_body}
+use Rattle.whole_laws.proofs.TidyForm.{unmarked}
 use Rattle.restructure_laws.proofs.Items.{same_items}
 use Rattle.whole_laws.proofs.Unlabelled.{unlabelled_same}
 use Rattle.restructure_laws.proofs.Bodies.{tidy_same, plain_items, jumpless}

@@ -24,7 +24,7 @@ use Rattle.move_order_laws.specs.Moved.{IsMoved}
 use Rattle.plain_laws.specs.Plain.{tidied, plain_function, plain_top}
 use Rattle.plain_laws.specs.Tidied.{tidy}
 use Rattle.plain_laws.proofs.TidyTrees.{tidied_trees}
-use Rattle.plain_resolved_laws.proofs.PlainTops.{no_body}
+use Rattle.whole_laws.proofs.PlainTops.{no_body}
 use Rattle.move_order_laws.specs.Skeletons.{skeleton}
 use Rattle.move_order_laws.proofs.Laws.{skeleton_laws}
 use Rattle.whole_laws.specs.Rewritten.{IsFlatForm, IsUnlabelledForm}

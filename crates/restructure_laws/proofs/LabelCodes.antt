@@ -20,7 +20,7 @@ use Rattle.flat_laws.specs.Parts.{arrivals, arrivals_in, leaves, kept_breaks, is
 use Rattle.flat_laws.specs.FlatForm.{Plan, names_of, place_of, same_number, scatter_aim, otherwise_label, aim, exit, end_goto, is_jumpy_switch, assigned, mark_if, arrival, dissolved, if_breaks, flat_for, flat, flat_item, flat_last, flat_last_item, flat_sections, spread, marks, marks_in, marks_among}
 use Rattle.flat_laws.specs.Source.{nones, AreDifferent, IfTrue, HasOwnCases}
 use Rattle.c_resolved_defs.specs.Within.{Each}
-use Rattle.plain_resolved_laws.proofs.Lists.{each_map, each_append}
+use Rattle.whole_laws.proofs.PlainLists.{each_map, each_append}
 use Rattle.c_resolved_laws.proofs.Ranged.{each_left, each_right, Marked}
 
 -- ---- the place of a case among the cases of its switch

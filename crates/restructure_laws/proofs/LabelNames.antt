@@ -22,7 +22,7 @@ use Rattle.c_resolved_defs.specs.Within.{Each}
 use Rattle.c_resolved_defs.specs.Form.{gathered, marked_label, numbers_from}
 use Rattle.c_resolved_defs.specs.PrintableExpressions.{IsName}
 use Rattle.c_resolved_laws.proofs.Ranged.{Marked, marked, numbers_below}
-use Rattle.plain_resolved_laws.proofs.Lists.{each_map}
+use Rattle.whole_laws.proofs.PlainLists.{each_map}
 use Rattle.flat_function.proofs.FreshNames.{numbered_name, fresh_name}
 use Rattle.restructure_laws.proofs.LabelCodes.{flat_has, all_marks}
 use Rattle.restructure_laws.proofs.MadeLabels.{IsNameOrNone, AreLabelNames}

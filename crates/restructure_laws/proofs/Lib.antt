@@ -21,3 +21,18 @@ pub mod WholeUniquePrograms
 mod Bodies
 mod Functions
 pub mod WholeIdempotentPrograms
+pub mod ReplayedBodies
+pub mod OneBody
+pub mod Tops
+pub mod ByRules
+pub mod Joined
+pub mod Replays
+pub mod FirstPlaces
+pub mod Rewriting
+pub mod Whole
+pub mod Later
+pub mod PlainForms
+pub mod ReplayedTops
+pub mod ChoiceLabels
+pub mod MoveNames
+pub mod Laws

@@ -11,7 +11,7 @@ use Rattle.flat_names.specs.declared.giving.Made.{Made}
 use Rattle.flat_names.specs.FlatNames.{Given, number_slot, name_variable, name_case, name_cases, name_default, name_break, name_construct, name_constructs, slot_taken, slot_used, named_slots}
 use Rattle.c_resolved_defs.specs.Within.{Each}
 use Rattle.c_resolved_defs.specs.PrintableExpressions.{IsName}
-use Rattle.plain_resolved_laws.proofs.Lists.{each_append}
+use Rattle.whole_laws.proofs.PlainLists.{each_append}
 use Rattle.flat_function.proofs.Forms.{break_same, default_same, cases_same}
 use Rattle.flat_function.proofs.FreshNames.{numbered_name, fresh_name}
 

@@ -38,8 +38,8 @@ use Rattle.c_resolved_laws.specs.Counts.{counts_of, measured_form, flat_counts}
 use Rattle.c_resolved_laws.proofs.Counted.{counted_plainly}
 use Rattle.c_resolved_laws.proofs.LabelsGiven.{function_labels}
 use Rattle.whole_laws.proofs.Flattened.{body_is}
-use Rattle.plain_resolved_laws.specs.Guards.{HasNames}
-use Rattle.plain_resolved_laws.proofs.Lists.{each_map, each_both, each_taken, each_dropped}
+use Rattle.whole_laws.specs.Guards.{HasNames}
+use Rattle.whole_laws.proofs.PlainLists.{each_map, each_both, each_taken, each_dropped}
 use Rattle.c_resolved_laws.proofs.Measures.{same_labels}
 use Rattle.flat_function.specs.Laws.{named_flat}
 use Rattle.flat_function.specs.Own.{used_at_end, IsNamedIn}
@@ -49,7 +49,7 @@ use Rattle.restructure_laws.specs.Flattened.{most_held}
 use Rattle.restructure_laws.proofs.LabelNames.{IsCode, codes_stand, labels_have_names}
 use Rattle.restructure_laws.proofs.MadeLabels.{constructs_named, constructs_given, constructs_used, slots_used}
 use Rattle.restructure_laws.proofs.NewGuards.{guard_names_new}
-use Rattle.plain_resolved_laws.proofs.SourceNames.{labels_named, slots_named}
+use Rattle.whole_laws.proofs.SourceNames.{labels_named, slots_named}
 use Rattle.restructure_laws.proofs.SwitchCases.{cases_counted, few_cases}
 
 -- ---- the names of a part are names of the whole

@@ -18,7 +18,7 @@ use Rattle.c_resolved_defs.specs.Spelling.{TopIsSpelled}
 use Rattle.c_resolved_defs.specs.Within.{Each}
 use Rattle.c_resolved_laws.specs.Counts.{IsResolved, flat_counts}
 use Rattle.whole_laws.specs.Rewritten.{IsNoFunction, IsRewritten}
-use Rattle.plain_resolved_laws.specs.Guards.{HasNames, TopHasNames}
+use Rattle.whole_laws.specs.Guards.{HasNames, TopHasNames}
 use Rattle.restructure_laws.proofs.ReadBack.{plain_form_reads_back}
 use Rattle.restructure_laws.specs.Flattened.{most_held, FlattenedTop, fd_function, fd_other, FlattenedTops, fd_none, fd_more}
 use Rattle.restructure_laws.specs.WholeNamesLaws.{IsRewrittenWithNames, NamedProgramLaws}

@@ -7,7 +7,7 @@ use Rattle.c_resolved_laws.specs.Counts.{flat_counts}
 use Rattle.c_resolved_laws.proofs.TheLaws.{resolved_laws}
 use Rattle.whole_laws.specs.WholeLaws.{IsTopNamed}
 use Rattle.whole_laws.proofs.Whole.{whole_laws}
-use Rattle.plain_resolved_laws.proofs.NamedForm.{tops_named, named_form_resolved}
+use Rattle.whole_laws.proofs.NamedForm.{tops_named, named_form_resolved}
 use Rattle.print_laws.proofs.Parsing.{printed_text_parses}
 use Rattle.reread_program_laws.proofs.ReadingBack.{reading_back_laws}
 use Rattle.restructure_laws.specs.RereadPlainLaws.{PlainFormReadsBack}

@@ -14,9 +14,9 @@ use Rattle.c_resolved_defs.specs.Within.{Each}
 use Rattle.flat_laws.specs.Parts.{has_jumps}
 use Rattle.jump_meaning.specs.Code.{code_of}
 use Rattle.plain_laws.specs.Laws.{IsTopReady}
-use Rattle.plain_resolved_laws.proofs.Measured.{moved_counts}
-use Rattle.plain_resolved_laws.proofs.PlainDepths.{moved_levels}
-use Rattle.plain_resolved_laws.proofs.PlainTops.{IsDerivedForm, Derived, IsOwnTop, PlainTop, pt_moved, pt_unmoved, pt_declared, pt_other, PlainTops, pt_none, pt_more, plain_tops}
+use Rattle.whole_laws.proofs.Measured.{moved_counts}
+use Rattle.whole_laws.proofs.PlainDepths.{moved_levels}
+use Rattle.whole_laws.proofs.PlainTops.{IsDerivedForm, Derived, IsOwnTop, PlainTop, pt_moved, pt_unmoved, pt_declared, pt_other, PlainTops, pt_none, pt_more, plain_tops}
 use Rattle.c_resolved_laws.specs.Counts.{counts_of, measured_form, flat_counts}
 use Rattle.c_resolved_laws.proofs.Counted.{counted_plainly}
 use Rattle.whole_laws.specs.Rewritten.{IsNoFunction}

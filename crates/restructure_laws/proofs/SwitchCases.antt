@@ -15,7 +15,7 @@ use Rattle.c_resolved_defs.specs.Switches.{AreLabels, HasCases}
 use Rattle.c_resolved_defs.specs.Within.{Each}
 use Rattle.c_resolved_laws.proofs.LabelsGiven.{labels_same, cases_same}
 use Rattle.c_resolved_laws.proofs.Ranged.{the_some}
-use Rattle.plain_resolved_laws.proofs.Lists.{each_append}
+use Rattle.whole_laws.proofs.PlainLists.{each_append}
 use Rattle.restructure_laws.proofs.MadeLabels.{case_count, HasFewCases}
 
 -- ---- how many

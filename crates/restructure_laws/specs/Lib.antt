@@ -9,3 +9,7 @@ pub mod Flattened
 pub mod WholeNamesLaws
 pub mod WholeUniqueLaws
 pub mod WholeIdempotentLaws
+pub mod Lawful
+pub mod Replayed
+pub mod ReplayMovesLaws
+pub mod ReplayLaws

@@ -11,7 +11,7 @@ use Rattle.plain_laws.specs.Laws.{BehavesAsStructured}
 use Rattle.c_resolved_laws.specs.Counts.{IsResolved}
 use Rattle.report_moves.specs.declared.moves.Move.{Move}
 use Rattle.whole_laws.specs.Rewritten.{IsRewritten}
-use Rattle.plain_resolved_laws.specs.Guards.{TopHasNames}
+use Rattle.whole_laws.specs.Guards.{TopHasNames}
 use Rattle.print_laws.specs.PrintParseLaws.{Parses}
 use Rattle.reread_program_laws.specs.RereadTextLaws.{counted}
 

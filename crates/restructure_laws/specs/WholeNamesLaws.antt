@@ -11,7 +11,7 @@ use Rattle.c_resolved_laws.specs.Counts.{IsResolved}
 use Rattle.report_moves.specs.declared.moves.Move.{Move}
 use Rattle.move_order_laws.specs.Moved.{MovedTops}
 use Rattle.whole_laws.specs.Rewritten.{FlatTops, IsRewritten}
-use Rattle.plain_resolved_laws.specs.Guards.{TopHasNames}
+use Rattle.whole_laws.specs.Guards.{TopHasNames}
 use Rattle.restructure_laws.specs.RereadPlainLaws.{ReadsBack}
 use Rattle.restructure_laws.specs.Flattened.{most_held, FlattenedTops}
 

@@ -1,5 +1,6 @@
 //! What a rewriting keeps of a program besides its behaviour: its bounds, its names, and that its printed text reads
-//! back. A program is rewritten in one way, and one without jumps to itself.
+//! back. A program is rewritten in one way, and one without jumps to itself. A list of lawful moves in any order keeps its
+//! behaviour, too, and what such moves reach reads back, with names that a report can write.
 //!
 //! The definitions stand in specs/. The functions here run no code: their contracts are the laws.
 #![tactic(auto)]
@@ -9,6 +10,8 @@ ghost use Rattle.restructure_laws.specs.RereadPlainLaws.{PlainFormReadsBack};
 ghost use Rattle.restructure_laws.specs.WholeNamesLaws.{NamedProgramLaws};
 ghost use Rattle.restructure_laws.specs.WholeUniqueLaws.{OneRewritingLaws};
 ghost use Rattle.restructure_laws.specs.WholeIdempotentLaws.{SettledLaws};
+ghost use Rattle.restructure_laws.specs.ReplayMovesLaws.{LawfulMoveLaws, ReplayLaws};
+ghost use Rattle.restructure_laws.specs.ReplayLaws.{ReplayedProgramLaws};
 
 /// A function with jumps keeps the skeleton of its flat form, one without jumps all but its labels.
 pub fn skeletons_kept()
@@ -51,4 +54,21 @@ pub fn one_rewriting_laws()
 /// A resolved program is its own plain form, and what one without jumps is rewritten to is itself, by no moves.
 pub fn settled_program_laws()
     ensures { SettledLaws }
+{}
+
+/// Lawful moves keep bodies well made, a steady program steady, and its behaviour, and make one thing of it.
+pub fn lawful_move_laws()
+    ensures { LawfulMoveLaws }
+{}
+
+/// What a resolved program is made by lawful moves behaves as it does, and so does its plain form once no Leap is left.
+/// The moves of the rewriting are such.
+pub fn replay_laws()
+    ensures { ReplayLaws }
+{}
+
+/// What a resolved program is made by lawful moves until no Leap is left has a plain form that is resolved and reads as
+/// itself, where it is within the limits of a text. Each of the moves names a function and, where its kind has one, a label.
+pub fn replayed_program_laws()
+    ensures { ReplayedProgramLaws }
 {}

@@ -1,4 +1,4 @@
-//! The plain form of an `if` on a guard. No move makes one; what moves make stands in test_commands.
+//! The plain form of an `if` on a guard. No move makes one; what moves make stands in the tests of regoto_cli.
 
 use crate::printing::{prints_as, program_of};
 use c_copies::names;

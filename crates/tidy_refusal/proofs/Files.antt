@@ -5,9 +5,9 @@ use Rattle.std.proofs.lemmas.List.Elements.{All-from_recursion}
 use Rattle.c_tree.specs.declared.tree.Top.{Top}
 use Rattle.c_tree.specs.declared.tree.Top.TheVariants as T
 use Rattle.c_tree.specs.Trees.{Nil, trees_of}
-use Rattle.c_layers.specs.Items.{Declarator, Body, Braces, Lone}
-use Rattle.c_layers.specs.Tops.{Function, Form, Line, Enum, Globals, Defines, Unread}
-use Rattle.c_layers.specs.Tops as tops
+use Rattle.c_grammar.specs.Items.{Declarator, Body, Braces, Lone}
+use Rattle.c_grammar.specs.Tops.{Function, Form, Line, Enum, Globals, Defines, Unread}
+use Rattle.c_grammar.specs.Tops as tops
 use Rattle.c_kinds.specs.Scopes.{Env}
 use Rattle.c_statements.specs.declared.extents.Kinded.{Kinded}
 use Rattle.c_statements.specs.declared.anchors.Anchor.{Anchor}

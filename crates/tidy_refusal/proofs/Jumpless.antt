@@ -6,7 +6,7 @@ use Rattle.c_lexer.specs.Pieces.{tokens_of, comments_of}
 use Rattle.c_lexer.proofs.Theorem.{scan_read_back}
 use Rattle.c_grammar.specs.TokenClasses.{offset_of}
 use Rattle.c_parser.proofs.Reading.{parses}
-use Rattle.c_layers.specs.Tops.{Top}
+use Rattle.c_grammar.specs.Tops.{Top}
 use Rattle.c_tree.specs.declared.tree.Program.{Program}
 use Rattle.c_scopes.specs.Files.{start}
 use Rattle.c_scopes.specs.Resolving.{file_at}

@@ -1,10 +1,10 @@
 -- What stands among the nodes of a list, from an index on.
 use Rattle.std.proofs.Common.{◌≡◌, ◌<◌, ◌+◌, ℕ, suc, List, ◌∷◌, length, get_or, map, drop, refl, add-one, drop-cons, Option, Some, None}
 use Rattle.c_grammar.specs.declared.syntax.Syntax.{Syntax}
-use Rattle.c_layers.specs.Items.{Label}
-use Rattle.c_layers.specs.ItemViews.{label_of, labels_of}
-use Rattle.c_layers.specs.TopViews.{top_of}
-use Rattle.c_layers.proofs.Layers.{weight-at}
+use Rattle.c_grammar.specs.Items.{Label}
+use Rattle.c_grammar.specs.ItemViews.{label_of, labels_of}
+use Rattle.c_grammar.specs.TopViews.{top_of}
+use Rattle.c_grammar.proofs.Layers.{weight-at}
 use Rattle.c_statements.proofs.Lists.{items-token, items-item}
 use Rattle.tidy_refusal.specs.FileJumps.{jump_in, labels_jump}
 

@@ -1,8 +1,8 @@
 -- The first jump of a file, by its token: a `goto`, or a case or default label that begins no section of a switch.
 use Rattle.std.specs.Prelude.{ℕ, ◌-◌, List, [], ◌∷◌, Option, Some, None}
-use Rattle.c_layers.specs.Items.{Label, Named, Case, Default, Item, Declares, States, Plain, From, Statement, If, IfElse, While, DoWhile, For, Switch, Block, Goto, Body, Braces, Lone, Items, NoItem, Then}
-use Rattle.c_layers.specs.Tops.{Top, Defines}
-use Rattle.c_layers.specs.Tops as tops
+use Rattle.c_grammar.specs.Items.{Label, Named, Case, Default, Item, Declares, States, Plain, From, Statement, If, IfElse, While, DoWhile, For, Switch, Block, Goto, Body, Braces, Lone, Items, NoItem, Then}
+use Rattle.c_grammar.specs.Tops.{Top, Defines}
+use Rattle.c_grammar.specs.Tops as tops
 
 -- ---- each of these is the first jump of what it is named by, or else the one that follows it
 

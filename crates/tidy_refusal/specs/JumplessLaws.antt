@@ -3,7 +3,7 @@ use Rattle.std.specs.Prelude.{◌≡◌, false, List, None, All}
 use Rattle.c_tree.specs.declared.tree.Top.{Top}
 use Rattle.c_tree.specs.declared.tree.Top.TheVariants as T
 use Rattle.c_tree.specs.InRange.{body_of}
-use Rattle.c_layers.specs.Tops as tops
+use Rattle.c_grammar.specs.Tops as tops
 use Rattle.c_scopes.specs.Files.{File, State, tops_of}
 use Rattle.flat_laws.specs.Parts.{has_jumps}
 use Rattle.tidy_refusal.specs.FileJumps.{first_jump}

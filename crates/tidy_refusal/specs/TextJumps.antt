@@ -8,8 +8,8 @@ use Rattle.c_lexer.specs.Faults.{refusal_of}
 use Rattle.c_grammar.specs.declared.syntax.Syntax.{Syntax}
 use Rattle.c_grammar.specs.TokenClasses.{offset_of}
 use Rattle.c_parser.specs.Answers.{parsed}
-use Rattle.c_layers.specs.Words.{word_of}
-use Rattle.c_layers.specs.Parts.{file_of}
+use Rattle.c_grammar.specs.Words.{word_of}
+use Rattle.c_grammar.specs.Parts.{file_of}
 use Rattle.tidy_refusal.specs.FileJumps.{first_jump}
 use Rattle.c_text.specs.Reading.{IsInSubset, IsRefusedFor}
 

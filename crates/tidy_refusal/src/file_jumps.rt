@@ -1,15 +1,14 @@
 ghost use Rattle.std.specs.Prelude.{◌≡◌, map};
-ghost use Rattle.c_layers.specs.ItemViews.{item_of, plain_of, body_of, label_of, labels_of};
-ghost use Rattle.c_layers.specs.Parts.{part_of, block_in, file_of};
-ghost use Rattle.c_layers.specs.TopViews.{top_of};
-ghost use Rattle.c_layers.specs.Views.{words_of};
+ghost use Rattle.c_grammar.specs.ItemViews.{item_of, plain_of, body_of, label_of, labels_of};
+ghost use Rattle.c_grammar.specs.Parts.{part_of, block_in, file_of};
+ghost use Rattle.c_grammar.specs.TopViews.{top_of};
+ghost use Rattle.c_grammar.specs.Views.{words_of};
 ghost use Rattle.c_statements.specs.Nodes.{items_of};
 ghost use Rattle.tidy_refusal.specs.FileJumps as spec;
 
-use c_grammar::SyntaxNode;
-use c_layers::{
-    BodyLayer, ItemLayer, LabelLayer, StatementLayer, TopLayer, Words, block_layer, body_layer,
-    item_layer, label_layer, statement_layer, top_layer, tops_of,
+use c_grammar::{
+    BodyLayer, ItemLayer, LabelLayer, StatementLayer, SyntaxNode, TopLayer, Words, block_layer,
+    body_layer, item_layer, label_layer, statement_layer, top_layer, tops_of,
 };
 use c_statements::is_token;
 

@@ -5,8 +5,7 @@ ghost use Rattle.c_parser.specs.Answers.{parsed};
 ghost use Rattle.tidy_refusal.specs.TextJumps as spec;
 
 use crate::first_jump;
-use c_grammar::SyntaxNode;
-use c_layers::Words;
+use c_grammar::{SyntaxNode, Words};
 use c_lexer::{Scanned, Token, refusal_at, scan};
 use c_parser::parse;
 use c_types::{Memory, ReadStop, Refusal};

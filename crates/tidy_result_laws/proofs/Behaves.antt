@@ -26,8 +26,8 @@ use Rattle.tidy_laws.proofs.Reach.{fewer as slots_fewer, first_among}
 use Rattle.tidy_laws.specs.TidyBehaviourLaws.{IsChanged, IsChangedTop, AreChangedTops, BehaveAlike}
 use Rattle.tidy_laws.proofs.TheLaws.{tidy_law}
 use Rattle.tidy_laws.specs.Ends.{IsChangedFirst, AreChangedFirst, AreChangedTimes, variables_in, variables}
-use Rattle.plain_resolved_laws.proofs.PlainTops.{IsUnmovedForm}
-use Rattle.plain_resolved_laws.proofs.SameTops.{unmoved_declared, unmoved_slots, unmoved_params}
+use Rattle.whole_laws.proofs.PlainTops.{IsUnmovedForm}
+use Rattle.whole_laws.proofs.SameTops.{unmoved_declared, unmoved_slots, unmoved_params}
 use Rattle.tidy_result_laws.proofs.Loose.{IsLoose, TopIsLoose, IsLooseFile}
 use Rattle.tidy_result_laws.proofs.Files.{Over, o_none, o_function, o_other}
 use Rattle.tidy_result_laws.proofs.ChangedFiles.{IsStep, first_over, loose_step}

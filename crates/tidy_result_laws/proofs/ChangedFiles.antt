@@ -6,8 +6,8 @@ use Rattle.c_tree.specs.declared.tree.Top.TheVariants as T
 use Rattle.c_resolved_defs.specs.Scopes.{at_start}
 use Rattle.c_resolved_defs.specs.Within.{Each}
 use Rattle.tidy_laws.specs.Ends.{IsChangedFirst, AreChangedFirst, AreChangedTimes}
-use Rattle.plain_resolved_laws.proofs.SameFile.{SameFile, declarations_over, main_over}
-use Rattle.plain_resolved_laws.proofs.SameTops.{self_declared}
+use Rattle.whole_laws.proofs.SameFile.{SameFile, declarations_over, main_over}
+use Rattle.whole_laws.proofs.SameTops.{self_declared}
 use Rattle.tidy_result_laws.proofs.FileScopes.{below_start}
 use Rattle.tidy_result_laws.proofs.Loose.{IsLoose, TopIsLoose, IsLooseFile}
 use Rattle.tidy_result_laws.proofs.ChangedFunctions.{changed_declared, loose_kept, items_spelled, depth_kept, items_bound}

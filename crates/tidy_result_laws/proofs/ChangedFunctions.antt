@@ -29,8 +29,8 @@ use Rattle.tidy_laws.specs.Changes.{is_flag, declares, undeclared, changes, chan
 use Rattle.tidy_laws.proofs.Reach.{of_change, in_reach, fewer as slots_fewer, first_among}
 use Rattle.tidy_laws.specs.Ends.{IsChangedFirst}
 use Rattle.tidy_laws.proofs.TidyZeroExpressions.{both}
-use Rattle.plain_resolved_laws.proofs.SameFile.{SameDeclaration}
-use Rattle.plain_resolved_laws.proofs.ScopeLists.{parameters_take}
+use Rattle.whole_laws.proofs.SameFile.{SameDeclaration}
+use Rattle.whole_laws.proofs.ScopeLists.{parameters_take}
 use Rattle.tidy_result_laws.proofs.Trims.{Trim}
 use Rattle.tidy_result_laws.proofs.TrimLists.{HasFirst, lists_trim}
 use Rattle.tidy_result_laws.proofs.TrimCounts.{IsOfLeaves, trim_gathered, trim_breaks, trim_continues, trim_depth}

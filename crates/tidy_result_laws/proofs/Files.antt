@@ -28,9 +28,9 @@ use Rattle.c_resolved_defs.specs.Scopes.{Scope, inside, bind, AFunction, AreBoun
 use Rattle.c_resolved_defs.specs.Spelling.{AreSpelled, BodyIsSpelled, HasName, FunctionIsSpelled, TopIsSpelled}
 use Rattle.c_resolved_defs.specs.Within.{Each, AllDiffer, Within, TestExpression, CaseExpressions, ItemExpressions}
 use Rattle.c_resolved_laws.proofs.Ranged.{each_map, if_some_map}
-use Rattle.plain_resolved_laws.proofs.NamesKept.{KeepsNames, names_kept, keeps_self, kinds_over, consts_over}
-use Rattle.plain_resolved_laws.proofs.SameFile.{SameDeclaration, SameFile, sf_none, sf_function, sf_other, global_over, callee_over}
-use Rattle.plain_resolved_laws.proofs.ScopeLists.{new_take}
+use Rattle.whole_laws.proofs.NamesKept.{KeepsNames, names_kept, keeps_self, kinds_over, consts_over}
+use Rattle.whole_laws.proofs.SameFile.{SameDeclaration, SameFile, sf_none, sf_function, sf_other, global_over, callee_over}
+use Rattle.whole_laws.proofs.ScopeLists.{new_take}
 use Rattle.tidy_result_laws.proofs.FileScopes.{AreBelow, below_top}
 use Rattle.tidy_result_laws.proofs.Loose.{IsLoose, TopIsLoose}
 

@@ -25,7 +25,7 @@ use Rattle.c_resolved_defs.specs.Spelling.{TopIsSpelled}
 use Rattle.c_resolved_defs.specs.Switches.{HasCases}
 use Rattle.c_resolved_defs.specs.Within.{Each}
 use Rattle.c_resolved_laws.proofs.Ranged.{unguarded}
-use Rattle.plain_resolved_laws.proofs.TidyForm.{unmarked}
+use Rattle.whole_laws.proofs.TidyForm.{unmarked}
 use Rattle.tidy_result_laws.proofs.KeptFacts.{HasEntries}
 use Rattle.tidy_result_laws.proofs.TrimLists.{HasFirst}
 

@@ -30,18 +30,18 @@ use Rattle.c_resolved_defs.specs.Spelling.{AreSpelled}
 use Rattle.c_resolved_defs.specs.Within.{Each, Within, CaseExpressions}
 use Rattle.c_resolved_laws.specs.Counts.{flat_counts, without_strays}
 use Rattle.c_resolved_laws.proofs.Counted.{jumps_stay}
-use Rattle.plain_resolved_laws.proofs.FactsMoved.{left_trees}
-use Rattle.plain_resolved_laws.proofs.FactsPlain.{tidy_cases}
-use Rattle.plain_resolved_laws.proofs.ItemKinds.{cases_all, all_in_cases}
-use Rattle.plain_resolved_laws.proofs.PlainCases.{unmoved_cases}
-use Rattle.plain_resolved_laws.proofs.PlainForms.{tidied_form}
-use Rattle.plain_resolved_laws.proofs.PlainLengths.{unmoved_lengths, unmoved_initialised, no_jumps}
-use Rattle.plain_resolved_laws.proofs.PlainTops.{IsUnmovedForm, no_body}
-use Rattle.plain_resolved_laws.proofs.SameFile.{SameDeclaration, SameFile}
-use Rattle.plain_resolved_laws.proofs.SameTops.{self_declared, unmoved_declared, unmoved_slots, unmoved_params}
-use Rattle.plain_resolved_laws.proofs.TidyForm.{Ready, tidy_plain}
-use Rattle.plain_resolved_laws.proofs.UnmovedBound.{bound_unmoved}
-use Rattle.plain_resolved_laws.proofs.UnmovedSpelled.{spelled_unmoved, depth_unmoved}
+use Rattle.whole_laws.proofs.FactsMoved.{left_trees}
+use Rattle.whole_laws.proofs.FactsPlain.{tidy_cases}
+use Rattle.whole_laws.proofs.ItemKinds.{cases_all, all_in_cases}
+use Rattle.whole_laws.proofs.PlainCases.{unmoved_cases}
+use Rattle.whole_laws.proofs.PlainForms.{tidied_form}
+use Rattle.whole_laws.proofs.PlainLengths.{unmoved_lengths, unmoved_initialised, no_jumps}
+use Rattle.whole_laws.proofs.PlainTops.{IsUnmovedForm, no_body}
+use Rattle.whole_laws.proofs.SameFile.{SameDeclaration, SameFile}
+use Rattle.whole_laws.proofs.SameTops.{self_declared, unmoved_declared, unmoved_slots, unmoved_params}
+use Rattle.whole_laws.proofs.TidyForm.{Ready, tidy_plain}
+use Rattle.whole_laws.proofs.UnmovedBound.{bound_unmoved}
+use Rattle.whole_laws.proofs.UnmovedSpelled.{spelled_unmoved, depth_unmoved}
 use Rattle.tidy_result_laws.proofs.KeptFacts.{HasEntries}
 use Rattle.tidy_result_laws.proofs.TrimLists.{HasFirst}
 use Rattle.tidy_result_laws.proofs.Loose.{IsLoose, TopIsLoose, loose_plain}

@@ -20,7 +20,7 @@ use Rattle.c_resolved_laws.specs.Counts.{flat_counts, IsResolved}
 use Rattle.c_resolved_laws.proofs.TheLaws.{resolved_plain}
 use Rattle.tidy_laws.specs.TidyBehaviourLaws.{BehaveAlike}
 use Rattle.tidy_laws.specs.Ends.{with_sections, IsTidied, variables}
-use Rattle.plain_resolved_laws.proofs.SameFile.{declarations_over, main_over}
+use Rattle.whole_laws.proofs.SameFile.{declarations_over, main_over}
 use Rattle.tidy_result_laws.proofs.FileScopes.{below_start}
 use Rattle.tidy_result_laws.specs.TidyResolvedLaws.{EndLaws}
 use Rattle.tidy_result_laws.proofs.Loose.{IsLoose, TopIsLoose, IsLooseFile, loose_plain, loose_file}

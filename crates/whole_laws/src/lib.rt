@@ -1,6 +1,6 @@
 //! The whole of a rewriting: the flat forms, conversions, moves and simplifications of all functions of a program.
 //! The plain form of what they reach behaves as the program does, with the same comments in the same order and
-//! kinds that agree.
+//! kinds that agree. The plain form of a resolved program is resolved again.
 //!
 //! The definitions stand in specs/. Each function here runs no code: its contract is a law of them.
 #![tactic(auto)]
@@ -8,6 +8,8 @@
 ghost use Rattle.whole_laws.specs.WholeKindsLaws.{KindLaws};
 ghost use Rattle.whole_laws.specs.WholeLaws.{WholeLaws};
 ghost use Rattle.whole_laws.specs.WholeCommentsLaws.{NotesLaws};
+ghost use Rattle.whole_laws.specs.PlainResolvedLaws.{PlainFormIsResolved};
+ghost use Rattle.whole_laws.specs.Guards.{NamedPlainFormIsResolved};
 
 /// A program whose kinds agree is one whose kinds agree after each change.
 pub fn kind_laws()
@@ -23,4 +25,15 @@ pub fn whole_laws()
 /// and so do conversions, moves and simplifications, and the plain form of any function.
 pub fn notes_laws()
     ensures { NotesLaws }
+{}
+
+/// The plain form of what a resolved program is rewritten to is resolved, where each of its variables has a name of its
+/// own. So its text is within the limits, too.
+pub fn plain_form_is_resolved()
+    ensures { PlainFormIsResolved }
+{}
+
+/// It is so with the names of guards that the tool gives, where each variable of the flat forms has a name of its own.
+pub fn named_plain_form_is_resolved()
+    ensures { NamedPlainFormIsResolved }
 {}

@@ -1,7 +1,7 @@
 use Rattle.std.proofs.Common.{◌≡◌, ◌++◌, ◌||◌, drop}
 use Rattle.c_bodies.specs.Views.{context_of, walk_of, env}
-use Rattle.c_layers.specs.ItemViews.{labels_of}
-use Rattle.c_layers.specs.Views.{words_of}
+use Rattle.c_grammar.specs.ItemViews.{labels_of}
+use Rattle.c_grammar.specs.Views.{words_of}
 use Rattle.c_statements.specs.Cases.{label_entries}
 use Rattle.c_statements.specs.Labels.{section_cases, section_marks, has_default, labels_faults}
 use Rattle.c_bodies.proofs.labels.read_labels.Given as goal

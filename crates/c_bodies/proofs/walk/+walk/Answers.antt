@@ -6,9 +6,9 @@ use Rattle.c_bodies.proofs.Constructs.{if_items, while_items, for_items, switch_
 use Rattle.c_bodies.proofs.Insides.{inside_below}
 use Rattle.c_bodies.proofs.Scopes.{left_for}
 use Rattle.c_bodies.proofs.SwitchSteps.{whatever, after, both, all_three, all_five, states_faults, section_states, choice_items, nodes_at, token_node, item_node, behind_step, lone_step, faults_step, lone_faults}
-use Rattle.c_layers.specs.ItemViews.{item_of, plain_of, body_of, labels_of, item_form, start_form}
-use Rattle.c_layers.specs.Parts.{term_of}
-use Rattle.c_layers.specs.Views.{words_of}
+use Rattle.c_grammar.specs.ItemViews.{item_of, plain_of, body_of, labels_of, item_form, start_form}
+use Rattle.c_grammar.specs.Parts.{term_of}
+use Rattle.c_grammar.specs.Views.{words_of}
 use Rattle.c_statements.specs.declared.anchors.Anchor.TheVariants.{AtEnd}
 use Rattle.c_statements.specs.Cases.{item_entries, plain_entries, body_entries, list_entries, switch_faults}
 use Rattle.c_statements.specs.Context.{env_at, enter, in_loop, in_switch, notes_at}

@@ -2,7 +2,7 @@ use Rattle.std.proofs.Common.{◌≡◌, ◌+◌, ◌-◌, ◌*◌, ◌++◌, dr
 use Rattle.c_bodies.specs.Steps.{sections_behind, section_faults}
 use Rattle.c_bodies.specs.Views.{around_of, context_of, walk_of}
 use Rattle.c_grammar.specs.Weights.{weight, weights}
-use Rattle.c_layers.specs.Views.{words_of}
+use Rattle.c_grammar.specs.Views.{words_of}
 use Rattle.c_statements.specs.Cases.{list_entries}
 use Rattle.c_statements.specs.Context.{notes_at}
 use Rattle.c_statements.specs.Nodes.{items_of}

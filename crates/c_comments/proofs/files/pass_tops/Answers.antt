@@ -1,5 +1,5 @@
 use Rattle.std.proofs.Common.{arith, subst, sym, ◌∙◌}
-use Rattle.c_layers.specs.Views.{words_of}
+use Rattle.c_grammar.specs.Views.{words_of}
 use Rattle.c_comments.specs.NodeViews.{tops_in}
 use Rattle.c_comments.specs.Notes.{place_in}
 use Rattle.c_comments.specs.Steps.{Leads}

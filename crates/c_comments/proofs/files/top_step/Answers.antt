@@ -1,9 +1,9 @@
 use Rattle.std.proofs.Common.{ap, ◌∙◌}
 use Rattle.c_grammar.specs.declared.syntax.Syntax.{out-Syntax}
-use Rattle.c_layers.specs.declared.tops.TopLayer.TheVariants as layer
-use Rattle.c_layers.specs.Tops as tops
-use Rattle.c_layers.specs.TopViews.{top_of, top_form}
-use Rattle.c_layers.specs.Views.{words_of}
+use Rattle.c_grammar.specs.declared.tops.TopLayer.TheVariants as layer
+use Rattle.c_grammar.specs.Tops as tops
+use Rattle.c_grammar.specs.TopViews.{top_of, top_form}
+use Rattle.c_grammar.specs.Views.{words_of}
 use Rattle.c_comments.specs.Notes.{top_place, form_place}
 use Rattle.c_comments.proofs.StepPlaces.{leads_on, at_top}
 use Rattle.c_comments.proofs.files.top_step.Goals as goal

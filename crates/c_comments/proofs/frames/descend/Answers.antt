@@ -1,6 +1,6 @@
 use Rattle.std.proofs.Common.{◌≡◌, ◌<◌, ◌≤◌, ℕ, arith, subst, sym, ◌∙◌, All}
 use Rattle.std.proofs.lemmas.List.Elements.{All-cons}
-use Rattle.c_layers.specs.Views.{words_of}
+use Rattle.c_grammar.specs.Views.{words_of}
 use Rattle.c_comments.specs.Frames.{Speaks}
 use Rattle.c_comments.specs.Steps.{Leads, rest_place}
 use Rattle.c_comments.specs.declared.frames.Frame.{Frame}

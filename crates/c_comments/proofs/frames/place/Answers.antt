@@ -1,6 +1,6 @@
 use Rattle.std.proofs.Common.{◌∙◌}
 use Rattle.std.proofs.lemmas.Result.{IfOk-weaker}
-use Rattle.c_layers.specs.Views.{words_of}
+use Rattle.c_grammar.specs.Views.{words_of}
 use Rattle.c_comments.specs.Frames.{Speaks}
 use Rattle.c_comments.specs.NodeViews.{tops_in}
 use Rattle.c_comments.specs.Notes.{place_in}

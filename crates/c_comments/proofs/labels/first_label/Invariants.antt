@@ -1,7 +1,7 @@
 use Rattle.std.proofs.Common.{◌≡◌, drop}
-use Rattle.c_layers.specs.ItemViews.{labels_of}
-use Rattle.c_layers.specs.Views.{words_of}
-use Rattle.c_layers.specs.Items.{first_label}
+use Rattle.c_grammar.specs.ItemViews.{labels_of}
+use Rattle.c_grammar.specs.Views.{words_of}
+use Rattle.c_grammar.specs.Items.{first_label}
 use Rattle.c_comments.proofs.labels.first_label.Given as goal
 
 abbrev pub invariant-loop-x : goal.invariant-loop-x

@@ -1,5 +1,5 @@
 use Rattle.std.proofs.Common.{subst, sym}
-use Rattle.c_layers.specs.Views.{words_of}
+use Rattle.c_grammar.specs.Views.{words_of}
 use Rattle.c_comments.specs.Steps.{Behind, Leads, rest_place}
 use Rattle.c_comments.proofs.lists.pass.Goals as goal
 

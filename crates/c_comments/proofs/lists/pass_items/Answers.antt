@@ -1,6 +1,6 @@
 use Rattle.std.proofs.Common.{arith, subst, sym, ◌∙◌}
 use Rattle.c_grammar.specs.Weights.{weights}
-use Rattle.c_layers.specs.Views.{words_of}
+use Rattle.c_grammar.specs.Views.{words_of}
 use Rattle.c_statements.specs.Nodes.{items_of}
 use Rattle.c_comments.specs.Notes.{list_place}
 use Rattle.c_comments.specs.Steps.{Leads, IsBelow}

@@ -1,6 +1,6 @@
 use Rattle.std.proofs.Common.{ℕ, ap, sym, ◌∙◌}
-use Rattle.c_layers.specs.ItemViews.{labels_of, plain_of}
-use Rattle.c_layers.specs.Views.{words_of}
+use Rattle.c_grammar.specs.ItemViews.{labels_of, plain_of}
+use Rattle.c_grammar.specs.Views.{words_of}
 use Rattle.c_statements.specs.declared.anchors.Anchor.{Anchor}
 use Rattle.c_comments.specs.Notes.{or_behind, plain_place}
 use Rattle.c_comments.specs.Steps.{place_in_labels}

@@ -1,6 +1,6 @@
 use Rattle.std.proofs.Common.{ℕ, ◌≡◌, ◌≤◌, ◌-◌, drop, length}
-use Rattle.c_layers.specs.ItemViews.{labels_of}
-use Rattle.c_layers.specs.Views.{words_of}
+use Rattle.c_grammar.specs.ItemViews.{labels_of}
+use Rattle.c_grammar.specs.Views.{words_of}
 use Rattle.c_comments.specs.Steps.{place_in_labels}
 use Rattle.c_comments.proofs.lists.pass_labels.Given as goal
 

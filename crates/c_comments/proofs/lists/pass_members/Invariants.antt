@@ -1,5 +1,5 @@
 use Rattle.std.proofs.Common.{◌≤◌, ◌-◌, drop, length}
-use Rattle.c_layers.specs.Views.{words_of}
+use Rattle.c_grammar.specs.Views.{words_of}
 use Rattle.c_statements.specs.Nodes.{items_of}
 use Rattle.c_comments.specs.Notes.{members_place}
 use Rattle.c_comments.specs.Steps.{Behind}

@@ -1,7 +1,7 @@
 use Rattle.std.proofs.Common.{◌≡◌, ◌+◌, get_or, drop, ap, sym, ◌∙◌, arith}
 use Rattle.std.proofs.lemmas.List.{drop_all}
 use Rattle.c_lexer.specs.declared.token.Span.{Span}
-use Rattle.c_layers.specs.Views.{words_of}
+use Rattle.c_grammar.specs.Views.{words_of}
 use Rattle.c_statements.specs.Context.{with_note}
 use Rattle.c_statements.specs.NoteViews.{notes_of}
 use Rattle.c_comments.specs.NodeViews.{tops_in}

@@ -1,6 +1,6 @@
 use Rattle.std.proofs.Common.{ℕ, ◌<◌, ◌≤◌, arith, subst, sym}
-use Rattle.c_layers.specs.ItemViews.{body_of}
-use Rattle.c_layers.specs.Views.{words_of}
+use Rattle.c_grammar.specs.ItemViews.{body_of}
+use Rattle.c_grammar.specs.Views.{words_of}
 use Rattle.c_statements.specs.declared.anchors.Anchor.{Anchor}
 use Rattle.c_comments.specs.Notes.{body_place}
 use Rattle.c_comments.specs.Steps.{Leads}

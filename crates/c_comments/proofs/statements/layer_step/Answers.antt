@@ -1,6 +1,6 @@
 use Rattle.std.proofs.Common.{subst, sym}
-use Rattle.c_layers.specs.ItemViews.{body_form}
-use Rattle.c_layers.specs.Views.{words_of}
+use Rattle.c_grammar.specs.ItemViews.{body_form}
+use Rattle.c_grammar.specs.Views.{words_of}
 use Rattle.c_comments.specs.Notes.{body_place}
 use Rattle.c_comments.specs.Steps.{Leads}
 use Rattle.c_comments.proofs.statements.layer_step.Goals as goal

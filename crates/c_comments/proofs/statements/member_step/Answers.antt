@@ -1,6 +1,6 @@
 use Rattle.std.proofs.Common.{arith, sym, ◌∙◌}
-use Rattle.c_layers.specs.ItemViews.{item_of, labels_of, plain_of}
-use Rattle.c_layers.specs.Views.{words_of}
+use Rattle.c_grammar.specs.ItemViews.{item_of, labels_of, plain_of}
+use Rattle.c_grammar.specs.Views.{words_of}
 use Rattle.c_comments.proofs.StepPlaces.{at_section, at_null, at_member}
 use Rattle.c_comments.proofs.statements.member_step.Goals as goal
 

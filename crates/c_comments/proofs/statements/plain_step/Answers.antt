@@ -1,9 +1,9 @@
 use Rattle.std.proofs.Common.{ap, ◌∙◌}
 use Rattle.c_grammar.specs.declared.syntax.Syntax.{out-Syntax}
-use Rattle.c_layers.specs.Items.{Block, Braces, From, IfElse}
-use Rattle.c_layers.specs.ItemViews.{body_of, plain_of}
-use Rattle.c_layers.specs.Parts.{term_of}
-use Rattle.c_layers.specs.Views.{words_of}
+use Rattle.c_grammar.specs.Items.{Block, Braces, From, IfElse}
+use Rattle.c_grammar.specs.ItemViews.{body_of, plain_of}
+use Rattle.c_grammar.specs.Parts.{term_of}
+use Rattle.c_grammar.specs.Views.{words_of}
 use Rattle.c_statements.specs.Nodes.{items_of}
 use Rattle.c_comments.specs.Notes.{plain_place, statement_place}
 use Rattle.c_comments.proofs.StepPlaces.{leads_on, at_statement}

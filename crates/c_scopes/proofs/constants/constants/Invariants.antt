@@ -1,8 +1,8 @@
 use Rattle.std.proofs.Common.{◌≡◌, ◌++◌, drop, map}
 use Rattle.c_kinds.specs.Typing.{constant_faults}
 use Rattle.c_kinds.specs.Views.{env_of}
-use Rattle.c_layers.specs.ItemViews.{term_list_of}
-use Rattle.c_layers.specs.Views.{words_of}
+use Rattle.c_grammar.specs.ItemViews.{term_list_of}
+use Rattle.c_grammar.specs.Views.{words_of}
 use Rattle.c_statements.specs.Declarations.{constant_at, each_faults}
 use Rattle.c_scopes.proofs.constants.constants.Given as goal
 

@@ -1,6 +1,6 @@
 use Rattle.std.proofs.Common.{ap, sym, map, true, false, ◌∙◌}
-use Rattle.c_layers.specs.Parts.{part_of, sum_counted}
-use Rattle.c_layers.specs.Views.{words_of}
+use Rattle.c_grammar.specs.Parts.{part_of, sum_counted}
+use Rattle.c_grammar.specs.Views.{words_of}
 use Rattle.c_statements.specs.Measures.{bounded}
 use Rattle.c_scopes.proofs.Counting.{inner_counted, inner_most}
 use Rattle.c_scopes.proofs.counted.+counts.Goals as goal

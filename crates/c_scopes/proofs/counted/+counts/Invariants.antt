@@ -1,7 +1,7 @@
 use Rattle.std.proofs.Common.{◌≡◌, ◌≤◌, ◌+◌, ◌*◌, drop, length, map}
-use Rattle.c_layers.specs.Parts.{part_of, greatest, sum_counted}
+use Rattle.c_grammar.specs.Parts.{part_of, greatest, sum_counted}
 use Rattle.c_grammar.specs.Weights.{weight, weights}
-use Rattle.c_layers.specs.Views.{words_of}
+use Rattle.c_grammar.specs.Views.{words_of}
 use Rattle.c_statements.specs.Measures.{bounded}
 use Rattle.c_scopes.proofs.counted.+counts.Given as goal
 

@@ -1,6 +1,6 @@
 use Rattle.std.proofs.Common.{◌≡◌, ◌++◌, drop, Some, negsuc}
 use Rattle.c_kinds.specs.Views.{env_of}
-use Rattle.c_layers.specs.Views.{words_of}
+use Rattle.c_grammar.specs.Views.{words_of}
 use Rattle.c_scopes.specs.Enums.{behind_enum, enum_items, enum_faults}
 use Rattle.c_scopes.specs.NodeViews.{enumerators_of}
 use Rattle.c_scopes.proofs.enums.read_enum.Given as goal

@@ -1,6 +1,6 @@
 use Rattle.std.proofs.Common.{◌≡◌, ◌++◌, ap, sym, ◌∙◌}
-use Rattle.c_layers.specs.TopViews.{top_form}
-use Rattle.c_layers.specs.Views.{words_of}
+use Rattle.c_grammar.specs.TopViews.{top_form}
+use Rattle.c_grammar.specs.Views.{words_of}
 use Rattle.c_scopes.specs.Files.{behind_form, form_tops, form_faults}
 use Rattle.c_scopes.specs.FileViews.{file_of, state_of}
 use Rattle.c_scopes.proofs.files.add_form.Goals as goal

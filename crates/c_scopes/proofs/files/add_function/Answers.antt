@@ -1,6 +1,6 @@
 use Rattle.std.proofs.Common.{◌∙◌}
-use Rattle.c_layers.specs.TopViews.{function_form}
-use Rattle.c_layers.specs.Views.{words_of}
+use Rattle.c_grammar.specs.TopViews.{function_form}
+use Rattle.c_grammar.specs.Views.{words_of}
 use Rattle.c_statements.specs.Functions.{function_faults}
 use Rattle.c_statements.specs.NoteViews.{notes_of}
 use Rattle.c_scopes.proofs.files.add_function.Goals as goal

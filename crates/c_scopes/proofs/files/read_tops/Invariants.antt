@@ -1,5 +1,5 @@
 use Rattle.std.proofs.Common.{◌≡◌, ◌++◌, length}
-use Rattle.c_layers.specs.Views.{words_of}
+use Rattle.c_grammar.specs.Views.{words_of}
 use Rattle.c_scopes.specs.Files.{tops_of, file_faults}
 use Rattle.c_scopes.specs.FileViews.{file_of, state_of}
 use Rattle.c_comments.specs.NodeViews.{tops_in}

@@ -1,5 +1,5 @@
 use Rattle.std.proofs.Common.{◌≡◌, ◌≤◌, drop, length}
-use Rattle.c_layers.specs.Views.{words_of}
+use Rattle.c_grammar.specs.Views.{words_of}
 use Rattle.c_scopes.specs.FunctionNames.{bodies_of}
 use Rattle.c_comments.specs.NodeViews.{tops_in}
 use Rattle.c_scopes.proofs.function_names.bodies_of.Given as goal

@@ -1,5 +1,5 @@
 use Rattle.std.proofs.Common.{◌≡◌, drop}
-use Rattle.c_layers.specs.Views.{words_of}
+use Rattle.c_grammar.specs.Views.{words_of}
 use Rattle.c_scopes.specs.FunctionNames.{is_empty}
 use Rattle.c_scopes.specs.NodeViews.{parameters_of}
 use Rattle.c_scopes.proofs.function_names.has_no_parameter.Given as goal

@@ -1,6 +1,6 @@
 use Rattle.std.proofs.Common.{◌≡◌, not, ap, ◌∙◌, subst, IfOk}
-use Rattle.c_layers.specs.TopViews.{function_form}
-use Rattle.c_layers.specs.Views.{words_of}
+use Rattle.c_grammar.specs.TopViews.{function_form}
+use Rattle.c_grammar.specs.Views.{words_of}
 use Rattle.c_statements.specs.Functions.{signature}
 use Rattle.c_scopes.specs.FunctionNames.{has_function}
 use Rattle.c_scopes.proofs.function_names.signature_in.Goals as goal

@@ -1,7 +1,7 @@
 use Rattle.std.proofs.Common.{◌≡◌, drop, length, false, ap, ◌∙◌}
 use Rattle.c_bodies.specs.Views.{walk_of}
-use Rattle.c_layers.specs.TopViews.{function_form}
-use Rattle.c_layers.specs.Views.{words_of}
+use Rattle.c_grammar.specs.TopViews.{function_form}
+use Rattle.c_grammar.specs.Views.{words_of}
 use Rattle.c_statements.specs.Functions.{bind_parameters, inside, behind_within, items_within}
 use Rattle.c_statements.specs.NoteViews.{notes_of}
 use Rattle.c_scopes.specs.NodeViews.{parameters_of}

@@ -1,7 +1,7 @@
 use Rattle.std.proofs.Common.{◌≡◌, subst, OnOk}
 use Rattle.c_bodies.specs.Views.{walk_of}
-use Rattle.c_layers.specs.TopViews.{function_form}
-use Rattle.c_layers.specs.Views.{words_of}
+use Rattle.c_grammar.specs.TopViews.{function_form}
+use Rattle.c_grammar.specs.Views.{words_of}
 use Rattle.c_statements.specs.Context.{Context}
 use Rattle.c_statements.specs.Functions.{context, behind_body, body_faults}
 use Rattle.c_statements.specs.NoteViews.{notes_of}

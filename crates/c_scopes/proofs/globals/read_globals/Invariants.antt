@@ -1,7 +1,7 @@
 use Rattle.std.proofs.Common.{◌≡◌, ◌++◌, drop}
 use Rattle.c_kinds.specs.Views.{env_of}
-use Rattle.c_layers.specs.ItemViews.{declarators_of}
-use Rattle.c_layers.specs.Views.{words_of}
+use Rattle.c_grammar.specs.ItemViews.{declarators_of}
+use Rattle.c_grammar.specs.Views.{words_of}
 use Rattle.c_scopes.specs.Globals.{behind_globals, globals, globals_faults}
 use Rattle.c_scopes.proofs.globals.read_globals.Given as goal
 

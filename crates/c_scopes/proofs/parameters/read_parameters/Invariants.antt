@@ -1,6 +1,6 @@
 use Rattle.std.proofs.Common.{◌≡◌, drop}
 use Rattle.c_bodies.specs.Views.{walk_of}
-use Rattle.c_layers.specs.Views.{words_of}
+use Rattle.c_grammar.specs.Views.{words_of}
 use Rattle.c_statements.specs.Functions.{bind_parameters, parameters_faults}
 use Rattle.c_scopes.specs.NodeViews.{parameters_of}
 use Rattle.c_scopes.proofs.parameters.read_parameters.Given as goal

@@ -1,6 +1,6 @@
 use Rattle.std.proofs.Common.{◌≡◌, [], ap, sym, ◌∙◌}
-use Rattle.c_layers.specs.Parts.{file_of}
-use Rattle.c_layers.specs.Views.{words_of}
+use Rattle.c_grammar.specs.Parts.{file_of}
+use Rattle.c_grammar.specs.Views.{words_of}
 use Rattle.c_scopes.specs.FileViews as views
 use Rattle.c_scopes.specs.Files.{file_faults, start, tops_of}
 use Rattle.c_scopes.specs.FunctionNames.{bodies_of}

@@ -1,8 +1,8 @@
 use Rattle.std.proofs.Common.{ℕ, List, [], Option, Some, None, Bor, ap, sym, ◌∙◌}
 use Rattle.c_grammar.specs.declared.syntax.Syntax.{Syntax}
-use Rattle.c_layers.specs.TopViews.{words_in}
-use Rattle.c_layers.specs.Views.{words_of}
-use Rattle.c_layers.specs.Words.{kind_of}
+use Rattle.c_grammar.specs.TopViews.{words_in}
+use Rattle.c_grammar.specs.Views.{words_of}
+use Rattle.c_grammar.specs.Words.{kind_of}
 use Rattle.c_scopes.proofs.signatures.parameter_kind.Goals as goal
 
 abbrev words-in : (ℕ → List ℕ) → Option (Bor Syntax) → List ℕ

@@ -1,5 +1,5 @@
 use Rattle.std.proofs.Common.{◌≡◌, ◌++◌, drop, map}
-use Rattle.c_layers.specs.Views.{words_of}
+use Rattle.c_grammar.specs.Views.{words_of}
 use Rattle.c_statements.specs.Functions.{want_of}
 use Rattle.c_scopes.specs.NodeViews.{parameters_of}
 use Rattle.c_scopes.proofs.signatures.wants_of.Given as goal

@@ -1,6 +1,6 @@
 use Rattle.std.proofs.Common.{◌≡◌, ◌≤◌, ◌+◌, drop, length}
-use Rattle.c_layers.specs.ItemViews.{term_list_of}
-use Rattle.c_layers.specs.Views.{words_of}
+use Rattle.c_grammar.specs.ItemViews.{term_list_of}
+use Rattle.c_grammar.specs.Views.{words_of}
 use Rattle.c_statements.proofs.arrays.count_values.Given as goal
 
 abbrev pub invariant-loop-x : goal.invariant-loop-x

@@ -1,6 +1,6 @@
 use Rattle.std.proofs.Common.{◌≡◌, ◌+◌, ◌*◌, drop, max}
 use Rattle.c_grammar.specs.Weights.{weight, weights}
-use Rattle.c_layers.specs.Views.{words_of}
+use Rattle.c_grammar.specs.Views.{words_of}
 use Rattle.c_statements.specs.Measures.{bounded, list_depth}
 use Rattle.c_statements.specs.Nodes.{items_of}
 use Rattle.c_statements.proofs.depth.+depth.Given as goal

@@ -1,7 +1,7 @@
 use Rattle.std.proofs.Common.{◌≡◌, ◌++◌, drop, map}
 use Rattle.c_kinds.specs.Views.{env_of}
-use Rattle.c_layers.specs.ItemViews.{term_list_of}
-use Rattle.c_layers.specs.Views.{words_of}
+use Rattle.c_grammar.specs.ItemViews.{term_list_of}
+use Rattle.c_grammar.specs.Views.{words_of}
 use Rattle.c_statements.specs.Declarations.{value_at, value_faults, each_faults}
 use Rattle.c_statements.proofs.initialisers.values.Given as goal
 

@@ -1,5 +1,5 @@
 use Rattle.std.proofs.Common.{◌≡◌, ◌++◌, [], length, map}
-use Rattle.c_layers.specs.Views.{words_of}
+use Rattle.c_grammar.specs.Views.{words_of}
 use Rattle.c_statements.specs.Labels.{numbers_from, distinct_from, twice_from}
 use Rattle.c_statements.proofs.label_list.function_labels.Given as goal
 

@@ -1,6 +1,6 @@
 use Rattle.std.proofs.Common.{◌≡◌, ◌≤◌, ◌+◌, ◌*◌, drop, length}
 use Rattle.c_grammar.specs.Weights.{weight, weights}
-use Rattle.c_layers.specs.Views.{words_of}
+use Rattle.c_grammar.specs.Views.{words_of}
 use Rattle.c_statements.specs.Labels.{list_labels}
 use Rattle.c_statements.specs.Nodes.{items_of}
 use Rattle.c_statements.proofs.labels.+labels.Given as goal

@@ -1,6 +1,6 @@
 use Rattle.std.proofs.Common.{◌≡◌, ◌++◌, drop}
-use Rattle.c_layers.specs.ItemViews.{declarators_of}
-use Rattle.c_layers.specs.Views.{words_of}
+use Rattle.c_grammar.specs.ItemViews.{declarators_of}
+use Rattle.c_grammar.specs.Views.{words_of}
 use Rattle.c_statements.specs.Declarations.{walk, all_declared, locals, locals_faults}
 use Rattle.c_statements.proofs.locals.add_locals.Given as goal
 

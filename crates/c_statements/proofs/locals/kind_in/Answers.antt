@@ -1,6 +1,6 @@
 use Rattle.std.proofs.Common.{ap, sym, ◌∙◌}
-use Rattle.c_layers.specs.Views.{words_of}
-use Rattle.c_layers.specs.Words.{kind_of as the_kind}
+use Rattle.c_grammar.specs.Views.{words_of}
+use Rattle.c_grammar.specs.Words.{kind_of as the_kind}
 use Rattle.c_statements.specs.Nodes.{type_words}
 use Rattle.c_statements.proofs.locals.kind_in.Goals as goal
 

@@ -1,4 +1,4 @@
-use Rattle.replay_laws.proofs.Whole.{lawful_laws}
+use Rattle.restructure_laws.proofs.Whole.{lawful_laws}
 use Rattle.move_replay.proofs.making.make_all.Goals as goal
 
 pub find_none-requires : goal.find_none-requires

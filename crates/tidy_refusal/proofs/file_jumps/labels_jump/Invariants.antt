@@ -1,6 +1,6 @@
 use Rattle.std.proofs.Common.{◌≡◌, ◌≤◌, drop, length}
-use Rattle.c_layers.specs.ItemViews.{labels_of}
-use Rattle.c_layers.specs.Views.{words_of}
+use Rattle.c_grammar.specs.ItemViews.{labels_of}
+use Rattle.c_grammar.specs.Views.{words_of}
 use Rattle.tidy_refusal.specs.FileJumps.{labels_jump}
 use Rattle.tidy_refusal.proofs.file_jumps.labels_jump.Given as goal
 

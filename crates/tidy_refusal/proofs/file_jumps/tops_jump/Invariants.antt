@@ -1,6 +1,6 @@
 use Rattle.std.proofs.Common.{◌≡◌, ◌≤◌, drop, length, map}
-use Rattle.c_layers.specs.TopViews.{top_of}
-use Rattle.c_layers.specs.Views.{words_of}
+use Rattle.c_grammar.specs.TopViews.{top_of}
+use Rattle.c_grammar.specs.Views.{words_of}
 use Rattle.tidy_refusal.specs.FileJumps.{first_jump}
 use Rattle.tidy_refusal.proofs.file_jumps.tops_jump.Given as goal
 

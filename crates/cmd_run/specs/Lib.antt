@@ -1,3 +1,0 @@
-pub mod Runnable
-pub mod Ran
-pub mod Texts

@@ -1,3 +1,0 @@
-pub mod Behaves
-pub mod Unmoved
-pub mod Outcome

@@ -1,5 +1,0 @@
-use Rattle.plain_resolved_laws.proofs.NamedForm.{named_form_resolved}
-use Rattle.plain_resolved_laws.proofs.named_plain_form_is_resolved.Goals as goal
-
-pub returns : goal.returns
-returns c = named_form_resolved

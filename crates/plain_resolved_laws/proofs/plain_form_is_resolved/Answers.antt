@@ -1,5 +1,0 @@
-use Rattle.plain_resolved_laws.proofs.Resolved.{plain_form_resolved}
-use Rattle.plain_resolved_laws.proofs.plain_form_is_resolved.Goals as goal
-
-pub returns : goal.returns
-returns c = plain_form_resolved

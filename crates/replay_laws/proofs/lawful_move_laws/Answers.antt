@@ -1,5 +1,0 @@
-use Rattle.replay_laws.proofs.Whole.{lawful_laws}
-use Rattle.replay_laws.proofs.lawful_move_laws.Goals as goal
-
-pub returns : goal.returns
-returns c = lawful_laws

@@ -1,5 +1,0 @@
-use Rattle.replay_laws.proofs.Whole.{replayed_laws}
-use Rattle.replay_laws.proofs.replay_laws.Goals as goal
-
-pub returns : goal.returns
-returns c = replayed_laws

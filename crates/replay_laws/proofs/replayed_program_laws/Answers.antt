@@ -1,5 +1,0 @@
-use Rattle.replay_laws.proofs.Laws.{replayed_program_laws}
-use Rattle.replay_laws.proofs.replayed_program_laws.Goals as goal
-
-pub returns : goal.returns
-returns c = replayed_program_laws

@@ -1,4 +1,0 @@
-pub mod Lawful
-pub mod Replayed
-pub mod ReplayMovesLaws
-pub mod ReplayLaws

@@ -1,3 +1,0 @@
-pub mod Leaping
-pub mod Making
-pub mod Placing
