@@ -21,7 +21,7 @@ use crate::values::constant;
 use c_grammar::{LabelLayer, SyntaxNode, Words, label_layer};
 use c_statements::{Anchor, Entry, or_placeholder};
 use c_tree::{Expression, Item};
-use c_types::{List, Memory};
+use c_types::{List, Memory, reasons};
 use std::alloc::Global;
 
 /// Puts the mark of a label behind other items.
@@ -74,7 +74,7 @@ fn case<'n, 'a>(
     ensures cases { OnOk result (state.new.cases ≡ cases.label_entry (views.env ctx.now state.old) (the_case at 0 (term_of (words_of ctx.now.words) x.now)) state.old.cases) }
     ensures faults { OnOk result (state.new.faults ≡ spec.label_faults (views.env ctx.now state.old) around.in_switch (the_case at 0 (term_of (words_of ctx.now.words) x.now)) state.old.faults) }
 {
-    report_at(state, !around.in_switch, at, 29)?;
+    report_at(state, !around.in_switch, at, reasons::CASE_OUTSIDE)?;
     let c = constant(alloc, ctx, state, x)?;
     match give_case(state, at, &c) {
         Ok(()) => Ok(constant_of(c)),
@@ -91,7 +91,7 @@ fn default(around: Around, state: &mut State, at: u32) -> Result<(), Memory>
     ensures cases { OnOk result (state.new.cases ≡ state.old.cases ++ Entry.Other at ∷ []) }
     ensures faults { OnOk result (state.new.faults ≡ fault_if (not around.in_switch) at 29 state.old.faults) }
 {
-    report_at(state, !around.in_switch, at, 29)?;
+    report_at(state, !around.in_switch, at, reasons::CASE_OUTSIDE)?;
     add_case(state, Entry::Other(at))
 }
 

@@ -16,7 +16,7 @@ use crate::state::{Around, FunctionContext, State, enter, report_at};
 use crate::values::{add_variables, dropped, optional_dropped, optional_used, returned};
 use c_grammar::{StartLayer, SyntaxNode};
 use c_tree::Item;
-use c_types::{List, Memory};
+use c_types::{List, Memory, reasons};
 use std::alloc::Global;
 
 /// An expression statement.
@@ -49,7 +49,7 @@ pub fn add_goto(
     ensures faults { OnOk result (state.new.faults ≡ violations.statement_faults (views.context_of ctx.now) context.no_construct 0 (items.Goto at) (views.walk_of state.old) state.old.faults) }
 {
     let name = ctx.words.get(at);
-    report_at(state, !ctx.labels.has(name), at, 33)?;
+    report_at(state, !ctx.labels.has(name), at, reasons::UNKNOWN_LABEL)?;
     let number = ctx.labels.number(name)?;
     out.push(Item::Goto(number))
 }
@@ -67,7 +67,12 @@ pub fn add_break(
     ensures cases { OnOk result (state.new.cases ≡ state.old.cases) }
     ensures faults { OnOk result (state.new.faults ≡ violations.statement_faults (views.context_of ctx.now) (views.around_of around) first items.Break (views.walk_of state.old) state.old.faults) }
 {
-    report_at(state, !(around.in_loop || around.in_switch), first, 27)?;
+    report_at(
+        state,
+        !(around.in_loop || around.in_switch),
+        first,
+        reasons::BREAK_OUTSIDE,
+    )?;
     out.push(Item::Break)
 }
 
@@ -84,7 +89,7 @@ pub fn add_continue(
     ensures cases { OnOk result (state.new.cases ≡ state.old.cases) }
     ensures faults { OnOk result (state.new.faults ≡ violations.statement_faults (views.context_of ctx.now) (views.around_of around) first items.Continue (views.walk_of state.old) state.old.faults) }
 {
-    report_at(state, !around.in_loop, first, 28)?;
+    report_at(state, !around.in_loop, first, reasons::CONTINUE_OUTSIDE)?;
     out.push(Item::Continue)
 }
 
@@ -116,7 +121,7 @@ fn add_empty_return(
     ensures cases { OnOk result (state.new.cases ≡ state.old.cases) }
     ensures faults { OnOk result (state.new.faults ≡ violations.statement_faults (views.context_of ctx.now) context.no_construct first (items.Return None) (views.walk_of state.old) state.old.faults) }
 {
-    report_at(state, ctx.result.is_some(), first, 25)?;
+    report_at(state, ctx.result.is_some(), first, reasons::RETURN_UNFIT)?;
     out.push(Item::Return(None))
 }
 

@@ -19,7 +19,7 @@ use c_kinds::{
 };
 use c_statements::{add_declaration, or_placeholder, value};
 use c_tree::{Expression, Item, Node};
-use c_types::{Boxed, IntKind, List, Memory};
+use c_types::{Boxed, IntKind, List, Memory, reasons};
 use std::alloc::Global;
 
 /// An expression of which the value is used.
@@ -181,7 +181,7 @@ pub fn returned<'n, 'a>(
         return used(alloc, ctx, state, x);
     }
     let e = unwanted(alloc, ctx, state, x)?;
-    match report_at(state, true, first, 25) {
+    match report_at(state, true, first, reasons::RETURN_UNFIT) {
         Ok(()) => Ok(e),
         Err(m) => {
             drop(e);

@@ -36,7 +36,7 @@ use c_grammar::{
 };
 use c_statements::Anchor;
 use c_tree::{Item, Section};
-use c_types::{IntKind, List, Memory};
+use c_types::{IntKind, List, Memory, reasons};
 use std::alloc::Global;
 
 /// Puts the items of a declaration or a statement behind others. What is declared by then is in the
@@ -658,7 +658,7 @@ fn extend<'n, 'a>(
     let outside = is_outside(&ctx.words, read.current.begun, x);
     let first = first_of_item(&ctx.words, x);
     add_item(alloc, ctx, around, state, x, &mut read.current.list)?;
-    report_at(state, outside, first, 29)
+    report_at(state, outside, first, reasons::CASE_OUTSIDE)
 }
 
 /// Reads a null statement in front of the first section, which is no item.

@@ -14,7 +14,7 @@ use crate::names::name_of;
 use crate::typed::{ArrayName, Fault, Given, Typed};
 use crate::values::{expression, expression_of, of_result};
 use c_tree::{Expression, Node};
-use c_types::{Bytes, IntKind, List, Memory, Stack};
+use c_types::{Bytes, IntKind, List, Memory, Stack, reasons};
 use std::alloc::Global;
 
 fn array_fits(kind: IntKind, constant: bool, external: bool, a: &ArrayName) -> bool
@@ -129,9 +129,15 @@ fn printing(
     ensures faults { OnOk result (faults.new ≡ spec.printing_faults at (the_wanted bytes) given faults.old) }
 {
     let Some(wants) = wanted(alloc, bytes.as_slice())? else {
-        return wrong_call(faults, at, 40, given.as_slice());
+        return wrong_call(faults, at, reasons::BAD_PRINTF, given.as_slice());
     };
-    report_wanted(faults, at, 40, wants.as_slice(), given.as_slice())?;
+    report_wanted(
+        faults,
+        at,
+        reasons::BAD_PRINTF,
+        wants.as_slice(),
+        given.as_slice(),
+    )?;
     let mut front = List::new(alloc);
     front.push(expression_of(None, Node::Text(bytes)))?;
     call_with(
@@ -169,12 +175,12 @@ fn printf(
 {
     let mut given = given;
     if given.is_empty() {
-        return wrong_call(faults, at, 40, given.as_slice());
+        return wrong_call(faults, at, reasons::BAD_PRINTF, given.as_slice());
     }
     let format = given.remove(0);
     match text_of(format.typed) {
         Some(bytes) => printing(alloc, faults, at, name, bytes, given),
-        None => wrong_call(faults, at, 40, given.as_slice()),
+        None => wrong_call(faults, at, reasons::BAD_PRINTF, given.as_slice()),
     }
 }
 
@@ -193,7 +199,7 @@ pub fn call(
     match binding {
         Some(Binding::Function(signature)) => {
             let wants = signature.wants.as_slice();
-            report_wanted(faults, at, 23, wants, given.as_slice())?;
+            report_wanted(faults, at, reasons::WRONG_COUNT, wants, given.as_slice())?;
             call_with(
                 alloc,
                 signature.result,
@@ -204,7 +210,7 @@ pub fn call(
             )
         }
         Some(Binding::Printf) => printf(alloc, faults, at, name, given),
-        Some(_) => wrong_call(faults, at, 22, given.as_slice()),
-        None => wrong_call(faults, at, 20, given.as_slice()),
+        Some(_) => wrong_call(faults, at, reasons::WRONG_KIND, given.as_slice()),
+        None => wrong_call(faults, at, reasons::NOT_DECLARED, given.as_slice()),
     }
 }

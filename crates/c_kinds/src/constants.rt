@@ -15,7 +15,7 @@ use c_constants::constant_value;
 use c_grammar::{SyntaxNode, Words, add_decoded, character, is_character};
 use c_lexer::integer_constant;
 use c_tree::{Expression, Node};
-use c_types::{Bytes, List, Memory, Stack};
+use c_types::{Bytes, List, Memory, Stack, reasons};
 use std::alloc::Global;
 
 /// A number or a character constant.
@@ -101,7 +101,7 @@ pub fn constant_of(
     match value_of_constant(x) {
         Some(c) => Ok(Some(c)),
         None => {
-            report(faults, first, 34)?;
+            report(faults, first, reasons::NOT_CONSTANT)?;
             Ok(None)
         }
     }

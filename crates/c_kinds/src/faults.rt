@@ -8,7 +8,7 @@ ghost use Rattle.c_kinds.specs.Scopes.{fault as the_fault, fault_if};
 use crate::binding::Want;
 use crate::marks::is_wide;
 use crate::typed::{ArrayName, Fault, Given, Typed};
-use c_types::{IntKind, Memory, Stack};
+use c_types::{IntKind, Memory, Stack, reasons};
 
 /// Whether two kinds are the same.
 pub fn same_kind(a: IntKind, b: IntKind) -> bool
@@ -54,8 +54,8 @@ pub fn report_drop(faults: &mut Stack<Fault>, first: u32, x: &Typed) -> Result<(
     ensures { OnOk result (faults.new ≡ values.drop_fault first x.now faults.old) }
 {
     match x {
-        Typed::Text(_) => report(faults, first, 40),
-        Typed::Array(a) => report(faults, a.token, 22),
+        Typed::Text(_) => report(faults, first, reasons::BAD_PRINTF),
+        Typed::Array(a) => report(faults, a.token, reasons::WRONG_KIND),
         _ => Ok(()),
     }
 }
@@ -65,7 +65,7 @@ pub fn report_use(faults: &mut Stack<Fault>, first: u32, x: &Typed) -> Result<()
     ensures { OnOk result (faults.new ≡ values.use_fault first x.now faults.old) }
 {
     match x {
-        Typed::Void(_) => report(faults, first, 24),
+        Typed::Void(_) => report(faults, first, reasons::VOID_USED),
         _ => report_drop(faults, first, x),
     }
 }
@@ -74,7 +74,7 @@ fn report_text(faults: &mut Stack<Fault>, first: u32, x: &Typed) -> Result<(), M
     ensures { OnOk result (faults.new ≡ values.text_fault first x.now faults.old) }
 {
     match x {
-        Typed::Text(_) => report(faults, first, 40),
+        Typed::Text(_) => report(faults, first, reasons::BAD_PRINTF),
         _ => Ok(()),
     }
 }
@@ -89,16 +89,21 @@ fn report_array(
 ) -> Result<(), Memory>
     ensures { OnOk result (faults.new ≡ spec.array_fault kind constant external first a.now faults.old) }
 {
-    report_if(faults, !same_kind(kind, a.kind), first, 22)?;
-    report_if(faults, a.constant && !constant, a.token, 26)?;
-    report_if(faults, external, first, 38)
+    report_if(faults, !same_kind(kind, a.kind), first, reasons::WRONG_KIND)?;
+    report_if(
+        faults,
+        a.constant && !constant,
+        a.token,
+        reasons::CONST_ASSIGNED,
+    )?;
+    report_if(faults, external, first, reasons::ARRAY_HANDED_OUT)
 }
 
 fn report_number(faults: &mut Stack<Fault>, first: u32, x: &Typed) -> Result<(), Memory>
     ensures { OnOk result (faults.new ≡ spec.number_fault first x.now faults.old) }
 {
     match x {
-        Typed::Array(_) => report(faults, first, 22),
+        Typed::Array(_) => report(faults, first, reasons::WRONG_KIND),
         _ => report_use(faults, first, x),
     }
 }
@@ -115,7 +120,7 @@ fn report_array_want(
 {
     match x {
         Typed::Array(a) => report_array(faults, kind, constant, external, first, a),
-        Typed::Value(_) => report(faults, first, 22),
+        Typed::Value(_) => report(faults, first, reasons::WRONG_KIND),
         _ => report_use(faults, first, x),
     }
 }
@@ -124,7 +129,12 @@ fn report_sized(faults: &mut Stack<Fault>, wide: bool, first: u32, x: &Typed) ->
     ensures { OnOk result (faults.new ≡ spec.sized_fault wide first x.now faults.old) }
 {
     match x {
-        Typed::Value(v) => report_if(faults, !same_truth(wide, is_wide(v.kind)), first, 40),
+        Typed::Value(v) => report_if(
+            faults,
+            !same_truth(wide, is_wide(v.kind)),
+            first,
+            reasons::BAD_PRINTF,
+        ),
         _ => report_number(faults, first, x),
     }
 }

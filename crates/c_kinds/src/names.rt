@@ -13,7 +13,7 @@ use crate::typed::{Fault, Typed, Variable};
 use crate::values::{enum_name, variable};
 use c_grammar::Words;
 use c_tree::{Home, Node};
-use c_types::{Memory, Name, Stack};
+use c_types::{Memory, Name, Stack, reasons};
 use std::alloc::Global;
 
 /// The names at a place of the file: the words of the tokens, and the scopes around it.
@@ -91,9 +91,9 @@ pub fn report_name(
     ensures { OnOk result (faults.new ≡ spec.name_fault at (option_copied binding.entry) faults.old) }
 {
     match binding {
-        None => report(faults, at, 20),
-        Some(Binding::Function(_)) => report(faults, at, 22),
-        Some(Binding::Printf) => report(faults, at, 22),
+        None => report(faults, at, reasons::NOT_DECLARED),
+        Some(Binding::Function(_)) => report(faults, at, reasons::WRONG_KIND),
+        Some(Binding::Printf) => report(faults, at, reasons::WRONG_KIND),
         Some(_) => Ok(()),
     }
 }
@@ -108,10 +108,10 @@ fn report_shape(
     ensures { OnOk result (faults.new ≡ spec.shape_fault writes indexed at shape faults.old) }
 {
     if shape.array != indexed {
-        return report(faults, at, 22);
+        return report(faults, at, reasons::WRONG_KIND);
     }
     if writes && shape.constant {
-        return report(faults, at, 26);
+        return report(faults, at, reasons::CONST_ASSIGNED);
     }
     Ok(())
 }
@@ -127,9 +127,9 @@ pub fn report_target(
     ensures { OnOk result (faults.new ≡ spec.target_fault writes indexed at (option_copied binding.entry) faults.old) }
 {
     match binding {
-        None => report(faults, at, 20),
+        None => report(faults, at, reasons::NOT_DECLARED),
         Some(Binding::Global(shape)) => report_shape(faults, writes, indexed, at, *shape),
         Some(Binding::Local(_, shape)) => report_shape(faults, writes, indexed, at, *shape),
-        Some(_) => report(faults, at, 22),
+        Some(_) => report(faults, at, reasons::WRONG_KIND),
     }
 }

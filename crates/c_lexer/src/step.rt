@@ -14,7 +14,7 @@ use crate::number::integer_constant;
 use crate::state::{Closing, Ended, Escape, Progress, State, Taken};
 use crate::token::{Span, Token, TokenKind};
 use crate::word::word_kind;
-use c_types::{is_digit, is_letter, is_word_byte};
+use c_types::{is_digit, is_letter, is_word_byte, reasons};
 
 fn found(kind: TokenKind, start: u64, end: u64) -> Ended
     ensures { result ≡ spec.found kind start end }
@@ -46,11 +46,11 @@ fn begin(first: bool, ended: Ended, byte: u8, at: u64) -> Taken
         if first {
             return Taken::Go(State::InDirective(at, at + 1), ended);
         }
-        return Taken::Fault(2, at);
+        return Taken::Fault(reasons::NO_TOKEN, at);
     }
     match mark_at(byte) {
         Some(mark) => Taken::Go(State::InMark(at, mark), ended),
-        None => Taken::Fault(2, at),
+        None => Taken::Fault(reasons::NO_TOKEN, at),
     }
 }
 
@@ -79,7 +79,7 @@ fn in_number(text: &[u8], start: u64, power: bool, byte: u8, at: u64) -> Taken
     if integer_constant(&text[start as usize..at as usize]).is_some() {
         begin(false, found(TokenKind::Number, start, at), byte, at)
     } else {
-        Taken::Fault(5, start)
+        Taken::Fault(reasons::BAD_INTEGER, start)
     }
 }
 
@@ -192,7 +192,7 @@ fn char_opened(start: u64, byte: u8) -> Taken
     } else if is_character_byte(byte) {
         Taken::Go(State::CharHeld(start), Ended::Nothing)
     } else {
-        Taken::Fault(4, start)
+        Taken::Fault(reasons::BAD_CHARACTERS, start)
     }
 }
 
@@ -203,7 +203,7 @@ fn char_held(start: u64, byte: u8, at: u64) -> Taken
     if byte == b'\'' {
         Taken::Go(State::Between(false), found(TokenKind::Char, start, at + 1))
     } else {
-        Taken::Fault(4, start)
+        Taken::Fault(reasons::BAD_CHARACTERS, start)
     }
 }
 
@@ -215,7 +215,7 @@ fn char_escape(start: u64, progress: Progress, byte: u8, at: u64) -> Taken
         Progress::More(escape) => Taken::Go(State::CharEscape(start, escape), Ended::Nothing),
         Progress::Whole => Taken::Go(State::CharHeld(start), Ended::Nothing),
         Progress::Over => char_held(start, byte, at),
-        Progress::Wrong => Taken::Fault(4, start),
+        Progress::Wrong => Taken::Fault(reasons::BAD_CHARACTERS, start),
     }
 }
 
@@ -226,7 +226,7 @@ fn in_text(start: u64, byte: u8, at: u64) -> Taken
     match byte {
         b'"' => Taken::Go(State::Between(false), found(TokenKind::Text, start, at + 1)),
         b'\\' => Taken::Go(State::TextEscape(start, Escape::Backslash), Ended::Nothing),
-        b'\n' => Taken::Fault(4, start),
+        b'\n' => Taken::Fault(reasons::BAD_CHARACTERS, start),
         _ => Taken::Go(State::InText(start), Ended::Nothing),
     }
 }
@@ -239,7 +239,7 @@ fn text_escape(start: u64, progress: Progress, byte: u8, at: u64) -> Taken
         Progress::More(escape) => Taken::Go(State::TextEscape(start, escape), Ended::Nothing),
         Progress::Whole => Taken::Go(State::InText(start), Ended::Nothing),
         Progress::Over => in_text(start, byte, at),
-        Progress::Wrong => Taken::Fault(4, start),
+        Progress::Wrong => Taken::Fault(reasons::BAD_CHARACTERS, start),
     }
 }
 
@@ -260,10 +260,10 @@ fn end_directive(start: u64, end: u64, line: &[u8], broken: Option<usize>) -> Ta
         None => line,
     };
     if !is_directive(own) {
-        return Taken::Fault(6, start);
+        return Taken::Fault(reasons::BAD_DIRECTIVE, start);
     }
     match broken {
-        Some(count) => Taken::Fault(2, start + 1 + count as u64),
+        Some(count) => Taken::Fault(reasons::NO_TOKEN, start + 1 + count as u64),
         None => Taken::Go(
             State::Between(true),
             found(TokenKind::Directive, start, end),
@@ -325,7 +325,10 @@ fn in_comment(start: u64, closing: Closing, byte: u8, at: u64) -> Taken
             let end = at + 1;
             Taken::Go(State::Between(false), Ended::Comment(Span { start, end }))
         }
-        Closing::Joined | Closing::Returned if byte == b'/' => Taken::Fault(3, start),
+        Closing::Joined | Closing::Returned if byte == b'/' => Taken::Fault(
+            reasons::COMMENT_WITHOUT_END,
+            start,
+        ),
         _ => Taken::Go(
             State::InComment(start, closing_step(closing, byte)),
             Ended::Nothing,
@@ -338,7 +341,7 @@ fn end_line(start: u64, end: u64, broken: Option<usize>) -> Taken
     ensures { result ≡ spec.end_line start end broken }
 {
     match broken {
-        Some(count) => Taken::Fault(2, start + count as u64),
+        Some(count) => Taken::Fault(reasons::NO_TOKEN, start + count as u64),
         None => Taken::Go(State::Between(true), Ended::Comment(Span { start, end })),
     }
 }
@@ -431,7 +434,7 @@ pub(crate) fn finish(text: &[u8], state: State, at: u64) -> Taken
     ensures order { spec.KeepsOrder at result }
 {
     match state {
-        State::InComment(start, _) => Taken::Fault(3, start),
+        State::InComment(start, _) => Taken::Fault(reasons::COMMENT_WITHOUT_END, start),
         other => step(text, other, b'\n', at),
     }
 }

@@ -13,15 +13,11 @@ ghost use Rattle.c_parser.specs.Reads.{Reads};
 use c_grammar::{Class, SyntaxNode, class_of};
 use c_lexer::{Token, refusal_at};
 use c_parse_step::{Entry, FrameStack, Load, Role, step};
-use c_types::{List, MOST, ReadStop};
+use c_types::{List, MOST, ReadStop, reasons};
 use std::alloc::Global;
 
 /// The greatest level of nesting, and the most counted tokens of one full expression.
 const LIMIT: u32 = 400;
-
-const UNEXPECTED: u32 = 10;
-
-const TOO_DEEP: u32 = 11;
 
 fn is_deep(level: Option<u32>) -> bool
     ensures { result ≡ spec.is_deep level }
@@ -95,24 +91,24 @@ fn run(alloc: Global, text: &[u8], tokens: &[Token]) -> Result<SyntaxNode, ReadS
     for i in 0..tokens.len() {
         let class = class_of(text, tokens[i]);
         match step(alloc, &mut stack, class, i as u32)? {
-            None => return Err(refused(UNEXPECTED, text, tokens[i].start)),
+            None => return Err(refused(reasons::UNEXPECTED_TOKEN, text, tokens[i].start)),
             Some(load) => {
                 if is_over(load, count) {
-                    return Err(refused(TOO_DEEP, text, tokens[i].start));
+                    return Err(refused(reasons::TOO_DEEP, text, tokens[i].start));
                 }
                 count = count_behind(load.role, count);
             }
         }
     }
     match step(alloc, &mut stack, Class::End, tokens.len() as u32)? {
-        None => Err(refused(UNEXPECTED, text, text.len() as u64)),
+        None => Err(refused(reasons::UNEXPECTED_TOKEN, text, text.len() as u64)),
         Some(load) => {
             if is_over(load, count) {
-                return Err(refused(TOO_DEEP, text, text.len() as u64));
+                return Err(refused(reasons::TOO_DEEP, text, text.len() as u64));
             }
             match accepted(stack) {
                 Some(whole) => Ok(whole),
-                None => Err(refused(UNEXPECTED, text, text.len() as u64)),
+                None => Err(refused(reasons::UNEXPECTED_TOKEN, text, text.len() as u64)),
             }
         }
     }

@@ -15,7 +15,7 @@ use crate::file_names::{bind_name, report_file_name};
 use c_grammar::{EnumeratorLayer, SyntaxNode, Words, enumerator_layer, first_token};
 use c_kinds::{Binding, Fault, Known, constant_expression, name_of, report_if};
 use c_tree::{EnumItem, Expression};
-use c_types::{IntKind, List, Memory, Stack};
+use c_types::{IntKind, List, Memory, Stack, reasons};
 use std::alloc::Global;
 
 /// The constant expression of an enum constant, if one is written, and the number that it or the
@@ -64,7 +64,12 @@ fn report_int(faults: &mut Stack<Fault>, at: u32, number: Option<i128>) -> Resul
     ensures { OnOk result (faults.new ≡ spec.int_fault at number faults.old) }
 {
     match number {
-        Some(number) => report_if(faults, !IntKind::Int.contains(number), at, 34),
+        Some(number) => report_if(
+            faults,
+            !IntKind::Int.contains(number),
+            at,
+            reasons::NOT_CONSTANT,
+        ),
         None => Ok(()),
     }
 }

@@ -6,7 +6,7 @@ ghost use Rattle.c_grammar.specs.Views.{words_of};
 ghost use Rattle.c_scopes.specs.FileNames as spec;
 
 use c_kinds::{Binding, Fault, Known, report_if};
-use c_types::{Memory, Stack, is_known};
+use c_types::{Memory, Stack, is_known, reasons};
 
 /// Binds the name of a token in the nearest scope, unless it has it.
 pub fn bind_name(known: &mut Known, at: u32, binding: Binding) -> Result<(), Memory>
@@ -22,7 +22,12 @@ pub fn report_file_name(faults: &mut Stack<Fault>, known: &Known, at: u32) -> Re
     ensures { OnOk result (faults.new ≡ spec.file_name_faults at (env_of known.now) faults.old) }
 {
     let name = known.words.get(at);
-    report_if(faults, is_known(name), at, 21)?;
-    report_if(faults, name == b"main".as_slice(), at, 36)?;
-    report_if(faults, known.scopes.is_bound(name), at, 21)
+    report_if(faults, is_known(name), at, reasons::DECLARED_TWICE)?;
+    report_if(faults, name == b"main".as_slice(), at, reasons::BAD_MAIN)?;
+    report_if(
+        faults,
+        known.scopes.is_bound(name),
+        at,
+        reasons::DECLARED_TWICE,
+    )
 }

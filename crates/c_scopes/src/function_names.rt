@@ -15,7 +15,7 @@ use c_grammar::{
     FunctionLayer, SyntaxNode, TopLayer, Words, block_layer, parameter_layer, top_layer,
 };
 use c_kinds::{Binding, Fault, Known, Signature, report, report_if};
-use c_types::{IntKind, Memory, Stack, is_known};
+use c_types::{IntKind, Memory, Stack, is_known, reasons};
 use name_keys::{Key, key_of};
 use std::alloc::Global;
 use std::collections::BTreeSet;
@@ -150,10 +150,15 @@ fn report_again(
     match binding {
         None => Ok(()),
         Some(Binding::Function(bound)) => {
-            report_if(faults, !same_signature(bound, signature), at, 37)?;
-            report_if(faults, again, at, 21)
+            report_if(
+                faults,
+                !same_signature(bound, signature),
+                at,
+                reasons::DECLARATIONS_DISAGREE,
+            )?;
+            report_if(faults, again, at, reasons::DECLARED_TWICE)
         }
-        Some(_) => report(faults, at, 21),
+        Some(_) => report(faults, at, reasons::DECLARED_TWICE),
     }
 }
 
@@ -168,9 +173,9 @@ fn report_function_name<'a>(
     ensures { OnOk result (faults.new ≡ spec.name_faults before.now signature.now (function_form (words_of known.now.words) f.entry) (env_of known.now) faults.old) }
 {
     let name = known.words.get(f.name);
-    report_if(faults, is_known(name), f.name, 21)?;
+    report_if(faults, is_known(name), f.name, reasons::DECLARED_TWICE)?;
     let bad_main = name == b"main".as_slice() && !is_main_form(&known.words, f);
-    report_if(faults, bad_main, f.name, 36)?;
+    report_if(faults, bad_main, f.name, reasons::BAD_MAIN)?;
     let again = has_body(&known.words, f) && before.has(name);
     report_again(faults, f.name, again, signature, known.scopes.bound(name))
 }

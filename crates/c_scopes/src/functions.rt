@@ -21,7 +21,7 @@ use c_grammar::{FunctionLayer, Words};
 use c_kinds::{Fault, name_of, report_if};
 use c_statements::{FunctionLabels, LabelNumbers, Notes, function_labels};
 use c_tree::{Function, Item, Slot};
-use c_types::{List, Memory, Name, Stack};
+use c_types::{List, Memory, Name, Stack, reasons};
 use std::alloc::Global;
 use std::mem;
 
@@ -56,7 +56,7 @@ fn report_counted<C: FlatCounter>(
     match counter.count(items)? {
         Some((jumps, labels)) => {
             let tangled = is_tangled(measures_of(words, f, body, jumps, labels));
-            report_if(faults, tangled, f.name, 39)
+            report_if(faults, tangled, f.name, reasons::TOO_TANGLED)
         }
         None => Ok(()),
     }

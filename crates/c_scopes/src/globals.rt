@@ -17,7 +17,7 @@ use c_statements::{
     Extent, Kinded, Length, cells_of, extent_of, is_array, is_bad_shape, read_length,
 };
 use c_tree::{GlobalVariable, Slot, Top};
-use c_types::{List, Memory, Stack};
+use c_types::{List, Memory, Stack, reasons};
 use std::alloc::Global;
 
 fn shape_of(words: &Words, kinded: Kinded, d: DeclaratorLayer) -> Shape
@@ -55,7 +55,7 @@ fn read_slot(
 {
     let length = read_length(alloc, known, faults, d.size)?;
     let wrong = is_bad_shape(&known.words, false, length, d.value);
-    report_if(faults, wrong, d.name, 35)?;
+    report_if(faults, wrong, d.name, reasons::BAD_ARRAY)?;
     report_file_name(faults, known, d.name)?;
     let extent = extent_of(&known.words, length, d.value);
     slot_of(alloc, known.words.get(d.name), kinded, extent)

@@ -17,7 +17,7 @@ use c_grammar::{ParameterLayer, SyntaxNode, Words, parameter_layer};
 use c_kinds::{Binding, Fault, Known, Shape, name_of, report_if};
 use c_statements::{is_array, read_length};
 use c_tree::Slot;
-use c_types::{List, Memory, Name, Stack};
+use c_types::{List, Memory, Name, Stack, reasons};
 use std::alloc::Global;
 
 fn parameter_shape(words: &Words, p: ParameterLayer) -> Shape
@@ -88,9 +88,9 @@ fn report_parameter(
     match p.name {
         Some(at) => {
             let again = known.scopes.is_bound(known.words.get(at));
-            report_if(faults, again, at, 21)
+            report_if(faults, again, at, reasons::DECLARED_TWICE)
         }
-        None => report_if(faults, defines, p.first, 43),
+        None => report_if(faults, defines, p.first, reasons::NAMELESS_PARAMETER),
     }
 }
 

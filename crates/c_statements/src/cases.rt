@@ -5,7 +5,7 @@ ghost use Rattle.c_statements.specs.Cases as spec;
 
 use crate::entries::Entry;
 use c_kinds::{Fault, report_if};
-use c_types::{IntKind, Memory, Stack, convert, promote};
+use c_types::{IntKind, Memory, Stack, convert, promote, reasons};
 use std::alloc::Global;
 use std::collections::BTreeSet;
 use std::marker::Model;
@@ -63,11 +63,11 @@ fn report_entries(
         match *entry {
             Entry::Value(at, value) => {
                 let value = convert(kind, value);
-                report_if(faults, seen.has(value), at, 30)?;
+                report_if(faults, seen.has(value), at, reasons::EQUAL_CASES)?;
                 seen.add(value)?;
             }
             Entry::Other(at) => {
-                report_if(faults, default, at, 31)?;
+                report_if(faults, default, at, reasons::SECOND_DEFAULT)?;
                 default = true;
             }
         }
@@ -83,7 +83,7 @@ fn report_defaults(faults: &mut Stack<Fault>, entries: &[Entry]) -> Result<(), M
     let mut default = false;
     for entry in entries {
         if let Entry::Other(at) = *entry {
-            report_if(faults, default, at, 31)?;
+            report_if(faults, default, at, reasons::SECOND_DEFAULT)?;
             default = true;
         }
     }

@@ -8,7 +8,7 @@ ghost use Rattle.c_statements.specs.Labels as spec;
 use crate::label_numbers::LabelNumbers;
 use c_grammar::Words;
 use c_kinds::{Fault, name_of, report_if};
-use c_types::{List, Memory, Name, Stack};
+use c_types::{List, Memory, Name, Stack, reasons};
 use std::alloc::Global;
 
 /// The labels of a function.
@@ -57,7 +57,7 @@ pub fn function_labels<'a>(
     while let Some(at) = left.pop() {
         let name = words.get(at);
         let known = numbers.has(name);
-        report_if(faults, known, at, 32)?;
+        report_if(faults, known, at, reasons::LABEL_TWICE)?;
         add_name(alloc, known, &mut numbers, &mut names, name)?;
     }
     Ok(FunctionLabels { numbers, names })

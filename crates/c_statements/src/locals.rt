@@ -18,7 +18,7 @@ use c_grammar::{
 };
 use c_kinds::{Fault, Known, Shape, report_if};
 use c_tree::{Item, Slot};
-use c_types::{IntKind, List, Memory, Stack};
+use c_types::{IntKind, List, Memory, Stack, reasons};
 use std::alloc::Global;
 
 /// Whether a declared name is that of an array.
@@ -76,9 +76,9 @@ fn report_local(
 {
     let length = read_length(alloc, known, faults, d.size)?;
     let bad = is_bad_shape(&known.words, true, length, d.value);
-    report_if(faults, bad, d.name, 35)?;
+    report_if(faults, bad, d.name, reasons::BAD_ARRAY)?;
     let bound = known.scopes.is_bound(known.words.get(d.name));
-    report_if(faults, bound, d.name, 21)?;
+    report_if(faults, bound, d.name, reasons::DECLARED_TWICE)?;
     Ok(length)
 }
 

@@ -7,6 +7,7 @@ mod kinds;
 mod list;
 mod name;
 mod numbers;
+pub mod reasons;
 mod refusal;
 mod stack;
 mod trap;

@@ -22,7 +22,7 @@ impl<T: Drop> From<AllocFailed<T>> for Memory {
 /// Why and where a text is refused. The reasons are listed in docs/SUBSET.md.
 #[derive(Clone, Copy, Debug, PartialEq, Eq)]
 pub struct Refusal {
-    /// The number of the reason.
+    /// The number of the reason, one of `reasons`.
     pub reason: u32,
     /// The line, counted from 1 by newline bytes.
     pub line: u64,

@@ -3,13 +3,13 @@ ghost use Rattle.cmd_words.specs.Lines.{Tells};
 ghost use Rattle.cmd_files.specs.Taken.{HandsOver, Untaken};
 ghost use Rattle.rg_ports.specs.Reads.{NotFewer, IsOneRead};
 
-use c_types::{Bytes, Refusal};
+use c_types::{Bytes, Refusal, reasons};
 use cmd_words::{Status, tell, tell_absent, tell_refusal};
 use rg_ports::{ReadError, Shelf, Sink};
 use std::alloc::Global;
 
 const TOO_LONG: Refusal = Refusal {
-    reason: 1,
+    reason: reasons::TEXT_TOO_LONG,
     line: 1,
     column: 1,
     at: 0,

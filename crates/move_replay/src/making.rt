@@ -9,7 +9,7 @@ use crate::all_moves::{leap_left, make_moves};
 use crate::lines::line_start;
 use crate::reading::refused;
 use c_tree::Top;
-use c_types::{List, ReadStop, Refusal};
+use c_types::{List, ReadStop, Refusal, reasons};
 use report_moves::Move;
 use std::alloc::Global;
 
@@ -25,7 +25,11 @@ fn make_each(
     ensures refused { (refusal : Refusal) → result ≡ Err (ReadStop.Refused refusal) → IsStopped tops.old moves.now report.now refusal }
 {
     match make_moves(alloc, tops, moves.as_slice())? {
-        Some(made) => Err(refused(51, made as u64 + 1, line_start(report, made))),
+        Some(made) => Err(refused(
+            reasons::UNFIT_MOVE,
+            made as u64 + 1,
+            line_start(report, made),
+        )),
         None => Ok(()),
     }
 }
@@ -43,7 +47,7 @@ fn find_none(
     ensures refused { (refusal : Refusal) → result ≡ Err (ReadStop.Refused refusal) → IsAt 52 (length moves.now + 1) (length report.now) refusal }
 {
     if leap_left(alloc, tops.as_slice())? {
-        Err(refused(52, moves.len() as u64 + 1, report.len()))
+        Err(refused(reasons::JUMP_LEFT, moves.len() as u64 + 1, report.len()))
     } else {
         Ok(())
     }

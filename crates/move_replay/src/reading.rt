@@ -5,7 +5,7 @@ ghost use Rattle.move_report.specs.Answers.{IsReport};
 ghost use Rattle.move_replay.specs.Replay.{IsUnreadable};
 
 use crate::lines::line_start;
-use c_types::{List, ReadStop, Refusal};
+use c_types::{List, ReadStop, Refusal, reasons};
 use move_report::{ReportStop, read_report};
 use report_moves::Move;
 use std::alloc::Global;
@@ -31,7 +31,7 @@ pub fn read_moves(alloc: Global, report: &[u8]) -> Result<List<Move>, ReadStop>
         Ok(moves) => Ok(moves),
         Err(ReportStop::BadLine(line)) => {
             let at = line_start(report, line.saturating_sub(1) as usize);
-            Err(refused(50, line, at))
+            Err(refused(reasons::BAD_REPORT_LINE, line, at))
         }
         Err(ReportStop::Memory) => Err(ReadStop::Memory),
     }

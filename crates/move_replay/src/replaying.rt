@@ -23,7 +23,7 @@ use crate::all_moves::convert_tops;
 use crate::making::make_all;
 use crate::reading::{read_moves, refused};
 use c_tree::Program;
-use c_types::{List, Memory, Name, ReadStop, Refusal};
+use c_types::{List, Memory, Name, ReadStop, Refusal, reasons};
 use move_driver::{Counts, count, flatten_program, slot_counts};
 use plain_form::plain;
 use print_limits::is_within_limits;
@@ -59,7 +59,11 @@ fn plain_within_limits(
         let counts = count(moves, &before, &plain);
         Ok((plain, counts))
     } else {
-        Err(refused(53, moves.len() as u64 + 1, report.len()))
+        Err(refused(
+            reasons::RESULT_TOO_DEEP,
+            moves.len() as u64 + 1,
+            report.len(),
+        ))
     }
 }
 

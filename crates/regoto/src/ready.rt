@@ -6,7 +6,7 @@ ghost use Rattle.cmd_files.specs.Taken.{HandsOver};
 ghost use Rattle.regoto.specs.Runnable.{main_entry as the_main_entry, EntersMain, IsRunnable, IsBlocked, IsUnfit, Unfit, Unrun};
 
 use c_tree::Program;
-use c_types::{List, Memory, Name, ReadStop, Refusal};
+use c_types::{List, Memory, Name, ReadStop, Refusal, reasons};
 use cmd_files::take_text;
 use cmd_words::{Status, tell, tell_refusal};
 use rg_ports::{Shelf, Sink};
@@ -18,14 +18,14 @@ use step_open_calls::has_open_call;
 pub const MOST_RUN_BYTES: usize = 67108864;
 
 const NO_MAIN: Refusal = Refusal {
-    reason: 41,
+    reason: reasons::NO_MAIN,
     line: 1,
     column: 1,
     at: 0,
 };
 
 const OPEN_CALL: Refusal = Refusal {
-    reason: 42,
+    reason: reasons::NO_BODY,
     line: 1,
     column: 1,
     at: 0,

@@ -8,7 +8,7 @@ use crate::first_jump;
 use c_grammar::{SyntaxNode, Words};
 use c_lexer::{Scanned, Token, refusal_at, scan};
 use c_parser::parse;
-use c_types::{Memory, ReadStop, Refusal};
+use c_types::{Memory, ReadStop, Refusal, reasons};
 use std::alloc::Global;
 
 /// The offset of a token by its number, and the text's length where there is no such token.
@@ -31,7 +31,7 @@ fn jump_refusal(text: &[u8], tokens: &[Token], syntax: &SyntaxNode) -> Option<Re
 {
     let words = Words { text, tokens };
     match first_jump(&words, syntax) {
-        Some(at) => Some(refusal_at(60, text, offset_of(text, tokens, at))),
+        Some(at) => Some(refusal_at(reasons::JUMP_PRESENT, text, offset_of(text, tokens, at))),
         None => None,
     }
 }
